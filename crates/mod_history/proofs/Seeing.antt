@@ -1,15 +1,14 @@
--- What a module sees by a step that makes no call.
-use Rattle.std.proofs.Common.{ℕ, Result, Ok, Err, IfOk}
+-- Whose process it is is seen before the user is asked for.
+use Rattle.std.proofs.Common.{ℕ, List, Option, Some, None}
 use Rattle.pam_base.specs.declared.code.Code.{Code}
-use Rattle.pam_base.specs.declared.fault.NoMemory.{NoMemory}
 use Rattle.pam_room.specs.State.{Scene}
 use Rattle.account_files.specs.Accounts.{Known, nothing_known}
-use Rattle.account_files.specs.Act.{Act, Acts}
+use Rattle.account_files.specs.Act.{Act, Acts, asks_user, unless_answered}
 use Rattle.mod_unix.specs.module_acts.specs.Returns.{Follows}
 use Rattle.mod_unix.specs.module_acts.specs.Steps.{sees_caller}
 
--- whose process it is was seen
 pub seen : ((act : ℕ → Act) (known : Known) (s : Scene) (code : Code) (new : Scene) → Acts (act s.process.caller) known s code new → Acts (sees_caller act) known s code new)
-    → (act : ℕ → Act) (s new : Scene) (r : Result Code NoMemory) → IfOk r (λ code. Follows (act s.process.caller) s code new) → IfOk r (λ code. Follows (sees_caller act) s code new)
-seen seeing act s new (Ok code) h = seeing act nothing_known s code new h
-seen seeing act s new (Err none) h = h
+    → (first : Option Code) (decides : ℕ → List ℕ → Act) (s new : Scene) (code : Code) → Follows (unless_answered first (asks_user (decides s.process.caller))) s code new
+    → Follows (unless_answered first (sees_caller (λ caller. asks_user (decides caller)))) s code new
+seen seeing (Some answer) decides s new code h = h
+seen seeing None decides s new code h = seeing (λ caller. asks_user (decides caller)) nothing_known s code new h

@@ -84,11 +84,15 @@ code_by_groups args caller passwds (Some groups) = by_passwds args caller groups
 
 -- ---- the module
 
--- the user is asked for, and looked up; the group file is read if the caller has an entry
-abbrev pub checks_wheel : List (List ℕ) → ℕ → Act
-checks_wheel args caller = asks_user (λ user. reads_passwds (λ passwds.
+-- the user is looked up; the group file is read if the caller has an entry
+abbrev pub checks_user : List (List ℕ) → ℕ → List ℕ → Act
+checks_user args caller user = reads_passwds (λ passwds.
     unless_answered (code_by_passwds args caller user passwds)
-    (reads_groups (λ groups. answers (code_by_groups args caller passwds groups)))))
+    (reads_groups (λ groups. answers (code_by_groups args caller passwds groups))))
+
+-- the user is asked for before
+abbrev pub checks_wheel : List (List ℕ) → ℕ → Act
+checks_wheel args caller = asks_user (checks_user args caller)
 
 -- setcred is SUCCESS at once
 abbrev pub wheel_act : PlainCall → Act

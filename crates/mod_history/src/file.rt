@@ -1,10 +1,10 @@
 ghost use Rattle.std.specs.Prelude.{◌≡◌, IsTrue, IfOk, OnErr};
 ghost use Rattle.account_files.specs.Act.{StepsTo};
-ghost use Rattle.mod_unix.specs.Change.{write_result};
 ghost use Rattle.mod_history.specs.Pwhistory.{history_in, stores_text};
 
 use crate::history::{History, read_history};
 use account_files::{Content, replace_named};
+use mod_unix::write_result;
 use pam_base::{Code, NoMemory, Refuse};
 use pam_outside::Vault;
 use pam_room::Process;
@@ -50,14 +50,4 @@ pub(crate) fn store_text(
     }
     let done = replace_named(alloc, vault, process, HISTORY_NAME, text)?;
     Ok(write_result(done))
-}
-
-fn write_result(done: bool) -> Code
-    ensures { result ≡ write_result done }
-{
-    if done {
-        Code::Success
-    } else {
-        Code::AuthtokErr
-    }
 }

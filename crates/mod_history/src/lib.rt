@@ -15,6 +15,15 @@ mod renewal;
 
 pub use history::{Damaged, History, Remembered, read_history};
 pub use mod_unix;
+use mod_unix::module_acts::CheckModule;
 pub use pam_pwhistory::Pwhistory;
-pub use pam_securetty::Securetty;
-pub use pam_wheel::Wheel;
+use pam_securetty::SecurettyCheck;
+use pam_wheel::WheelCheck;
+
+/// `pam_securetty(8)`: AUTH_ERR if root logs in at a terminal that isn't in `/etc/securetty`, else
+/// SUCCESS.
+pub type Securetty = CheckModule<SecurettyCheck>;
+
+/// `pam_wheel(8)`: PERM_DENIED unless the calling process belongs to a user in the group wheel, or
+/// with `deny` if it does. Otherwise IGNORE, or SUCCESS with `trust`.
+pub type Wheel = CheckModule<WheelCheck>;

@@ -1,110 +1,64 @@
-ghost use Rattle.std.specs.Prelude.{◌≡◌, IsTrue, IfOk, codes};
+ghost use Rattle.std.specs.Prelude.{◌≡◌, IfOk, codes};
 ghost use Rattle.std.specs.Option.{option_copied};
-ghost use Rattle.pam_outside.specs.Time.{ClockState};
-ghost use Rattle.pam_room.specs.Module.{keeps_files, length_note};
-ghost use Rattle.account_files.specs.Accounts.{nothing_known};
-ghost use Rattle.account_files.specs.Act.{Acts, scene_at};
-ghost use Rattle.mod_unix.specs.module_acts.specs.Returns.{Finishes};
-ghost use Rattle.mod_unix.specs.module_acts.specs.OnlyTalks.{OnlyTalks};
+ghost use Rattle.pam_base.specs.declared.code.Code.TheVariants.{Success};
 ghost use Rattle.mod_unix.specs.module_acts.specs.Uncheck.{code_unchecked};
-ghost use Rattle.mod_history.specs.Wheel.{by_group, by_membership, checks_wheel, code_by_groups, code_by_passwds, group_of_gid, is_passed_over, trusted, wheel_group, wheel_plays};
+ghost use Rattle.mod_history.specs.Wheel.{by_group, by_membership, checks_user, code_by_groups, code_by_passwds, group_of_gid, is_passed_over, trusted, wheel_group, wheel_plays};
 
 use account_db::{Group, Groups, Passwd, PasswdFile, entry_of, entry_of_uid, group_of, is_member};
 use account_files::{Accounts, has_argument, laws};
-use conv_port::Conv;
-use data_cleanup::{Datum, Receipt};
-use mod_unix::module_acts::{code_unchecked, ended, require_user, user_of};
-use pam_base::{Code, ConvErr, Func, NoMemory, Refuse, Texts};
+use mod_unix::module_acts::{Check, Seen, code_unchecked, user_of};
+use pam_base::{Code, NoMemory, Texts};
 use pam_outside::{Clock, Vault};
-use pam_room::{Call, Module, Process, Transaction, spend_by_length};
+use pam_room::Call;
 use std::alloc::Global;
 
-/// `pam_wheel(8)`: PERM_DENIED unless the calling process belongs to a user in the group wheel, or
-/// with `deny` if it does. Otherwise IGNORE, or SUCCESS with `trust`.
-#[derive(Drop)]
-pub struct Wheel;
+/// What `Wheel` decides.
+pub struct WheelCheck;
 
-impl Wheel {
-    /// Creates the module, which has no state.
-    pub fn new() -> Self {
-        Wheel
-    }
-}
+impl Check for WheelCheck {
+    ghost label = { codes "pam_wheel" };
 
-impl Module for Wheel {
-    ghost label = { λ _. codes "pam_wheel" };
+    ghost plays = { wheel_plays };
 
-    ghost plays = { λ _. wheel_plays };
+    ghost at_once = { λ call. code_unchecked call.func Success };
 
-    ghost note = { λ _. length_note };
+    ghost decides = { λ call caller user. checks_user call.args caller user };
 
-    ghost breaks = { λ _. keeps_files };
-
-    fn name(&self) -> &[u8] {
+    fn name() -> &'static [u8] {
         b"pam_wheel"
     }
 
-    fn serve(
-        &self,
-        alloc: Global,
-        call: &Call,
-        transaction: &mut Transaction,
-        process: &mut Process,
-        conv: &mut dyn Conv,
-        vault: &mut dyn Vault,
-        _clock: &mut dyn Clock,
-    ) -> Result<Code, NoMemory> {
+    fn at_once(call: &Call) -> Option<Code> {
+        code_unchecked(call.func, Code::Success)
+    }
+
+    fn decide(seen: &Seen, vault: &mut dyn Vault, _clock: &dyn Clock) -> Result<Code, NoMemory> {
         laws::act_steps();
-        mod_unix::module_acts::laws::talking();
-        mod_unix::module_acts::laws::acting();
-        pam_room::laws::files_stay();
-        match code_unchecked(call.func, Code::Success) {
+        let caller = seen.process.caller;
+        let mut accounts = Accounts::new();
+        accounts.read_passwds(seen.alloc, vault, seen.process)?;
+        let user = user_of(seen.transaction);
+        let decided = code_by_passwds(seen.alloc, seen.call, caller, user, accounts.passwds())?;
+        match decided {
             Some(code) => Ok(code),
             None => {
-                let answer = check_wheel(alloc, call, transaction, process, conv, vault);
-                ended(answer)
+                accounts.read_groups(seen.alloc, vault, seen.process)?;
+                let passwds = accounts.passwds();
+                let code = code_by_groups(
+                    seen.alloc,
+                    seen.call,
+                    caller,
+                    passwds,
+                    accounts.groups(),
+                )?;
+                Ok(code)
             }
         }
     }
 
-    fn tidy(&self, datum: Datum, status: u32) -> Receipt {
-        spend_by_length(datum, status)
-    }
-}
-
-// Tests the caller.
-fn check_wheel(
-    alloc: Global,
-    call: &Call,
-    transaction: &mut Transaction,
-    process: &Process,
-    conv: &mut dyn Conv,
-    vault: &mut dyn Vault,
-) -> Result<Code, Refuse<ConvErr>>
-    ensures conv_tells { conv_tells conv.new ≡ conv_tells conv.old }
-    ensures vault_tells { vault_tells vault.new ≡ vault_tells vault.old }
-    ensures files { IsTrue (vault_tells vault.old) →
-        (vault_holds vault.new).files ≡ (vault_holds vault.old).files }
-    ensures told { IsTrue (conv_tells conv.old) → IsTrue (vault_tells vault.old) →
-        (clock : ClockState) → Finishes result (checks_wheel call.now.args.now process.now.caller)
-        (scene_at transaction.old (conv_holds conv.old) (vault_holds vault.old) clock process.now)
-        (scene_at transaction.new (conv_holds conv.new) (vault_holds vault.new) clock process.now) }
-    ensures talks { OnlyTalks transaction.old transaction.new }
-{
-    laws::act_steps();
-    require_user(alloc, transaction, conv)?;
-    let caller = process.caller;
-    let mut accounts = Accounts::new();
-    accounts.read_passwds(alloc, vault, process)?;
-    let user = user_of(transaction);
-    let decided = code_by_passwds(alloc, call, caller, user, accounts.passwds())?;
-    match decided {
-        Some(code) => Ok(code),
-        None => {
-            accounts.read_groups(alloc, vault, process)?;
-            let code = code_by_groups(alloc, call, caller, accounts.passwds(), accounts.groups())?;
-            Ok(code)
-        }
+    fn plays_so() {
+        laws::act_steps();
+        mod_unix::module_acts::laws::acting();
     }
 }
 

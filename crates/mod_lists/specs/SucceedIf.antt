@@ -1,5 +1,6 @@
 -- pam_succeed_if(8): whether all conditions on the user's account, and on items of the transaction, are met.
 use Rattle.std.specs.Prelude.{ℕ, Bool, true, false, not, List, [], ◌∷◌, filter, Option, Some, None, unwrap_or, codes}
+use Rattle.std.specs.Option.{option_or}
 use Rattle.std.specs.List.{list_any}
 use Rattle.std.specs.Str.{bytes_eq}
 use Rattle.pam_base.specs.declared.code.Code.{Code}
@@ -123,6 +124,14 @@ checks_conditions args = by_use (uses_uid args) args
 abbrev pub at_once : Func → Option Code
 at_once SetCred = Some returns.Ignore
 at_once other = None
+
+-- the code of a call in which the user isn't asked for
+abbrev pub unsupported : Bool → Option Code
+unsupported true = Some returns.ServiceErr
+unsupported false = None
+
+abbrev pub before_user : PlainCall → Option Code
+before_user call = option_or (at_once call.func) (unsupported (uses_uid call.args))
 
 abbrev pub succeed_if_act : PlainCall → Act
 succeed_if_act call = unless_answered (at_once call.func) (checks_conditions call.args)

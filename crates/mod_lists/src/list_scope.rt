@@ -2,15 +2,16 @@ ghost use Rattle.std.specs.Prelude.{◌≡◌, ◌≢◌, None, IsTrue, IfOk};
 ghost use Rattle.std.specs.Str.{bytes_eq};
 ghost use Rattle.account_files.specs.Accounts.{entry_known, known_groups, known_passwds};
 ghost use Rattle.account_files.specs.Act.{LooksTo};
+ghost use Rattle.module_acts.specs.Seen.{user_seen};
 ghost use Rattle.mod_lists.specs.ListSettings.{plain_apply};
 ghost use Rattle.mod_lists.specs.Listfile.{applies, by_groups, yes_or_no};
 
 use crate::list_settings::Apply;
 use account_db::is_in_group;
 use account_files::Accounts;
+use module_acts::{Seen, user_of};
 use pam_base::NoMemory;
 use pam_outside::Vault;
-use pam_room::Process;
 use std::alloc::Global;
 
 /// Whether a list applies to the user, as far as that can be read.
@@ -23,31 +24,32 @@ pub enum Applies {
 
 /// Whether the list applies to the user.
 pub(crate) fn list_applies(
-    alloc: Global,
+    seen: &Seen,
     apply: Apply,
-    user: &[u8],
     accounts: &mut Accounts,
-    process: &Process,
     vault: &mut dyn Vault,
 ) -> Result<Applies, NoMemory>
+    requires { seen.now.transaction.now.items.user ≢ None }
     ensures tells { vault_tells vault.new ≡ vault_tells vault.old }
     ensures files { IsTrue (vault_tells vault.old) →
         (vault_holds vault.new).files ≡ (vault_holds vault.old).files }
     ensures told { IsTrue (vault_tells vault.old) →
-        IfOk result (λ value. LooksTo (applies (plain_apply apply.entry) user.now) value process.now
-        accounts.old (vault_holds vault.old) accounts.new (vault_holds vault.new)) }
+        IfOk result (λ value. LooksTo (applies (plain_apply apply.entry) (user_seen seen.now)) value
+        seen.now.process.now accounts.old (vault_holds vault.old) accounts.new
+        (vault_holds vault.new)) }
 {
+    let user = user_of(seen.transaction);
     match apply {
         Apply::Everyone => Ok(Applies::Yes),
         Apply::One(name) => Ok(yes_or_no(is_same(name, user))),
         Apply::Members(name) => {
-            accounts.read_passwds(alloc, vault, process)?;
+            accounts.read_passwds(seen.alloc, vault, seen.process)?;
             match accounts.passwds() {
                 None => return Ok(Applies::Unknown),
                 Some(_) => {}
             }
-            accounts.read_groups(alloc, vault, process)?;
-            let applies = by_groups(alloc, name, user, accounts)?;
+            accounts.read_groups(seen.alloc, vault, seen.process)?;
+            let applies = by_groups(seen.alloc, name, user, accounts)?;
             Ok(applies)
         }
     }

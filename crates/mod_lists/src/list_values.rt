@@ -1,19 +1,21 @@
-ghost use Rattle.std.specs.Prelude.{◌≡◌, ◌≢◌, [], ◌∷◌, None, IsTrue, IfOk, unwrap_or};
+ghost use Rattle.std.specs.Prelude.{◌≡◌, ◌≢◌, [], ◌∷◌, None, IsTrue, IfOk};
 ghost use Rattle.std.specs.Option.{option_copied};
 ghost use Rattle.conv_port.specs.Conv.{ConvState};
 ghost use Rattle.pam_outside.specs.Time.{ClockState};
 ghost use Rattle.account_files.specs.Accounts.{account_in, known_groups, known_passwds};
-ghost use Rattle.account_files.specs.Act.{LooksTo, scene_at};
+ghost use Rattle.account_files.specs.Act.{LooksTo};
+ghost use Rattle.account_files.specs.Found.{plain_account};
 ghost use Rattle.account_files.specs.YieldsWith.{YieldsWith};
-ghost use Rattle.mod_lists.specs.Listfile.{group_values, reads_values, text_value, text_values, without_dev};
+ghost use Rattle.module_acts.specs.Seen.{scene_seen, user_seen};
+ghost use Rattle.mod_lists.specs.Listfile.{group_values, reads_values, shell_values, text_value, text_values, without_dev};
 
 use crate::list_settings::ListItem;
 use account_db::group_names;
 use account_files::{Account, Accounts, laws};
-use module_acts::user_of;
+use module_acts::{Seen, account_of, user_of};
 use pam_base::{ItemName, NoMemory, Text, Texts};
 use pam_outside::Vault;
-use pam_room::{Process, Transaction, get_item};
+use pam_room::get_item;
 use std::alloc::Global;
 
 /// The values that are looked for in the list.
@@ -28,51 +30,47 @@ pub enum Values {
 
 /// The values to look for in the list.
 pub(crate) fn values_of(
-    alloc: Global,
+    seen: &Seen,
     item: ListItem,
-    transaction: &Transaction,
     accounts: &mut Accounts,
-    process: &Process,
     vault: &mut dyn Vault,
 ) -> Result<Values, NoMemory>
-    requires { transaction.now.items.user ≢ None }
+    requires { seen.now.transaction.now.items.user ≢ None }
     ensures tells { vault_tells vault.new ≡ vault_tells vault.old }
     ensures files { IsTrue (vault_tells vault.old) →
         (vault_holds vault.new).files ≡ (vault_holds vault.old).files }
     ensures told { IsTrue (vault_tells vault.old) →
         (conv : ConvState) (clock : ClockState) →
-        IfOk result (λ values. YieldsWith values
-        (reads_values item (unwrap_or transaction.now.items.user [])) accounts.old
-        (scene_at transaction.now conv (vault_holds vault.old) clock process.now) accounts.new
-        (scene_at transaction.now conv (vault_holds vault.new) clock process.now)) }
+        IfOk result (λ values. YieldsWith values (reads_values item (user_seen seen.now))
+        accounts.old (scene_seen seen.now conv (vault_holds vault.old) clock)
+        accounts.new (scene_seen seen.now conv (vault_holds vault.new) clock)) }
 {
     laws::act_steps();
-    let texts = &transaction.items;
+    let texts = &seen.transaction.items;
     match item {
         ListItem::Tty => {
-            let tty = text_values(alloc, item, get_item(texts, ItemName::Tty))?;
+            let tty = text_values(seen.alloc, item, get_item(texts, ItemName::Tty))?;
             Ok(tty)
         }
         ListItem::User => {
-            let user = text_values(alloc, item, get_item(texts, ItemName::User))?;
+            let user = text_values(seen.alloc, item, get_item(texts, ItemName::User))?;
             Ok(user)
         }
         ListItem::Rhost => {
-            let rhost = text_values(alloc, item, get_item(texts, ItemName::Rhost))?;
+            let rhost = text_values(seen.alloc, item, get_item(texts, ItemName::Rhost))?;
             Ok(rhost)
         }
         ListItem::Ruser => {
-            let ruser = text_values(alloc, item, get_item(texts, ItemName::Ruser))?;
+            let ruser = text_values(seen.alloc, item, get_item(texts, ItemName::Ruser))?;
             Ok(ruser)
         }
         ListItem::Shell => {
-            let user = user_of(transaction);
-            let shell = shell_values(alloc, user, accounts, process, vault)?;
+            let account = account_of(seen, accounts, vault)?;
+            let shell = shell_values(seen.alloc, account)?;
             Ok(shell)
         }
         ListItem::Group => {
-            let user = user_of(transaction);
-            let groups = group_values(alloc, user, accounts, process, vault)?;
+            let groups = group_values(seen, accounts, vault)?;
             Ok(groups)
         }
     }
@@ -121,22 +119,9 @@ fn without_dev(text: &[u8]) -> &[u8]
 }
 
 // The user's shell.
-fn shell_values(
-    alloc: Global,
-    user: &[u8],
-    accounts: &mut Accounts,
-    process: &Process,
-    vault: &mut dyn Vault,
-) -> Result<Values, NoMemory>
-    ensures tells { vault_tells vault.new ≡ vault_tells vault.old }
-    ensures files { IsTrue (vault_tells vault.old) →
-        (vault_holds vault.new).files ≡ (vault_holds vault.old).files }
-    ensures told { IsTrue (vault_tells vault.old) →
-        IfOk result (λ values. LooksTo (reads_values ListItem.Shell user.now) values process.now
-        accounts.old (vault_holds vault.old) accounts.new (vault_holds vault.new)) }
+fn shell_values(alloc: Global, account: Account) -> Result<Values, NoMemory>
+    ensures { IfOk result (λ values. values ≡ shell_values (plain_account account)) }
 {
-    accounts.read_passwds(alloc, vault, process)?;
-    let account = accounts.account(alloc, user)?;
     match account {
         Account::Missing => Ok(Values::Unknown),
         Account::Unreadable => Ok(Values::Unknown),
@@ -149,28 +134,27 @@ fn shell_values(
 
 // The names of the user's groups.
 fn group_values(
-    alloc: Global,
-    user: &[u8],
+    seen: &Seen,
     accounts: &mut Accounts,
-    process: &Process,
     vault: &mut dyn Vault,
 ) -> Result<Values, NoMemory>
+    requires { seen.now.transaction.now.items.user ≢ None }
     ensures tells { vault_tells vault.new ≡ vault_tells vault.old }
     ensures files { IsTrue (vault_tells vault.old) →
         (vault_holds vault.new).files ≡ (vault_holds vault.old).files }
     ensures told { IsTrue (vault_tells vault.old) →
-        IfOk result (λ values. LooksTo (reads_values ListItem.Group user.now) values process.now
-        accounts.old (vault_holds vault.old) accounts.new (vault_holds vault.new)) }
+        IfOk result (λ values. LooksTo (reads_values ListItem.Group (user_seen seen.now)) values
+        seen.now.process.now accounts.old (vault_holds vault.old) accounts.new
+        (vault_holds vault.new)) }
 {
-    accounts.read_passwds(alloc, vault, process)?;
-    let account = accounts.account(alloc, user)?;
+    let account = account_of(seen, accounts, vault)?;
     match account {
         Account::Missing => return Ok(Values::Unknown),
         Account::Unreadable => return Ok(Values::Unknown),
         Account::Found(_) => {}
     }
-    accounts.read_groups(alloc, vault, process)?;
-    let values = values_of_groups(alloc, user, accounts)?;
+    accounts.read_groups(seen.alloc, vault, seen.process)?;
+    let values = values_of_groups(seen.alloc, user_of(seen.transaction), accounts)?;
     Ok(values)
 }
 

@@ -3,44 +3,42 @@ ghost use Rattle.std.specs.Option.{option_copied};
 ghost use Rattle.conv_port.specs.Conv.{ConvState};
 ghost use Rattle.pam_outside.specs.Time.{ClockState};
 ghost use Rattle.account_files.specs.Accounts.{entry_known, known_groups, known_passwds};
-ghost use Rattle.account_files.specs.Act.{LooksTo, reads_passwds, scene_at};
+ghost use Rattle.account_files.specs.Act.{LooksTo, reads_passwds};
 ghost use Rattle.account_files.specs.YieldsWith.{YieldsWith};
+ghost use Rattle.module_acts.specs.Seen.{scene_seen, user_seen};
 ghost use Rattle.account_files.specs.Found.{plain_account};
 ghost use Rattle.mod_lists.specs.declared.truth.Truth.{Truth};
 ghost use Rattle.mod_lists.specs.Condition.{items_of, plain_condition, plain_test};
-ghost use Rattle.mod_lists.specs.SucceedIf.{by_groups, by_passwds, is_in_any, item_text, on_account, on_entry, tests_field, tries_words};
+ghost use Rattle.mod_lists.specs.SucceedIf.{by_groups, by_passwds, is_in_any, item_text, on_account, on_entry, tries_words};
 
 use crate::condition::{AccountField, Condition, Field, ItemField, Test};
 use crate::truth::{Truth, in_sense};
 use account_db::{Groups, Passwd, is_in_group};
 use account_files::{Account, Accounts, laws};
 use item_store::Items;
-use module_acts::user_of;
+use module_acts::{Seen, account_of, user_of};
 use pam_base::{ItemName, NoMemory, Parts};
 use pam_outside::Vault;
-use pam_room::{Process, Transaction, get_item};
+use pam_room::get_item;
 use std::alloc::Global;
 
 /// Tries the condition of three words, if it is one.
 pub(crate) fn try_words(
-    alloc: Global,
+    seen: &Seen,
     condition: Option<Condition>,
-    transaction: &Transaction,
     accounts: &mut Accounts,
-    process: &Process,
     vault: &mut dyn Vault,
 ) -> Result<Truth, NoMemory>
-    requires { transaction.now.items.user ≢ None }
+    requires { seen.now.transaction.now.items.user ≢ None }
     ensures tells { vault_tells vault.new ≡ vault_tells vault.old }
     ensures files { IsTrue (vault_tells vault.old) →
         (vault_holds vault.new).files ≡ (vault_holds vault.old).files }
     ensures told { IsTrue (vault_tells vault.old) →
         (conv : ConvState) (clock : ClockState) →
         IfOk result (λ truth. YieldsWith truth
-        (tries_words (option_map plain_condition condition.entry)
-        (unwrap_or transaction.now.items.user [])) accounts.old
-        (scene_at transaction.now conv (vault_holds vault.old) clock process.now) accounts.new
-        (scene_at transaction.now conv (vault_holds vault.new) clock process.now)) }
+        (tries_words (option_map plain_condition condition.entry) (user_seen seen.now))
+        accounts.old (scene_seen seen.now conv (vault_holds vault.old) clock)
+        accounts.new (scene_seen seen.now conv (vault_holds vault.new) clock)) }
 {
     laws::act_steps();
     let condition = match condition {
@@ -49,16 +47,15 @@ pub(crate) fn try_words(
     };
     match condition {
         Condition::On(field, test) => match field {
-            Field::Item(item) => Ok(test.on_text(item_text(item, &transaction.items))),
+            Field::Item(item) => Ok(test.on_text(item_text(item, &seen.transaction.items))),
             Field::Account(field) => {
-                let user = user_of(transaction);
-                let truth = try_account(alloc, field, test, user, accounts, process, vault)?;
+                let account = account_of(seen, accounts, vault)?;
+                let truth = on_account(seen.alloc, field, test, account)?;
                 Ok(truth)
             }
         },
         Condition::Grouped(sense, names) => {
-            let user = user_of(transaction);
-            let truth = try_groups(alloc, sense, names, user, accounts, process, vault)?;
+            let truth = try_groups(seen, sense, names, accounts, vault)?;
             Ok(truth)
         }
     }
@@ -86,30 +83,7 @@ fn text_or_empty<'a>(text: Option<&'a [u8]>) -> &'a [u8]
     }
 }
 
-// Tries a test of a field of the user's account.
-fn try_account(
-    alloc: Global,
-    field: AccountField,
-    test: Test,
-    user: &[u8],
-    accounts: &mut Accounts,
-    process: &Process,
-    vault: &mut dyn Vault,
-) -> Result<Truth, NoMemory>
-    ensures tells { vault_tells vault.new ≡ vault_tells vault.old }
-    ensures files { IsTrue (vault_tells vault.old) →
-        (vault_holds vault.new).files ≡ (vault_holds vault.old).files }
-    ensures told { IsTrue (vault_tells vault.old) →
-        IfOk result (λ truth. LooksTo (tests_field (Field.Account field) (plain_test test.entry)
-        user.now) truth process.now accounts.old (vault_holds vault.old) accounts.new
-        (vault_holds vault.new)) }
-{
-    accounts.read_passwds(alloc, vault, process)?;
-    let account = accounts.account(alloc, user)?;
-    let truth = on_account(alloc, field, test, account)?;
-    Ok(truth)
-}
-
+// The truth of a test of a field of the user's account.
 fn on_account(
     alloc: Global,
     field: AccountField,
@@ -144,29 +118,34 @@ fn on_entry(
 
 // Tries whether the user is in one of some groups.
 fn try_groups(
-    alloc: Global,
+    seen: &Seen,
     sense: bool,
     names: &[u8],
-    user: &[u8],
     accounts: &mut Accounts,
-    process: &Process,
     vault: &mut dyn Vault,
 ) -> Result<Truth, NoMemory>
+    requires { seen.now.transaction.now.items.user ≢ None }
     ensures tells { vault_tells vault.new ≡ vault_tells vault.old }
     ensures files { IsTrue (vault_tells vault.old) →
         (vault_holds vault.new).files ≡ (vault_holds vault.old).files }
     ensures told { IsTrue (vault_tells vault.old) →
         IfOk result (λ truth. LooksTo (λ act. reads_passwds (by_passwds sense (items_of names.now)
-        user.now act)) truth process.now accounts.old (vault_holds vault.old) accounts.new
-        (vault_holds vault.new)) }
+        (user_seen seen.now) act)) truth seen.now.process.now accounts.old (vault_holds vault.old)
+        accounts.new (vault_holds vault.new)) }
 {
-    accounts.read_passwds(alloc, vault, process)?;
+    accounts.read_passwds(seen.alloc, vault, seen.process)?;
     match accounts.passwds() {
         None => return Ok(Truth::Faulty),
         Some(_) => {}
     }
-    accounts.read_groups(alloc, vault, process)?;
-    let truth = by_groups(alloc, sense, names, user, accounts)?;
+    accounts.read_groups(seen.alloc, vault, seen.process)?;
+    let truth = by_groups(
+        seen.alloc,
+        sense,
+        names,
+        user_of(seen.transaction),
+        accounts,
+    )?;
     Ok(truth)
 }
 

@@ -8,3 +8,4 @@ mod Unspelling
 mod Wellformed
 mod Rows
 mod Fresh
+mod Deciding

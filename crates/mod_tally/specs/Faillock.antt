@@ -150,6 +150,16 @@ abbrev pub by_call : Result Task Code → PlainSettings → Act
 by_call (Err code) s = answers code
 by_call (Ok task) s = checks_tally task s
 
+-- the code of a call in which the user isn't asked for
+abbrev pub refused : Result Task Code → Option Code
+refused (Err code) = Some code
+refused (Ok task) = None
+
+-- what is done once the user's name is known
+abbrev pub for_user : Result Task Code → PlainSettings → List ℕ → Act
+for_user (Err code) s user = answers code
+for_user (Ok task) s user = by_name (is_no_file user) task s user
+
 abbrev pub faillock_act : PlainCall → Act
 faillock_act call = by_call (task_of call.func (task_among call.args)) (settings_of call.args)
 

@@ -14,6 +14,10 @@ mod tally_file;
 mod task;
 
 pub use counted::write_failure;
-pub use pam_faillock::Faillock;
+use module_acts::CheckModule;
+use pam_faillock::FaillockCheck;
 pub use tally::{Damaged, Failure, Failures, failures};
 pub use tally_file::is_no_file;
+
+/// `pam_faillock(8)`: the failures of each user are counted in a file, and a user who failed too often is locked.
+pub type Faillock = CheckModule<FaillockCheck>;

@@ -11,6 +11,7 @@ ghost use Rattle.mod_tally.specs.Faillock.{failures_in, is_no_file, reads_tally,
 
 use crate::settings::Task;
 use crate::tally::{Failures, failures};
+use module_acts::Seen;
 use module_acts::account_files::{Content, hold_named, is_rooted, laws, read_named, replace_named};
 use module_acts::pam_room::Process;
 use pam_base::{Code, NoMemory, Refuse, Text};
@@ -112,8 +113,7 @@ fn failures_in(alloc: Global, content: Content) -> Result<Option<Failures>, NoMe
 /// Replaces the file with this name, and returns this code, or SERVICE_ERR if the text is too long
 /// or the file can't be set.
 pub(crate) fn set_text(
-    alloc: Global,
-    process: &Process,
+    seen: &Seen,
     vault: &mut dyn Vault,
     name: &[u8],
     text: &[u8],
@@ -125,14 +125,14 @@ pub(crate) fn set_text(
     ensures told { IsTrue (vault_tells vault.old) →
         (room : PlainRoom) (clock : ClockState) (known : Known) →
         IfOk result (λ answer. Acts (sets_text name.now text.now code) known
-        (scene_of room (vault_holds vault.old) clock (plain_process process.now)) answer
-        (scene_of room (vault_holds vault.new) clock (plain_process process.now))) }
+        (scene_of room (vault_holds vault.old) clock (plain_process seen.now.process.now)) answer
+        (scene_of room (vault_holds vault.new) clock (plain_process seen.now.process.now))) }
 {
     laws::act_steps();
     if !can_be_set(name, text) {
         return Ok(Code::ServiceErr);
     }
-    let done = replace_named(alloc, vault, process, name, text)?;
+    let done = replace_named(seen.alloc, vault, seen.process, name, text)?;
     Ok(write_result(code, done))
 }
 

@@ -4,7 +4,8 @@ ghost use Rattle.pam_outside.specs.Time.{ClockState};
 ghost use Rattle.module_acts.specs.pam_room.specs.Plain.{plain_process};
 ghost use Rattle.module_acts.specs.pam_room.specs.State.{PlainRoom, scene_of};
 ghost use Rattle.module_acts.specs.account_files.specs.Accounts.{Known};
-ghost use Rattle.module_acts.specs.account_files.specs.Act.{Acts, scene_at};
+ghost use Rattle.module_acts.specs.account_files.specs.Act.{Acts};
+ghost use Rattle.module_acts.specs.Seen.{scene_seen};
 ghost use Rattle.mod_tally.specs.Settings.{plain_settings};
 ghost use Rattle.mod_tally.specs.Tally.{counting, tally_text};
 ghost use Rattle.mod_tally.specs.Faillock.{by_task, clears, new_failure, writes_tally};
@@ -14,21 +15,19 @@ use crate::failure::new_failure;
 use crate::settings::{TallySettings, Task};
 use crate::tally::{Failure, Failures};
 use crate::tally_file::set_text;
+use module_acts::Seen;
 use module_acts::account_files::laws;
-use module_acts::pam_room::{Process, Transaction};
 use pam_base::{Code, NoMemory, Text};
 use pam_outside::{Clock, Vault, current_moment};
 use std::alloc::Global;
 
 /// Does what is to be done with the failures in the file.
 pub(crate) fn by_task(
-    alloc: Global,
+    seen: &Seen,
     task: Task,
     settings: &TallySettings<'_>,
     name: &[u8],
     failures: Failures,
-    transaction: &Transaction,
-    process: &Process,
     vault: &mut dyn Vault,
     clock: &dyn Clock,
 ) -> Result<Code, NoMemory>
@@ -39,10 +38,8 @@ pub(crate) fn by_task(
         (conv : ConvState) (known : Known) →
         IfOk result (λ code. Acts (by_task task (plain_settings settings.now) name.now failures)
         known
-        (scene_at transaction.now conv (vault_holds vault.old) (clock_holds clock.now) process.now)
-        code
-        (scene_at transaction.now conv (vault_holds vault.new) (clock_holds clock.now)
-        process.now)) }
+        (scene_seen seen.now conv (vault_holds vault.old) (clock_holds clock.now)) code
+        (scene_seen seen.now conv (vault_holds vault.new) (clock_holds clock.now))) }
 {
     laws::act_steps();
     let moment = current_moment(clock);
@@ -55,7 +52,7 @@ pub(crate) fn by_task(
     );
     match task {
         Task::Clear => {
-            let code = clear(alloc, name, failures.items(), process, vault)?;
+            let code = clear(seen, name, failures.items(), vault)?;
             Ok(code)
         }
         Task::Preauth => {
@@ -68,23 +65,14 @@ pub(crate) fn by_task(
             if locked {
                 return Ok(Code::AuthErr);
             }
-            let code = clear(alloc, name, failures.items(), process, vault)?;
+            let code = clear(seen, name, failures.items(), vault)?;
             Ok(code)
         }
         Task::AuthFail => {
             if locked {
                 return Ok(Code::AuthErr);
             }
-            let code = record_failure(
-                alloc,
-                settings.interval,
-                moment,
-                name,
-                failures,
-                transaction,
-                process,
-                vault,
-            )?;
+            let code = record_failure(seen, settings.interval, moment, name, failures, vault)?;
             Ok(code)
         }
     }
@@ -92,10 +80,9 @@ pub(crate) fn by_task(
 
 // Clears the failures, if there are any.
 fn clear(
-    alloc: Global,
+    seen: &Seen,
     name: &[u8],
     failures: &[Failure],
-    process: &Process,
     vault: &mut dyn Vault,
 ) -> Result<Code, NoMemory>
     ensures tells { vault_tells vault.new ≡ vault_tells vault.old }
@@ -104,15 +91,15 @@ fn clear(
     ensures told { IsTrue (vault_tells vault.old) →
         (room : PlainRoom) (clock : ClockState) (known : Known) →
         IfOk result (λ code. Acts (clears name.now failures.now) known
-        (scene_of room (vault_holds vault.old) clock (plain_process process.now)) code
-        (scene_of room (vault_holds vault.new) clock (plain_process process.now))) }
+        (scene_of room (vault_holds vault.old) clock (plain_process seen.now.process.now)) code
+        (scene_of room (vault_holds vault.new) clock (plain_process seen.now.process.now))) }
 {
     laws::act_steps();
     match failures {
         [] => Ok(Code::Success),
         [_, ..] => {
-            let text = counting_text(alloc, 0, &[])?;
-            let code = set_text(alloc, process, vault, name, text.bytes(), Code::Success)?;
+            let text = counting_text(seen.alloc, 0, &[])?;
+            let code = set_text(seen, vault, name, text.bytes(), Code::Success)?;
             Ok(code)
         }
     }
@@ -120,13 +107,11 @@ fn clear(
 
 // Records a failure after those in the file, and drops those that don't count any more.
 fn record_failure(
-    alloc: Global,
+    seen: &Seen,
     interval: u32,
     moment: u64,
     name: &[u8],
     failures: Failures,
-    transaction: &Transaction,
-    process: &Process,
     vault: &mut dyn Vault,
 ) -> Result<Code, NoMemory>
     ensures tells { vault_tells vault.new ≡ vault_tells vault.old }
@@ -136,13 +121,13 @@ fn record_failure(
         (room : PlainRoom) (clock : ClockState) (known : Known) →
         IfOk result (λ code.
         Acts (writes_tally name.now (counting interval (failures ++ new_failure moment
-        transaction.now.items ∷ [])) Code.Ignore) known
-        (scene_of room (vault_holds vault.old) clock (plain_process process.now)) code
-        (scene_of room (vault_holds vault.new) clock (plain_process process.now))) }
+        seen.now.transaction.now.items ∷ [])) Code.Ignore) known
+        (scene_of room (vault_holds vault.old) clock (plain_process seen.now.process.now)) code
+        (scene_of room (vault_holds vault.new) clock (plain_process seen.now.process.now))) }
 {
-    let failure = new_failure(alloc, moment, &transaction.items)?;
-    let text = text_with(alloc, interval, failures, failure)?;
-    let code = set_text(alloc, process, vault, name, text.bytes(), Code::Ignore)?;
+    let failure = new_failure(seen.alloc, moment, &seen.transaction.items)?;
+    let text = text_with(seen.alloc, interval, failures, failure)?;
+    let code = set_text(seen, vault, name, text.bytes(), Code::Ignore)?;
     Ok(code)
 }
 

@@ -18,4 +18,5 @@ pub use look::{KnownPassword, look_up};
 pub use module_acts;
 pub use new_token::take_token;
 pub use pam_unix::Unix;
+pub use store::write_result;
 pub use verify::is_locked;

@@ -104,7 +104,8 @@ fn change_held(
     Ok(write_result(done))
 }
 
-fn write_result(done: bool) -> Code
+/// The code of a replacement: AUTHTOK_ERR if it failed.
+pub fn write_result(done: bool) -> Code
     ensures { result ≡ write_result done }
 {
     if done {

@@ -1,5 +1,6 @@
 use Rattle.pam_room.specs.Plain.{plain_transaction}
 use Rattle.pam_room.specs.State.{room_of}
+use Rattle.mod_lists.specs.Listfile.{shell_values}
 use Rattle.mod_lists.proofs.list_values.values_of.Goals as goal
 
 pub returns-in_ok-tty-in-Tty-clause-told : goal.returns-in_ok-tty-in-Tty-clause-told
@@ -20,8 +21,8 @@ returns-in_ok-ruser-in-Ruser-clause-told g c = λ tells conv clock act code end 
 
 pub returns-in_ok-shell-in-Shell-clause-told : goal.returns-in_ok-shell-in-Shell-clause-told
 returns-in_ok-shell-in-Shell-clause-told g c = λ tells conv clock act code end rest.
-    rw c.in-Shell.is ((rw c.user_of-user.ensures at (c.in_ok-shell-in-Shell.ensures.told tells)) (room_of (plain_transaction c.args.transaction.now) conv) clock act code end rest)
+    rw c.in-Shell.is (c.in_ok-account-in-Shell.ensures.told tells (room_of (plain_transaction c.args.seen.now.transaction.now) conv) clock (λ account. act (shell_values account)) code end (rw c.in_ok-shell-in-Shell.ensures at rest))
 
 pub returns-in_ok-groups-in-Group-clause-told : goal.returns-in_ok-groups-in-Group-clause-told
 returns-in_ok-groups-in-Group-clause-told g c = λ tells conv clock act code end rest.
-    rw c.in-Group.is ((rw c.user_of-user-in-Group.ensures at (c.in_ok-groups-in-Group.ensures.told tells)) (room_of (plain_transaction c.args.transaction.now) conv) clock act code end rest)
+    rw c.in-Group.is (c.in_ok-groups-in-Group.ensures.told tells (room_of (plain_transaction c.args.seen.now.transaction.now) conv) clock act code end rest)

@@ -1,4 +1,5 @@
-use Rattle.std.proofs.Common.{[], unwrap_or, refl, ◌∙◌}
+use Rattle.std.proofs.Common.{refl, ◌∙◌}
+use Rattle.module_acts.specs.Seen.{user_seen}
 use Rattle.mod_lists.proofs.Conditions.{first_three, goes_on, stops}
 use Rattle.mod_lists.proofs.pam_succeed_if.meet_all.Goals as goal
 
@@ -37,4 +38,4 @@ returns-in-Faulty-clause-told g c = λ tells conv clock.
 
 pub returns-clause-told : goal.returns-clause-told
 returns-clause-told g c = λ tells conv clock.
-    c.loop-rest.invariant.told tells conv clock _ _ (rw (c.final_code.ensures (unwrap_or c.args.transaction.now.items.user []) c.in_default.len_below) (c.act_steps.ensures.answers _ _ _))
+    c.loop-rest.invariant.told tells conv clock _ _ (rw (c.final_code.ensures (user_seen c.args.seen.now) c.in_default.len_below) (c.act_steps.ensures.answers _ _ _))

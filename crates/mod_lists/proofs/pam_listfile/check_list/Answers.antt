@@ -1,7 +1,0 @@
-use Rattle.mod_lists.proofs.pam_listfile.check_list.Goals as goal
-
-pub returns-in-None-clause-told : goal.returns-in-None-clause-told
-returns-in-None-clause-told g c = λ talks tells clock. rw (← c.in-None.ensures, c.error_answer.ensures) (c.act_steps.ensures.answers _ _ _)
-
-pub returns-in-Some-clause-told : goal.returns-in-Some-clause-told
-returns-in-Some-clause-told g c = λ talks tells clock. rw (← c.in-Some.ensures) (c.search_list.ensures.told talks tells clock)
