@@ -1,4 +1,4 @@
-ghost use Rattle.std.specs.Prelude.{◌≡◌, ◌≢◌, ◌&&◌, ◌==◌, not, None, IsTrue, IfOk, OnErr, codes};
+ghost use Rattle.std.specs.Prelude.{◌≡◌, ◌≢◌, ◌&&◌, ◌==◌, not, false, None, IsTrue, IfOk, OnErr, codes};
 ghost use Rattle.conv_port.specs.Conv.{ConvState};
 ghost use Rattle.module_acts.specs.account_files.specs.Accounts.{Known};
 ghost use Rattle.module_acts.specs.account_files.specs.Act.{Acts};

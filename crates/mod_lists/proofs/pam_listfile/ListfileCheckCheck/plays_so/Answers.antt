@@ -7,4 +7,4 @@ use Rattle.mod_lists.proofs.pam_listfile.ListfileCheckCheck.plays_so.Goals as go
 pub returns : goal.returns
 returns c = λ call old new code played.
     c.act_steps.ensures.playing listfile_act call old new (Ok code)
-    (rw by_list (at_once call.func) (error_answer call.args) call.args (settings_of call.args) at played)
+    (rw (by_list (at_once call.func) (error_answer call.args) call.args (settings_of call.args)) at played)

@@ -2,4 +2,4 @@ use Rattle.mod_lists.proofs.pam_succeed_if.SucceedIfCheckCheck.decide.Goals as g
 
 pub returns-clause-told : goal.returns-clause-told
 returns-clause-told g c = λ tells ticks conv.
-    rw c.in_ok-conditions.ensures at (c.in_ok-code.ensures.told tells conv _)
+    rw (← c.in_ok-conditions.ensures) (c.in_ok-code.ensures.told tells conv _)

@@ -6,4 +6,4 @@ use Rattle.mod_lists.proofs.pam_succeed_if.SucceedIfCheckCheck.plays_so.Goals as
 pub returns : goal.returns
 returns c = λ call old new code played.
     c.act_steps.ensures.playing succeed_if_act call old new (Ok code)
-    (rw by_conditions (at_once call.func) (uses_uid call.args) call.args at played)
+    (rw (by_conditions (at_once call.func) (uses_uid call.args) call.args) at played)

@@ -7,4 +7,4 @@ use Rattle.mod_tally.proofs.pam_faillock.FaillockCheckCheck.plays_so.Goals as go
 pub returns : goal.returns
 returns c = λ call old new code played.
     c.act_steps.ensures.playing faillock_act call old new (Ok code)
-    (rw by_task_asked (task_of call.func (task_among call.args)) (settings_of call.args) at played)
+    (rw (by_task_asked (task_of call.func (task_among call.args)) (settings_of call.args)) at played)
