@@ -1,5 +1,9 @@
+ghost use Rattle.std.specs.Prelude.{◌≡◌};
+ghost use Rattle.pam_base.specs.Call.{call_word, func_word, name_of_call};
+
 use crate::item::ItemName;
 use crate::text::Text;
+use crate::word::Word;
 
 /// The longest text of a message or of a reply, in bytes (PAM_MAX_MSG_SIZE and PAM_MAX_RESP_SIZE).
 pub const MAX_TEXT: usize = 512;
@@ -20,6 +24,53 @@ pub enum Func {
     /// `pam_sm_chauthtok(3)`, run twice by `pam_chauthtok(3)`.
     ChAuthTok,
 }
+
+/// All functions of modules.
+pub const ALL_FUNCS: [Func; 6] = [
+    Func::Authenticate,
+    Func::SetCred,
+    Func::AcctMgmt,
+    Func::OpenSession,
+    Func::CloseSession,
+    Func::ChAuthTok,
+];
+
+/// The calls of an application, without their arguments.
+#[derive(Clone, Copy, Debug, PartialEq, Eq)]
+pub enum CallName {
+    Start,
+    End,
+    /// A stack call, which runs this function of the modules.
+    Run(Func),
+    SetItem,
+    GetItem,
+    PutEnv,
+    GetEnv,
+    EnvList,
+    FailDelay,
+    DelayFn,
+    Reply,
+}
+
+/// All calls.
+pub const ALL_CALLS: [CallName; 16] = [
+    CallName::Start,
+    CallName::End,
+    CallName::Run(Func::Authenticate),
+    CallName::Run(Func::SetCred),
+    CallName::Run(Func::AcctMgmt),
+    CallName::Run(Func::OpenSession),
+    CallName::Run(Func::CloseSession),
+    CallName::Run(Func::ChAuthTok),
+    CallName::SetItem,
+    CallName::GetItem,
+    CallName::PutEnv,
+    CallName::GetEnv,
+    CallName::EnvList,
+    CallName::FailDelay,
+    CallName::DelayFn,
+    CallName::Reply,
+];
 
 /// A call of an application on one transaction, with its arguments (`pam(3)`).
 #[derive(Debug, Drop)]
@@ -63,4 +114,67 @@ pub enum AppCall {
 pub struct Step {
     pub number: u32,
     pub call: AppCall,
+}
+
+impl Word for Func {
+    ghost spelling = { func_word };
+
+    /// The word that scripts and reports use for the stack call that runs it.
+    fn word(self) -> &'static str {
+        match self {
+            Func::Authenticate => "authenticate",
+            Func::SetCred => "setcred",
+            Func::AcctMgmt => "acct_mgmt",
+            Func::OpenSession => "open_session",
+            Func::CloseSession => "close_session",
+            Func::ChAuthTok => "chauthtok",
+        }
+    }
+}
+
+impl Word for CallName {
+    ghost spelling = { call_word };
+
+    /// The word that scripts and reports use for the call.
+    fn word(self) -> &'static str {
+        match self {
+            CallName::Start => "start",
+            CallName::End => "end",
+            CallName::Run(func) => func.word(),
+            CallName::SetItem => "set_item",
+            CallName::GetItem => "get_item",
+            CallName::PutEnv => "putenv",
+            CallName::GetEnv => "getenv",
+            CallName::EnvList => "envlist",
+            CallName::FailDelay => "fail_delay",
+            CallName::DelayFn => "delay",
+            CallName::Reply => "reply",
+        }
+    }
+}
+
+impl AppCall {
+    /// The call without its arguments.
+    pub fn name(&self) -> CallName
+        ensures { result ≡ name_of_call self.now }
+    {
+        match self {
+            AppCall::Start { .. } => CallName::Start,
+            AppCall::End { .. } => CallName::End,
+            AppCall::Authenticate { .. } => CallName::Run(Func::Authenticate),
+            AppCall::SetCred { .. } => CallName::Run(Func::SetCred),
+            AppCall::AcctMgmt { .. } => CallName::Run(Func::AcctMgmt),
+            AppCall::OpenSession { .. } => CallName::Run(Func::OpenSession),
+            AppCall::CloseSession { .. } => CallName::Run(Func::CloseSession),
+            AppCall::ChAuthTok { .. } => CallName::Run(Func::ChAuthTok),
+            AppCall::SetItem { .. } => CallName::SetItem,
+            AppCall::GetItem { .. } => CallName::GetItem,
+            AppCall::PutEnv { .. } => CallName::PutEnv,
+            AppCall::GetEnv { .. } => CallName::GetEnv,
+            AppCall::EnvList => CallName::EnvList,
+            AppCall::FailDelay { .. } => CallName::FailDelay,
+            AppCall::DelayFn { .. } => CallName::DelayFn,
+            AppCall::Reply { .. } => CallName::Reply,
+        }
+    }
 }

@@ -1,6 +1,7 @@
 ghost use Rattle.std.specs.Prelude.{◌≡◌};
 ghost use Rattle.pam_base.specs.Fault.{fault_number, fault_name, script_fault_number, script_fault_name};
 
+use crate::word::Word;
 use std::alloc::{AllocError, AllocFailed};
 
 /// Out of memory.
@@ -40,7 +41,7 @@ pub enum FaultKind {
     RuleTooLong = 3,
     /// A file has more than 65,536 bytes.
     FileTooLong = 4,
-    /// A control is no keyword, or an entry in its brackets isn't `name=action`.
+    /// A control isn't a keyword, or an entry in its brackets isn't `name=action`.
     BadControl = 5,
     /// A name in brackets is neither `default` nor the word of a code.
     BadReturnName = 6,
@@ -48,7 +49,7 @@ pub enum FaultKind {
     BadAction = 7,
     /// A jump over 0 lines.
     ZeroJump = 8,
-    /// The first field of a rule is no type (`auth account password session`).
+    /// The first field of a rule isn't a type (`auth account password session`).
     BadType = 9,
     /// A rule ends before its next field.
     MissingField = 10,
@@ -110,11 +111,12 @@ impl FaultKind {
     {
         self as u32
     }
+}
 
-    /// The name that is printed.
-    pub fn name(self) -> &'static str
-        ensures { result.now ≡ fault_name self }
-    {
+impl Word for FaultKind {
+    ghost spelling = { fault_name };
+
+    fn word(self) -> &'static str {
         match self {
             FaultKind::OpenBracket => "OpenBracket",
             FaultKind::NulByte => "NulByte",
@@ -143,11 +145,12 @@ impl ScriptKind {
     {
         self as u32
     }
+}
 
-    /// The name that is printed.
-    pub fn name(self) -> &'static str
-        ensures { result.now ≡ script_fault_name self }
-    {
+impl Word for ScriptKind {
+    ghost spelling = { script_fault_name };
+
+    fn word(self) -> &'static str {
         match self {
             ScriptKind::BadWord => "BadWord",
             ScriptKind::BadNumeral => "BadNumeral",

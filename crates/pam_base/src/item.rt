@@ -1,6 +1,7 @@
 ghost use Rattle.std.specs.Prelude.{◌≡◌};
-ghost use Rattle.std.specs.Str.{bytes_eq};
 ghost use Rattle.pam_base.specs.Item.{item_number, item_word, item_of_word};
+
+use crate::word::{Word, find_word};
 
 /// The items of a transaction, by their numbers in `pam_set_item(3)`.
 #[derive(Clone, Copy, Debug, PartialEq, Eq)]
@@ -57,11 +58,13 @@ impl ItemName {
     {
         self as u32
     }
+}
+
+impl Word for ItemName {
+    ghost spelling = { item_word };
 
     /// The word that a script has for the item: its name without `PAM_`, in lower case.
-    pub fn word(self) -> &'static str
-        ensures { result.now ≡ item_word self }
-    {
+    fn word(self) -> &'static str {
         match self {
             ItemName::Service => "service",
             ItemName::User => "user",
@@ -84,14 +87,5 @@ impl ItemName {
 pub fn item_named(word: &[u8]) -> Option<ItemName>
     ensures { result ≡ item_of_word word.now }
 {
-    ALL_ITEMS
-        .iter()
-        .copied()
-        .find(|item| is_word_of(*item, word))
-}
-
-fn is_word_of(item: ItemName, word: &[u8]) -> bool
-    ensures { result ≡ bytes_eq (item_word item) word.now }
-{
-    item.word().as_bytes() == word
+    find_word(&ALL_ITEMS, word)
 }

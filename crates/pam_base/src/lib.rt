@@ -19,9 +19,10 @@ mod shared_text;
 mod style;
 mod text;
 mod white;
+mod word;
 
 pub use bytes::{first_place, lowercase};
-pub use call::{AppCall, Func, MAX_TEXT, Step};
+pub use call::{ALL_CALLS, ALL_FUNCS, AppCall, CallName, Func, MAX_TEXT, Step};
 pub use code::{ALL_CODES, Code, code_name, code_named, code_number, code_of, code_word};
 pub use fault::{BadItem, ConvErr, Failed, FaultKind, NoMemory, NoModuleData, Refuse, ScriptKind};
 pub use flags::{
@@ -39,3 +40,4 @@ pub use shared_text::SharedText;
 pub use style::Style;
 pub use text::{Text, wipe};
 pub use white::is_white;
+pub use word::{Word, find_any_case, find_word};
