@@ -41,6 +41,15 @@ all_calls = names.Start ∷ names.End ∷ names.Run funcs.Authenticate ∷ names
     ∷ names.Run funcs.ChAuthTok ∷ names.SetItem ∷ names.GetItem ∷ names.PutEnv ∷ names.GetEnv
     ∷ names.EnvList ∷ names.FailDelay ∷ names.DelayFn ∷ names.Reply ∷ []
 
+-- the stack call that runs a function of modules, with these flags
+abbrev pub stack_call : Func → ℕ → AppCall
+stack_call funcs.Authenticate flags = calls.Authenticate flags
+stack_call funcs.SetCred flags = calls.SetCred flags
+stack_call funcs.AcctMgmt flags = calls.AcctMgmt flags
+stack_call funcs.OpenSession flags = calls.OpenSession flags
+stack_call funcs.CloseSession flags = calls.CloseSession flags
+stack_call funcs.ChAuthTok flags = calls.ChAuthTok flags
+
 -- a call without its arguments
 abbrev pub name_of_call : AppCall → CallName
 name_of_call (calls.Start service user) = names.Start

@@ -1,5 +1,5 @@
 ghost use Rattle.std.specs.Prelude.{◌≡◌};
-ghost use Rattle.pam_base.specs.Call.{call_word, func_word, name_of_call};
+ghost use Rattle.pam_base.specs.Call.{call_word, func_word, name_of_call, stack_call};
 
 use crate::item::ItemName;
 use crate::text::Text;
@@ -154,6 +154,20 @@ impl Word for CallName {
 }
 
 impl AppCall {
+    /// The stack call that runs this function of the modules, with these flags.
+    pub fn stack(func: Func, flags: u32) -> AppCall
+        ensures { result ≡ stack_call func flags }
+    {
+        match func {
+            Func::Authenticate => AppCall::Authenticate { flags },
+            Func::SetCred => AppCall::SetCred { flags },
+            Func::AcctMgmt => AppCall::AcctMgmt { flags },
+            Func::OpenSession => AppCall::OpenSession { flags },
+            Func::CloseSession => AppCall::CloseSession { flags },
+            Func::ChAuthTok => AppCall::ChAuthTok { flags },
+        }
+    }
+
     /// The call without its arguments.
     pub fn name(&self) -> CallName
         ensures { result ≡ name_of_call self.now }

@@ -9,13 +9,15 @@ use Rattle.pam_base.specs.declared.fault.Refuse.{Refuse}
 use Rattle.pam_base.specs.declared.fault.ScriptKind.{ScriptKind}
 use Rattle.pam_base.specs.declared.fault.ScriptKind.TheVariants.{BadWord, BadNumeral}
 use Rattle.pam_base.specs.Words.{words_of}
+use Rattle.pam_base.specs.declared.call.CallName.TheVariants as names
+use Rattle.pam_base.specs.declared.call.Func.TheVariants as funcs
 use Rattle.script_lang.specs.declared.command.Command.{Command}
 use Rattle.script_lang.specs.declared.command.Command.TheVariants as commands
 use Rattle.script_lang.specs.declared.line.Line.{Line}
 use Rattle.script_lang.specs.declared.place.Form.TheVariants as forms
 use Rattle.script_lang.specs.declared.place.Position.TheVariants.{Wanted}
 use Rattle.script_lang.specs.Call.{line_made}
-use Rattle.script_lang.specs.Command.{row_of, command_of_word}
+use Rattle.script_lang.specs.Command.{places_of, command_of_word}
 use Rattle.script_lang.specs.Cut.{first_word, has_its_words, word_at}
 use Rattle.script_lang.specs.Fit.{IsFit}
 use Rattle.script_lang.specs.Line.{command_line, line_of_command, line_or_fault}
@@ -95,31 +97,31 @@ moment_small (Some word) m e = limited_small (number_of_digits 10 13 word) m e
 -- ---- a command's line
 
 made_fit : (command : Command) (words : List (List ℕ)) (said : Meanings) → length (join_with_byte 32 words) ≤ 512
-    → has_its_words (row_of command).places words ≡ true → meanings_at (row_of command).places words ≡ Ok said → IsFit (line_made command said)
-made_fit commands.Start words said short has e =
+    → has_its_words (places_of command) words ≡ true → meanings_at (places_of command) words ≡ Ok said → IsFit (line_made command said)
+made_fit (commands.Call names.Start) words said short has e =
     service_named words said.second (and_parts (nat_lt 2 (length words)) _ has).0 (all_of-second _ _ _ said e)
-made_fit commands.Reply words said short has e =
+made_fit (commands.Call names.Reply) words said short has e =
     reply_short words said.second (and_parts (nat_lt 2 (length words)) _ has).0 (all_of-second _ _ _ said e) short
-made_fit commands.End words said short has e = refl
-made_fit commands.Authenticate words said short has e = refl
-made_fit commands.SetCred words said short has e = refl
-made_fit commands.AcctMgmt words said short has e = refl
-made_fit commands.OpenSession words said short has e = refl
-made_fit commands.CloseSession words said short has e = refl
-made_fit commands.ChAuthTok words said short has e = refl
-made_fit commands.SetItem words said short has e = refl
-made_fit commands.GetItem words said short has e = refl
-made_fit commands.PutEnv words said short has e = refl
-made_fit commands.GetEnv words said short has e = refl
-made_fit commands.EnvList words said short has e = refl
-made_fit commands.FailDelay words said short has e = refl
-made_fit commands.DelayFn words said short has e = refl
+made_fit (commands.Call names.End) words said short has e = refl
+made_fit (commands.Call (names.Run funcs.Authenticate)) words said short has e = refl
+made_fit (commands.Call (names.Run funcs.SetCred)) words said short has e = refl
+made_fit (commands.Call (names.Run funcs.AcctMgmt)) words said short has e = refl
+made_fit (commands.Call (names.Run funcs.OpenSession)) words said short has e = refl
+made_fit (commands.Call (names.Run funcs.CloseSession)) words said short has e = refl
+made_fit (commands.Call (names.Run funcs.ChAuthTok)) words said short has e = refl
+made_fit (commands.Call names.SetItem) words said short has e = refl
+made_fit (commands.Call names.GetItem) words said short has e = refl
+made_fit (commands.Call names.PutEnv) words said short has e = refl
+made_fit (commands.Call names.GetEnv) words said short has e = refl
+made_fit (commands.Call names.EnvList) words said short has e = refl
+made_fit (commands.Call names.FailDelay) words said short has e = refl
+made_fit (commands.Call names.DelayFn) words said short has e = refl
 made_fit commands.At words said short has e = moment_small (word_at (Wanted forms.Moment) 1 words) said.first (all_of-first _ _ _ said e)
 made_fit commands.Random words said short has e = tt
 made_fit commands.Caller words said short has e = tt
 
 answer_fit : (command : Command) (words : List (List ℕ)) (line : Line) → length (join_with_byte 32 words) ≤ 512
-    → has_its_words (row_of command).places words ≡ true → (answer : Result Meanings ScriptKind) → meanings_at (row_of command).places words ≡ answer
+    → has_its_words (places_of command) words ≡ true → (answer : Result Meanings ScriptKind) → meanings_at (places_of command) words ≡ answer
     → line_or_fault command answer ≡ Ok line → IsFit line
 answer_fit command words line short has (Err fault) is e = absurd cc
 answer_fit command words line short has (Ok said) is e =
@@ -127,8 +129,8 @@ answer_fit command words line short has (Ok said) is e =
     subst IsFit same (made_fit command words said short has is)
 
 command_fit : (command : Command) (words : List (List ℕ)) (line : Line) → length (join_with_byte 32 words) ≤ 512 → (b : Bool)
-    → has_its_words (row_of command).places words ≡ b
-    → cond b (line_or_fault command (meanings_at (row_of command).places words)) (Err BadWord) ≡ Ok line → IsFit line
+    → has_its_words (places_of command) words ≡ b
+    → cond b (line_or_fault command (meanings_at (places_of command) words)) (Err BadWord) ≡ Ok line → IsFit line
 command_fit command words line short true has e = answer_fit command words line short has _ refl e
 command_fit command words line short false has e = absurd cc
 

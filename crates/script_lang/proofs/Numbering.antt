@@ -8,13 +8,15 @@ use Rattle.pam_base.specs.declared.fault.ScriptKind.TheVariants.{BadWord, BadNum
 use Rattle.pam_base.specs.declared.call.AppCall.{AppCall}
 use Rattle.pam_base.specs.declared.call.Step.{Step as Asked}
 use Rattle.pam_base.specs.Words.{words_of}
+use Rattle.pam_base.specs.declared.call.CallName.TheVariants as names
+use Rattle.pam_base.specs.declared.call.Func.TheVariants as funcs
 use Rattle.script_lang.specs.declared.command.Command.{Command}
 use Rattle.script_lang.specs.declared.command.Command.TheVariants as commands
 use Rattle.script_lang.specs.declared.line.Line.TheVariants.{Blank, Step}
 use Rattle.script_lang.specs.declared.place.Form.TheVariants as forms
 use Rattle.script_lang.specs.declared.place.Position.TheVariants.{Wanted}
 use Rattle.script_lang.specs.Call.{line_made, step}
-use Rattle.script_lang.specs.Command.{row_of, command_of_word}
+use Rattle.script_lang.specs.Command.{places_of, command_of_word}
 use Rattle.script_lang.specs.Cut.{first_word, has_its_words, word_at}
 use Rattle.script_lang.specs.Line.{without_return, is_blank, command_line, line_of_command, line_or_fault}
 use Rattle.script_lang.specs.Number.{at_most, any_number_of_word}
@@ -55,41 +57,41 @@ first_small : (words : List (List ℕ)) (said : Meanings) (second third : Result
     → all_of (meaning_at (Wanted forms.Number) 1 words) second third ≡ Ok said → number_of said.first < 2 ^ 32
 first_small words said second third e = number_small (word_at (Wanted forms.Number) 1 words) said.first (all_of-first _ _ _ said e)
 
-made_numbered : (command : Command) (words : List (List ℕ)) (said : Meanings) (asked : Asked) → meanings_at (row_of command).places words ≡ Ok said
+made_numbered : (command : Command) (words : List (List ℕ)) (said : Meanings) (asked : Asked) → meanings_at (places_of command) words ≡ Ok said
     → line_made command said ≡ Step asked → asked.number < 2 ^ 32
-made_numbered commands.Start words said asked e is = step_number said _ asked is (first_small words said _ _ e)
-made_numbered commands.End words said asked e is = step_number said _ asked is (first_small words said _ _ e)
-made_numbered commands.Authenticate words said asked e is = step_number said _ asked is (first_small words said _ _ e)
-made_numbered commands.SetCred words said asked e is = step_number said _ asked is (first_small words said _ _ e)
-made_numbered commands.AcctMgmt words said asked e is = step_number said _ asked is (first_small words said _ _ e)
-made_numbered commands.OpenSession words said asked e is = step_number said _ asked is (first_small words said _ _ e)
-made_numbered commands.CloseSession words said asked e is = step_number said _ asked is (first_small words said _ _ e)
-made_numbered commands.ChAuthTok words said asked e is = step_number said _ asked is (first_small words said _ _ e)
-made_numbered commands.SetItem words said asked e is = step_number said _ asked is (first_small words said _ _ e)
-made_numbered commands.GetItem words said asked e is = step_number said _ asked is (first_small words said _ _ e)
-made_numbered commands.PutEnv words said asked e is = step_number said _ asked is (first_small words said _ _ e)
-made_numbered commands.GetEnv words said asked e is = step_number said _ asked is (first_small words said _ _ e)
-made_numbered commands.EnvList words said asked e is = step_number said _ asked is (first_small words said _ _ e)
-made_numbered commands.FailDelay words said asked e is = step_number said _ asked is (first_small words said _ _ e)
-made_numbered commands.DelayFn words said asked e is = step_number said _ asked is (first_small words said _ _ e)
-made_numbered commands.Reply words said asked e is = step_number said _ asked is (first_small words said _ _ e)
+made_numbered (commands.Call names.Start) words said asked e is = step_number said _ asked is (first_small words said _ _ e)
+made_numbered (commands.Call names.End) words said asked e is = step_number said _ asked is (first_small words said _ _ e)
+made_numbered (commands.Call (names.Run funcs.Authenticate)) words said asked e is = step_number said _ asked is (first_small words said _ _ e)
+made_numbered (commands.Call (names.Run funcs.SetCred)) words said asked e is = step_number said _ asked is (first_small words said _ _ e)
+made_numbered (commands.Call (names.Run funcs.AcctMgmt)) words said asked e is = step_number said _ asked is (first_small words said _ _ e)
+made_numbered (commands.Call (names.Run funcs.OpenSession)) words said asked e is = step_number said _ asked is (first_small words said _ _ e)
+made_numbered (commands.Call (names.Run funcs.CloseSession)) words said asked e is = step_number said _ asked is (first_small words said _ _ e)
+made_numbered (commands.Call (names.Run funcs.ChAuthTok)) words said asked e is = step_number said _ asked is (first_small words said _ _ e)
+made_numbered (commands.Call names.SetItem) words said asked e is = step_number said _ asked is (first_small words said _ _ e)
+made_numbered (commands.Call names.GetItem) words said asked e is = step_number said _ asked is (first_small words said _ _ e)
+made_numbered (commands.Call names.PutEnv) words said asked e is = step_number said _ asked is (first_small words said _ _ e)
+made_numbered (commands.Call names.GetEnv) words said asked e is = step_number said _ asked is (first_small words said _ _ e)
+made_numbered (commands.Call names.EnvList) words said asked e is = step_number said _ asked is (first_small words said _ _ e)
+made_numbered (commands.Call names.FailDelay) words said asked e is = step_number said _ asked is (first_small words said _ _ e)
+made_numbered (commands.Call names.DelayFn) words said asked e is = step_number said _ asked is (first_small words said _ _ e)
+made_numbered (commands.Call names.Reply) words said asked e is = step_number said _ asked is (first_small words said _ _ e)
 made_numbered commands.At words said asked e is = absurd cc
 made_numbered commands.Random words said asked e is = absurd cc
 made_numbered commands.Caller words said asked e is = absurd cc
 
 answer_numbered : (command : Command) (words : List (List ℕ)) (asked : Asked) (answer : Result Meanings ScriptKind)
-    → meanings_at (row_of command).places words ≡ answer → line_or_fault command answer ≡ Ok (Step asked) → asked.number < 2 ^ 32
+    → meanings_at (places_of command) words ≡ answer → line_or_fault command answer ≡ Ok (Step asked) → asked.number < 2 ^ 32
 answer_numbered command words asked (Err fault) is e = absurd cc
 answer_numbered command words asked (Ok said) is e = made_numbered command words said asked is (let same : line_made command said ≡ Step asked = cc in same)
 
 command_numbered : (command : Command) (words : List (List ℕ)) (asked : Asked) (b : Bool)
-    → (if b then line_or_fault command (meanings_at (row_of command).places words) else Err BadWord) ≡ Ok (Step asked) → asked.number < 2 ^ 32
+    → (if b then line_or_fault command (meanings_at (places_of command) words) else Err BadWord) ≡ Ok (Step asked) → asked.number < 2 ^ 32
 command_numbered command words asked true e = answer_numbered command words asked _ refl e
 command_numbered command words asked false e = absurd cc
 
 named_numbered : (o : Option Command) (words : List (List ℕ)) (asked : Asked) → line_of_command o words ≡ Ok (Step asked) → asked.number < 2 ^ 32
 named_numbered None words asked e = absurd cc
-named_numbered (Some command) words asked e = command_numbered command words asked (has_its_words (row_of command).places words) e
+named_numbered (Some command) words asked e = command_numbered command words asked (has_its_words (places_of command) words) e
 
 text_if : (b c : Bool) (text : List ℕ) (asked : Asked) → (if b then Err LineTooLong else if c then Ok Blank else command_line text) ≡ Ok (Step asked)
     → asked.number < 2 ^ 32

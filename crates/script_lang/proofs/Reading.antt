@@ -12,6 +12,8 @@ use Rattle.pam_base.specs.declared.item.ItemName.TheVariants as items
 use Rattle.pam_base.specs.Bytes.{has_byte}
 use Rattle.pam_base.specs.Item.{item_word, item_of_word}
 use Rattle.pam_base.specs.Words.{words_of}
+use Rattle.pam_base.specs.declared.call.CallName.TheVariants as names
+use Rattle.pam_base.specs.declared.call.Func.TheVariants as funcs
 use Rattle.script_lang.specs.declared.command.Command.{Command}
 use Rattle.script_lang.specs.declared.command.Command.TheVariants as commands
 use Rattle.script_lang.specs.declared.line.Line.{Line}
@@ -115,89 +117,89 @@ step n call = Ok (lines.Step (record { number = n; call = call }))
 
 module _ (h : List ℕ) (n : ℕ) (reads : number_of_word h ≡ Some n) where
   start : (service : List ℕ) → is_service_name service ≡ true
-      → line_of_command (Some commands.Start) (codes "start" ∷ h ∷ service ∷ []) ≡ step n (calls.Start service None)
+      → line_of_command (Some (commands.Call names.Start)) (codes "start" ∷ h ∷ service ∷ []) ≡ step n (calls.Start service None)
   unfolding step
   start service e = rw (reads, e) refl
 
   start_user : (service user : List ℕ) → is_service_name service ≡ true → nat_lt 0 (length user) ≡ true
-      → line_of_command (Some commands.Start) (codes "start" ∷ h ∷ service ∷ user ∷ []) ≡ step n (calls.Start service (Some user))
+      → line_of_command (Some (commands.Call names.Start)) (codes "start" ∷ h ∷ service ∷ user ∷ []) ≡ step n (calls.Start service (Some user))
   unfolding step
   start_user service user e some = rw (reads, e, some) refl
 
   end : (word : List ℕ) (status : ℕ) → number_of_word word ≡ Some status
-      → line_of_command (Some commands.End) (codes "end" ∷ h ∷ word ∷ []) ≡ step n (calls.End status)
+      → line_of_command (Some (commands.Call names.End)) (codes "end" ∷ h ∷ word ∷ []) ≡ step n (calls.End status)
   unfolding step
   end word status e = rw (reads, e) refl
 
-  set_item : (item : ItemName) → line_of_command (Some commands.SetItem) (codes "set_item" ∷ h ∷ item_word item ∷ []) ≡ step n (calls.SetItem item None)
+  set_item : (item : ItemName) → line_of_command (Some (commands.Call names.SetItem)) (codes "set_item" ∷ h ∷ item_word item ∷ []) ≡ step n (calls.SetItem item None)
   unfolding step
   set_item item = rw (reads, item_of_word-word item) refl
 
   set_item_text : (item : ItemName) (text : List ℕ)
-      → line_of_command (Some commands.SetItem) (codes "set_item" ∷ h ∷ item_word item ∷ words_of text) ≡ step n (calls.SetItem item (Some text))
+      → line_of_command (Some (commands.Call names.SetItem)) (codes "set_item" ∷ h ∷ item_word item ∷ words_of text) ≡ step n (calls.SetItem item (Some text))
   unfolding step
   set_item_text item text =
       let wanted : nat_lt 2 (suc (suc (suc (length (words_of text))))) ≡ true = lt-ltb 2 _ (omega arith) in
       let some : nat_lt 3 (suc (suc (suc (length (words_of text))))) ≡ true = lt-ltb 3 _ (omega (arith, has_word text)) in
       rw (wanted, reads, item_of_word-word item, some, join-words_of text) refl
 
-  get_item : (item : ItemName) → line_of_command (Some commands.GetItem) (codes "get_item" ∷ h ∷ item_word item ∷ []) ≡ step n (calls.GetItem item)
+  get_item : (item : ItemName) → line_of_command (Some (commands.Call names.GetItem)) (codes "get_item" ∷ h ∷ item_word item ∷ []) ≡ step n (calls.GetItem item)
   unfolding step
   get_item item = rw (reads, item_of_word-word item) refl
 
-  putenv : (text : List ℕ) → line_of_command (Some commands.PutEnv) (codes "putenv" ∷ h ∷ words_of text) ≡ step n (calls.PutEnv text)
+  putenv : (text : List ℕ) → line_of_command (Some (commands.Call names.PutEnv)) (codes "putenv" ∷ h ∷ words_of text) ≡ step n (calls.PutEnv text)
   unfolding step
   putenv text =
       let some : nat_lt 2 (suc (suc (length (words_of text)))) ≡ true = lt-ltb 2 _ (omega (arith, has_word text)) in
       rw (reads, some, join-words_of text) refl
 
-  reply : (text : List ℕ) → line_of_command (Some commands.Reply) (codes "reply" ∷ h ∷ words_of text) ≡ step n (calls.Reply text)
+  reply : (text : List ℕ) → line_of_command (Some (commands.Call names.Reply)) (codes "reply" ∷ h ∷ words_of text) ≡ step n (calls.Reply text)
   unfolding step
   reply text =
       let some : nat_lt 2 (suc (suc (length (words_of text)))) ≡ true = lt-ltb 2 _ (omega (arith, has_word text)) in
       rw (reads, some, join-words_of text) refl
 
   getenv : (name : List ℕ) → nat_lt 0 (length name) ≡ true
-      → line_of_command (Some commands.GetEnv) (codes "getenv" ∷ h ∷ name ∷ []) ≡ step n (calls.GetEnv name)
+      → line_of_command (Some (commands.Call names.GetEnv)) (codes "getenv" ∷ h ∷ name ∷ []) ≡ step n (calls.GetEnv name)
   unfolding step
   getenv name some = rw (reads, some) refl
 
-  envlist : line_of_command (Some commands.EnvList) (codes "envlist" ∷ h ∷ []) ≡ step n calls.EnvList
+  envlist : line_of_command (Some (commands.Call names.EnvList)) (codes "envlist" ∷ h ∷ []) ≡ step n calls.EnvList
   unfolding step
   envlist = rw reads refl
 
   fail_delay : (word : List ℕ) (micros : ℕ) → number_of_word word ≡ Some micros
-      → line_of_command (Some commands.FailDelay) (codes "fail_delay" ∷ h ∷ word ∷ []) ≡ step n (calls.FailDelay micros)
+      → line_of_command (Some (commands.Call names.FailDelay)) (codes "fail_delay" ∷ h ∷ word ∷ []) ≡ step n (calls.FailDelay micros)
   unfolding step
   fail_delay word micros e = rw (reads, e) refl
 
-  delay : (on : Bool) → line_of_command (Some commands.DelayFn) (codes "delay" ∷ h ∷ switch_word on ∷ []) ≡ step n (calls.DelayFn on)
+  delay : (on : Bool) → line_of_command (Some (commands.Call names.DelayFn)) (codes "delay" ∷ h ∷ switch_word on ∷ []) ≡ step n (calls.DelayFn on)
   unfolding step
   delay true = rw reads refl
   delay false = rw reads refl
 
   module _ (word : List ℕ) (flags : ℕ) (e : number_of_word word ≡ Some flags) where
-    authenticate : line_of_command (Some commands.Authenticate) (codes "authenticate" ∷ h ∷ word ∷ []) ≡ step n (calls.Authenticate flags)
+    authenticate : line_of_command (Some (commands.Call (names.Run funcs.Authenticate))) (codes "authenticate" ∷ h ∷ word ∷ []) ≡ step n (calls.Authenticate flags)
     unfolding step
     authenticate = rw (reads, e) refl
 
-    setcred : line_of_command (Some commands.SetCred) (codes "setcred" ∷ h ∷ word ∷ []) ≡ step n (calls.SetCred flags)
+    setcred : line_of_command (Some (commands.Call (names.Run funcs.SetCred))) (codes "setcred" ∷ h ∷ word ∷ []) ≡ step n (calls.SetCred flags)
     unfolding step
     setcred = rw (reads, e) refl
 
-    acct_mgmt : line_of_command (Some commands.AcctMgmt) (codes "acct_mgmt" ∷ h ∷ word ∷ []) ≡ step n (calls.AcctMgmt flags)
+    acct_mgmt : line_of_command (Some (commands.Call (names.Run funcs.AcctMgmt))) (codes "acct_mgmt" ∷ h ∷ word ∷ []) ≡ step n (calls.AcctMgmt flags)
     unfolding step
     acct_mgmt = rw (reads, e) refl
 
-    open_session : line_of_command (Some commands.OpenSession) (codes "open_session" ∷ h ∷ word ∷ []) ≡ step n (calls.OpenSession flags)
+    open_session : line_of_command (Some (commands.Call (names.Run funcs.OpenSession))) (codes "open_session" ∷ h ∷ word ∷ []) ≡ step n (calls.OpenSession flags)
     unfolding step
     open_session = rw (reads, e) refl
 
-    close_session : line_of_command (Some commands.CloseSession) (codes "close_session" ∷ h ∷ word ∷ []) ≡ step n (calls.CloseSession flags)
+    close_session : line_of_command (Some (commands.Call (names.Run funcs.CloseSession))) (codes "close_session" ∷ h ∷ word ∷ []) ≡ step n (calls.CloseSession flags)
     unfolding step
     close_session = rw (reads, e) refl
 
-    chauthtok : line_of_command (Some commands.ChAuthTok) (codes "chauthtok" ∷ h ∷ word ∷ []) ≡ step n (calls.ChAuthTok flags)
+    chauthtok : line_of_command (Some (commands.Call (names.Run funcs.ChAuthTok))) (codes "chauthtok" ∷ h ∷ word ∷ []) ≡ step n (calls.ChAuthTok flags)
     unfolding step
     chauthtok = rw (reads, e) refl
 
@@ -252,49 +254,49 @@ module _ (n : ℕ) (small : n < 2 ^ 32) where
 
   reads_itself : (call : AppCall) → is_sound call ≡ true → ReadsItself n call
   reads_itself (calls.Start service None) e =
-      by_words _ commands.Start _ (written_three (codes "start") n refl small service (service-space service e)) refl refl (start (decimal n) n number-reads service e)
+      by_words _ (commands.Call names.Start) _ (written_three (codes "start") n refl small service (service-space service e)) refl refl (start (decimal n) n number-reads service e)
   reads_itself (calls.Start service (Some user)) e =
       let both = and_parts (is_service_name service) (is_name user) e in
-      by_words _ commands.Start _ (written_four (codes "start") n refl small service user (service-space service both.0) (name-space user both.1)) refl refl
+      by_words _ (commands.Call names.Start) _ (written_four (codes "start") n refl small service user (service-space service both.0) (name-space user both.1)) refl refl
       (start_user (decimal n) n number-reads service user both.0 (and_parts (nat_lt 0 (length user)) (not (has_byte 32 user)) both.1).0)
   reads_itself (calls.End status) e =
       let fits = ltb-true status (2 ^ 32) e in
-      by_words _ commands.End _ (written_three (codes "end") n refl small (decimal status) (decimal-space status fits)) refl refl (end (decimal n) n number-reads (decimal status) status (number_of_word-decimal status fits))
+      by_words _ (commands.Call names.End) _ (written_three (codes "end") n refl small (decimal status) (decimal-space status fits)) refl refl (end (decimal n) n number-reads (decimal status) status (number_of_word-decimal status fits))
   reads_itself (calls.Authenticate flags) e =
       let fits = ltb-true flags (2 ^ 32) e in
-      by_words _ commands.Authenticate _ (written_three (codes "authenticate") n refl small (decimal flags) (decimal-space flags fits)) refl refl (authenticate (decimal n) n number-reads (decimal flags) flags (number_of_word-decimal flags fits))
+      by_words _ (commands.Call (names.Run funcs.Authenticate)) _ (written_three (codes "authenticate") n refl small (decimal flags) (decimal-space flags fits)) refl refl (authenticate (decimal n) n number-reads (decimal flags) flags (number_of_word-decimal flags fits))
   reads_itself (calls.SetCred flags) e =
       let fits = ltb-true flags (2 ^ 32) e in
-      by_words _ commands.SetCred _ (written_three (codes "setcred") n refl small (decimal flags) (decimal-space flags fits)) refl refl (setcred (decimal n) n number-reads (decimal flags) flags (number_of_word-decimal flags fits))
+      by_words _ (commands.Call (names.Run funcs.SetCred)) _ (written_three (codes "setcred") n refl small (decimal flags) (decimal-space flags fits)) refl refl (setcred (decimal n) n number-reads (decimal flags) flags (number_of_word-decimal flags fits))
   reads_itself (calls.AcctMgmt flags) e =
       let fits = ltb-true flags (2 ^ 32) e in
-      by_words _ commands.AcctMgmt _ (written_three (codes "acct_mgmt") n refl small (decimal flags) (decimal-space flags fits)) refl refl (acct_mgmt (decimal n) n number-reads (decimal flags) flags (number_of_word-decimal flags fits))
+      by_words _ (commands.Call (names.Run funcs.AcctMgmt)) _ (written_three (codes "acct_mgmt") n refl small (decimal flags) (decimal-space flags fits)) refl refl (acct_mgmt (decimal n) n number-reads (decimal flags) flags (number_of_word-decimal flags fits))
   reads_itself (calls.OpenSession flags) e =
       let fits = ltb-true flags (2 ^ 32) e in
-      by_words _ commands.OpenSession _ (written_three (codes "open_session") n refl small (decimal flags) (decimal-space flags fits)) refl refl (open_session (decimal n) n number-reads (decimal flags) flags (number_of_word-decimal flags fits))
+      by_words _ (commands.Call (names.Run funcs.OpenSession)) _ (written_three (codes "open_session") n refl small (decimal flags) (decimal-space flags fits)) refl refl (open_session (decimal n) n number-reads (decimal flags) flags (number_of_word-decimal flags fits))
   reads_itself (calls.CloseSession flags) e =
       let fits = ltb-true flags (2 ^ 32) e in
-      by_words _ commands.CloseSession _ (written_three (codes "close_session") n refl small (decimal flags) (decimal-space flags fits)) refl refl (close_session (decimal n) n number-reads (decimal flags) flags (number_of_word-decimal flags fits))
+      by_words _ (commands.Call (names.Run funcs.CloseSession)) _ (written_three (codes "close_session") n refl small (decimal flags) (decimal-space flags fits)) refl refl (close_session (decimal n) n number-reads (decimal flags) flags (number_of_word-decimal flags fits))
   reads_itself (calls.ChAuthTok flags) e =
       let fits = ltb-true flags (2 ^ 32) e in
-      by_words _ commands.ChAuthTok _ (written_three (codes "chauthtok") n refl small (decimal flags) (decimal-space flags fits)) refl refl (chauthtok (decimal n) n number-reads (decimal flags) flags (number_of_word-decimal flags fits))
+      by_words _ (commands.Call (names.Run funcs.ChAuthTok)) _ (written_three (codes "chauthtok") n refl small (decimal flags) (decimal-space flags fits)) refl refl (chauthtok (decimal n) n number-reads (decimal flags) flags (number_of_word-decimal flags fits))
   reads_itself (calls.FailDelay micros) e =
       let fits = ltb-true micros (2 ^ 32) e in
-      by_words _ commands.FailDelay _ (written_three (codes "fail_delay") n refl small (decimal micros) (decimal-space micros fits)) refl refl (fail_delay (decimal n) n number-reads (decimal micros) micros (number_of_word-decimal micros fits))
+      by_words _ (commands.Call names.FailDelay) _ (written_three (codes "fail_delay") n refl small (decimal micros) (decimal-space micros fits)) refl refl (fail_delay (decimal n) n number-reads (decimal micros) micros (number_of_word-decimal micros fits))
   reads_itself (calls.SetItem item None) e =
-      by_words _ commands.SetItem _ (written_three (codes "set_item") n refl small (item_word item) (item-space item)) refl refl (set_item (decimal n) n number-reads item)
+      by_words _ (commands.Call names.SetItem) _ (written_three (codes "set_item") n refl small (item_word item) (item-space item)) refl refl (set_item (decimal n) n number-reads item)
   reads_itself (calls.SetItem item (Some text)) e =
-      by_words _ commands.SetItem _ (written_four_text (codes "set_item") n refl small (item_word item) text (item-space item)) refl refl (set_item_text (decimal n) n number-reads item text)
+      by_words _ (commands.Call names.SetItem) _ (written_four_text (codes "set_item") n refl small (item_word item) text (item-space item)) refl refl (set_item_text (decimal n) n number-reads item text)
   reads_itself (calls.GetItem item) e =
-      by_words _ commands.GetItem _ (written_three (codes "get_item") n refl small (item_word item) (item-space item)) refl refl (get_item (decimal n) n number-reads item)
-  reads_itself (calls.PutEnv text) e = by_words _ commands.PutEnv _ (written_text (codes "putenv") n refl small text) refl refl (putenv (decimal n) n number-reads text)
+      by_words _ (commands.Call names.GetItem) _ (written_three (codes "get_item") n refl small (item_word item) (item-space item)) refl refl (get_item (decimal n) n number-reads item)
+  reads_itself (calls.PutEnv text) e = by_words _ (commands.Call names.PutEnv) _ (written_text (codes "putenv") n refl small text) refl refl (putenv (decimal n) n number-reads text)
   reads_itself (calls.GetEnv name) e =
-      by_words _ commands.GetEnv _ (written_three (codes "getenv") n refl small name (name-space name e)) refl refl
+      by_words _ (commands.Call names.GetEnv) _ (written_three (codes "getenv") n refl small name (name-space name e)) refl refl
       (getenv (decimal n) n number-reads name (and_parts (nat_lt 0 (length name)) (not (has_byte 32 name)) e).0)
-  reads_itself calls.EnvList e = by_words _ commands.EnvList _ (written_two (codes "envlist") n refl small) refl refl (envlist (decimal n) n number-reads)
-  reads_itself (calls.DelayFn true) e = by_words _ commands.DelayFn _ (written_three (codes "delay") n refl small (codes "on") refl) refl refl (delay (decimal n) n number-reads true)
-  reads_itself (calls.DelayFn false) e = by_words _ commands.DelayFn _ (written_three (codes "delay") n refl small (codes "off") refl) refl refl (delay (decimal n) n number-reads false)
-  reads_itself (calls.Reply text) e = by_words _ commands.Reply _ (written_text (codes "reply") n refl small text) refl refl (reply (decimal n) n number-reads text)
+  reads_itself calls.EnvList e = by_words _ (commands.Call names.EnvList) _ (written_two (codes "envlist") n refl small) refl refl (envlist (decimal n) n number-reads)
+  reads_itself (calls.DelayFn true) e = by_words _ (commands.Call names.DelayFn) _ (written_three (codes "delay") n refl small (codes "on") refl) refl refl (delay (decimal n) n number-reads true)
+  reads_itself (calls.DelayFn false) e = by_words _ (commands.Call names.DelayFn) _ (written_three (codes "delay") n refl small (codes "off") refl) refl refl (delay (decimal n) n number-reads false)
+  reads_itself (calls.Reply text) e = by_words _ (commands.Call names.Reply) _ (written_text (codes "reply") n refl small text) refl refl (reply (decimal n) n number-reads text)
 
 pub written_is_read : (s : Step) → is_writable s ≡ true → parsed (line_of s) ≡ Ok (lines.Step s)
 unfolding ReadsItself

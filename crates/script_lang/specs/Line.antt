@@ -9,7 +9,7 @@ use Rattle.pam_base.specs.Words.{words_of}
 use Rattle.script_lang.specs.declared.command.Command.{Command}
 use Rattle.script_lang.specs.declared.line.Line.{Line}
 use Rattle.script_lang.specs.declared.line.Line.TheVariants.{Blank}
-use Rattle.script_lang.specs.Command.{row_of, command_of_word}
+use Rattle.script_lang.specs.Command.{places_of, command_of_word}
 use Rattle.script_lang.specs.Cut.{first_word, has_its_words}
 use Rattle.script_lang.specs.Value.{Meanings, meanings_at}
 use Rattle.script_lang.specs.Call.{line_made}
@@ -33,8 +33,8 @@ line_or_fault command (Err fault) = Err fault
 abbrev pub line_of_command : Option Command → List (List ℕ) → Result Line ScriptKind
 line_of_command None words = Err BadWord
 line_of_command (Some command) words =
-    if has_its_words (row_of command).places words
-    then line_or_fault command (meanings_at (row_of command).places words)
+    if has_its_words (places_of command) words
+    then line_or_fault command (meanings_at (places_of command) words)
     else Err BadWord
 
 abbrev pub command_line : List ℕ → Result Line ScriptKind

@@ -5,7 +5,7 @@ ghost use Rattle.script_lang.specs.Value.{meanings_of};
 use crate::command::Command;
 use crate::line::Line;
 use crate::value::Values;
-use pam_base::{AppCall, NoMemory, Step};
+use pam_base::{AppCall, CallName, NoMemory, Step};
 use std::alloc::Global;
 
 /// The line that a command and the values of its words give.
@@ -21,32 +21,27 @@ pub(crate) fn line_made(
     let number = second.number();
     let item = second.item();
     let call = match command {
-        Command::Start => AppCall::Start {
+        Command::Call(CallName::Start) => AppCall::Start {
             service: second.text(alloc)?,
             user: third.optional_text(alloc)?,
         },
-        Command::End => AppCall::End { status: number },
-        Command::Authenticate => AppCall::Authenticate { flags: number },
-        Command::SetCred => AppCall::SetCred { flags: number },
-        Command::AcctMgmt => AppCall::AcctMgmt { flags: number },
-        Command::OpenSession => AppCall::OpenSession { flags: number },
-        Command::CloseSession => AppCall::CloseSession { flags: number },
-        Command::ChAuthTok => AppCall::ChAuthTok { flags: number },
-        Command::SetItem => AppCall::SetItem {
+        Command::Call(CallName::End) => AppCall::End { status: number },
+        Command::Call(CallName::Run(func)) => AppCall::stack(func, number),
+        Command::Call(CallName::SetItem) => AppCall::SetItem {
             item,
             value: third.optional_text(alloc)?,
         },
-        Command::GetItem => AppCall::GetItem { item },
-        Command::PutEnv => AppCall::PutEnv {
+        Command::Call(CallName::GetItem) => AppCall::GetItem { item },
+        Command::Call(CallName::PutEnv) => AppCall::PutEnv {
             text: second.text(alloc)?,
         },
-        Command::GetEnv => AppCall::GetEnv {
+        Command::Call(CallName::GetEnv) => AppCall::GetEnv {
             name: second.text(alloc)?,
         },
-        Command::EnvList => AppCall::EnvList,
-        Command::FailDelay => AppCall::FailDelay { micros: number },
-        Command::DelayFn => AppCall::DelayFn { on: second.is_on() },
-        Command::Reply => AppCall::Reply {
+        Command::Call(CallName::EnvList) => AppCall::EnvList,
+        Command::Call(CallName::FailDelay) => AppCall::FailDelay { micros: number },
+        Command::Call(CallName::DelayFn) => AppCall::DelayFn { on: second.is_on() },
+        Command::Call(CallName::Reply) => AppCall::Reply {
             text: second.text(alloc)?,
         },
         Command::At => return Ok(Line::At(values.first.wide())),

@@ -11,5 +11,5 @@ mod number;
 mod place;
 mod value;
 
-pub use command::{Command, call_word, func_word};
+pub use command::{Command, call_word};
 pub use line::{Line, parse};

@@ -58,7 +58,7 @@ fn command_line(alloc: Global, line: &[u8]) -> Result<Line, Refuse<ScriptKind>>
     let Some(command) = command_named(first_word(line)) else {
         return Err(Refuse::Named(ScriptKind::BadWord));
     };
-    let places = command.row().places;
+    let places = command.places();
     if !has_its_words(places, line) {
         return Err(Refuse::Named(ScriptKind::BadWord));
     }
