@@ -1,14 +1,12 @@
 ghost use Rattle.std.specs.Prelude.{◌≡◌, true, min};
 ghost use Rattle.std.specs.Char.{is_ascii_digit};
 ghost use Rattle.std.specs.List.{list_all};
-ghost use Rattle.std.specs.Str.{str_eq_ignore_ascii_case};
 ghost use Rattle.pam_base.specs.Number.{value_of_digits};
 ghost use Rattle.control_words.specs.Bracket.{action_of_word, named_action};
-ghost use Rattle.control_words.specs.Control.{action_name};
 
 use crate::bracket::ControlFault;
 use crate::control::Action;
-use pam_base::{FaultKind, are_digits};
+use pam_base::{FaultKind, are_digits, find_any_case};
 
 /// The actions that have a word.
 const PLAIN_ACTIONS: [Action; 6] = [
@@ -40,16 +38,7 @@ pub(crate) fn action_named(word: &[u8]) -> Result<Action, ControlFault>
 fn plain_action(word: &[u8]) -> Option<Action>
     ensures { result ≡ named_action word.now }
 {
-    PLAIN_ACTIONS
-        .iter()
-        .copied()
-        .find(|action| is_word_of(*action, word))
-}
-
-fn is_word_of(action: Action, word: &[u8]) -> bool
-    ensures { result ≡ str_eq_ignore_ascii_case word.now (action_name action) }
-{
-    word.eq_ignore_ascii_case(action.word().as_bytes())
+    find_any_case(&PLAIN_ACTIONS, word)
 }
 
 // The value of some digits, or 256 if it is above 255.

@@ -1,6 +1,6 @@
 ghost use Rattle.std.specs.Prelude.{◌≡◌};
 
-use pam_base::Code;
+use pam_base::{Code, Word};
 use std::marker::Model;
 
 /// What a line does to the state of its stack, given its deciding return code (`pam.conf(5)`;
@@ -17,13 +17,13 @@ pub enum Action {
     Jump(u8),
 }
 
-impl Action {
+impl Word for Action {
     ghost use Rattle.control_words.specs.Control.{action_name};
 
+    ghost spelling = { action_name };
+
     /// The word of the action (`pam.conf(5)`), in lower case; the empty text for a jump.
-    pub fn word(self) -> &'static str
-        ensures { result.now ≡ action_name self }
-    {
+    fn word(self) -> &'static str {
         match self {
             Action::Ignore => "ignore",
             Action::Bad => "bad",

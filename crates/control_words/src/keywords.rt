@@ -1,8 +1,8 @@
 ghost use Rattle.std.specs.Prelude.{◌≡◌, option_map};
-ghost use Rattle.std.specs.Str.{str_eq_ignore_ascii_case};
 ghost use Rattle.control_words.specs.Keyword.{control_of_word, keyword_control, keyword_of_word, keyword_word};
 
 use crate::control::{Action, Control};
+use pam_base::{Word, find_any_case};
 
 /// A keyword for a control (`pam.conf(5)`).
 #[derive(Clone, Copy, Debug, PartialEq, Eq)]
@@ -21,11 +21,11 @@ pub const ALL_KEYWORDS: [Keyword; 4] = [
     Keyword::Optional,
 ];
 
-impl Keyword {
+impl Word for Keyword {
+    ghost spelling = { keyword_word };
+
     /// The word, in lower case.
-    pub fn word(self) -> &'static str
-        ensures { result.now ≡ keyword_word self }
-    {
+    fn word(self) -> &'static str {
         match self {
             Keyword::Required => "required",
             Keyword::Requisite => "requisite",
@@ -33,7 +33,9 @@ impl Keyword {
             Keyword::Optional => "optional",
         }
     }
+}
 
+impl Keyword {
     /// The control that it is short for.
     pub fn control(self) -> Control
         ensures { result ≡ keyword_control self }
@@ -61,14 +63,5 @@ pub fn control_named(word: &[u8]) -> Option<Control>
 fn keyword_named(word: &[u8]) -> Option<Keyword>
     ensures { result ≡ keyword_of_word word.now }
 {
-    ALL_KEYWORDS
-        .iter()
-        .copied()
-        .find(|keyword| is_word_of(*keyword, word))
-}
-
-fn is_word_of(keyword: Keyword, word: &[u8]) -> bool
-    ensures { result ≡ str_eq_ignore_ascii_case word.now (keyword_word keyword) }
-{
-    word.eq_ignore_ascii_case(keyword.word().as_bytes())
+    find_any_case(&ALL_KEYWORDS, word)
 }
