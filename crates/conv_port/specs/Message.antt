@@ -19,7 +19,7 @@ pub record IsExchange (messages : List Message) : Type 0 where
   pub few : length messages ≤ 32
   pub short : AllByRecursion (λ (m : Message). length m.text ≤ 512) messages
 
--- a reply to a message: at most 512 bytes, and the empty text if it is no prompt
+-- a reply to a message: at most 512 bytes, and the empty text if it isn't a prompt
 pub record IsReply (m : Message) (r : Reply) : Type 0 where
   pub short : length r.text ≤ 512
   pub silent : is_prompt m.style ≡ false → r.text ≡ []

@@ -41,7 +41,7 @@ has_lines [] bytes = true
 has_lines (m ∷ ms) bytes = if is_prompt m.style then nat_lt 0 (length bytes)
     && has_lines ms (behind_line bytes) else has_lines ms bytes
 
--- the text of a message as it is shown: one that is no prompt ends its line
+-- the text of a message as it is shown: one that isn't a prompt ends its line
 abbrev pub shown : Message → List ℕ
 shown m = if is_prompt m.style then m.text else m.text ++ 10 ∷ []
 

@@ -45,7 +45,7 @@ pub trait Conv: Drop {
     ghost conv_deferrals: { Self → ℕ };
 
     /// One exchange, of 1 to 32 messages of at most 512 bytes each. It gives one reply for each message, of at most 512
-    /// bytes, and the empty one for a message that is no prompt. Gone is returned only if the count of faults rose,
+    /// bytes, and the empty one for a message that isn't a prompt. Gone is returned only if the count of faults rose,
     /// Again only if a message is a prompt and the count of deferrals rose, and neither count rises otherwise. The
     /// result of a modelled conversation depends only on its content, and the messages are added to what was passed to
     /// it, whatever it returns, unless memory runs out; then its content stays.

@@ -3,14 +3,17 @@
 #![tactic(auto)]
 
 mod conv;
+mod input;
 pub mod laws;
 mod message;
 mod offer;
+mod queue;
 mod queue_conv;
 mod term_conv;
 mod wire_conv;
 
 pub use conv::{Conv, ConvFault, offer_to, talk_with};
+pub use input::next_byte;
 pub use message::{Message, Messages, Replies, Reply};
 pub use offer::Offer;
 pub use queue_conv::QueueConv;

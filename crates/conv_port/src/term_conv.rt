@@ -8,6 +8,7 @@ ghost use Rattle.conv_port.specs.Terminal.{Types, TypesLine, all_shown, shown};
 
 use crate::conv::{Conv, ConvFault};
 use crate::message::{Message, Messages, Replies, Reply};
+use crate::input::next_byte;
 use pam_base::{MAX_TEXT, NoMemory, Text};
 use std::alloc::Global;
 use std::io::{Read, Write};
@@ -53,7 +54,7 @@ impl<R: Read + Drop, W: Write + Drop> Conv for TermConv<R, W> {
 
     ghost conv_deferrals = { λ t. 0 };
 
-    /// Shows each text, followed by a newline if it is no prompt, and reads the reply to each prompt before the next
+    /// Shows each text, followed by a newline if it isn't a prompt, and reads the reply to each prompt before the next
     /// text: the bytes before the next newline; after 512 bytes without one these bytes, and what follows them is left
     /// for the next prompt; at the end of input what was read. It reads byte by byte, and no further. An error of the
     /// reader or the writer, or the end of input before any byte of a reply, is Gone; what was shown and read so far
@@ -197,10 +198,5 @@ fn read_byte<R: Read>(reader: &mut R) -> Result<Option<u8>, ConvFault>
         × IsAtEnd (R.remaining reader.new))
         (λ b. Consumes (R.remaining reader.old) (R.remaining reader.new) (b ∷ []))) }
 {
-    let mut byte = [0u8; 1];
-    match reader.read(&mut byte) {
-        Ok(0) => Ok(None),
-        Ok(_) => Ok(Some(byte[0])),
-        Err(_) => Err(ConvFault::Gone),
-    }
+    next_byte(reader).map_err(|_| ConvFault::Gone)
 }

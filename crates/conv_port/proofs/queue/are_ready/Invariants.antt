@@ -1,6 +1,6 @@
 use Rattle.std.proofs.Common.{◌≡◌, ◌+◌, ◌-◌, ◌≤◌, length, drop}
 use Rattle.conv_port.specs.Conv.{ready_replies}
-use Rattle.conv_port.proofs.queue_conv.are_ready.Given as goal
+use Rattle.conv_port.proofs.queue.are_ready.Given as goal
 
 abbrev pub invariant-loop-ready : goal.invariant-loop-ready
 invariant-loop-ready l = record {

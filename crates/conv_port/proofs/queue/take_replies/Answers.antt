@@ -1,6 +1,6 @@
 use Rattle.std.proofs.Common.{rules, arith}
 use Rattle.conv_port.proofs.Taking.{one_more, next_of}
-use Rattle.conv_port.proofs.queue_conv.take_replies.Goals as goal
+use Rattle.conv_port.proofs.queue.take_replies.Goals as goal
 
 pub loop-message-preserved : goal.loop-message-preserved
 loop-message-preserved c =

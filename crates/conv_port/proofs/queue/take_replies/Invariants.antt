@@ -1,7 +1,7 @@
 use Rattle.std.proofs.Common.{◌≡◌, ◌≤◌, length, drop}
 use Rattle.std.specs.Vec.{vec_len, vec_capacity}
 use Rattle.conv_port.proofs.Taking.{IsTaking}
-use Rattle.conv_port.proofs.queue_conv.take_replies.Given as goal
+use Rattle.conv_port.proofs.queue.take_replies.Given as goal
 
 abbrev pub invariant-loop-message : goal.invariant-loop-message
 invariant-loop-message l = record {

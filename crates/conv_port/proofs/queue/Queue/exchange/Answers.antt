@@ -1,6 +1,6 @@
 use Rattle.std.proofs.Common.{◌∙◌}
 use Rattle.conv_port.proofs.Fitting.{replies_fit}
-use Rattle.conv_port.proofs.queue_conv.QueueConvConv.talk.Goals as goal
+use Rattle.conv_port.proofs.queue.Queue.exchange.Goals as goal
 
-pub returns-then-are_ready-clause-replies : goal.returns-then-are_ready-clause-replies
-returns-then-are_ready-clause-replies c = replies_fit c.self.inside.offers.items _ _ c.self.invariant (c.from_vec.ensures ∙ (rw c.items-then-are_ready.ensures at c.in_ok-replies.ensures.replies))
+pub returns-then-are_ready-clause-fit : goal.returns-then-are_ready-clause-fit
+returns-then-are_ready-clause-fit c = replies_fit c.self.inside.offers.items _ _ c.self.invariant (c.from_vec.ensures ∙ (rw c.items-then-are_ready.ensures at c.in_ok-replies.ensures.replies))
