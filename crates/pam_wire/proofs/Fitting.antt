@@ -8,8 +8,9 @@ use Rattle.pam_base.specs.declared.call.AppCall.TheVariants as calls
 use Rattle.pam_base.specs.declared.item.ItemName.{ItemName}
 use Rattle.pam_base.specs.Call.{is_fit}
 use Rattle.pam_base.specs.ServiceName.{is_service_name}
-use Rattle.pam_wire.specs.declared.kind.Kind.{Kind}
-use Rattle.pam_wire.specs.declared.kind.Kind.TheVariants as kinds
+use Rattle.pam_base.specs.declared.call.CallName.{CallName}
+use Rattle.pam_base.specs.declared.call.CallName.TheVariants as names
+use Rattle.pam_base.specs.declared.call.Func.TheVariants as funcs
 use Rattle.pam_wire.specs.Read.{number_in, text_in, name_in, value_in, switch_in, item_in, item_of_number, setting_of, setting_in, start_in, list_in, call_in}
 use Rattle.pam_wire.proofs.Rests.{mapped, text-written}
 
@@ -42,20 +43,20 @@ envlist : (rest : List ℕ) (call : AppCall) → list_in rest ≡ Some call → 
 envlist [] call e = subst (λ c. is_fit c ≡ true) (same_Some calls.EnvList call e) refl
 envlist (b ∷ bs) call e = absurd cc
 
-pub call_fits : (kind : Kind) (rest : List ℕ) (call : AppCall) → call_in kind rest ≡ Some call → is_fit call ≡ true
-call_fits kinds.Start rest call e = start rest call e
-call_fits kinds.End rest call e = made calls.End (λ x. refl) (number_in rest) call e
-call_fits kinds.Authenticate rest call e = made calls.Authenticate (λ x. refl) (number_in rest) call e
-call_fits kinds.SetCred rest call e = made calls.SetCred (λ x. refl) (number_in rest) call e
-call_fits kinds.AcctMgmt rest call e = made calls.AcctMgmt (λ x. refl) (number_in rest) call e
-call_fits kinds.OpenSession rest call e = made calls.OpenSession (λ x. refl) (number_in rest) call e
-call_fits kinds.CloseSession rest call e = made calls.CloseSession (λ x. refl) (number_in rest) call e
-call_fits kinds.ChAuthTok rest call e = made calls.ChAuthTok (λ x. refl) (number_in rest) call e
-call_fits kinds.SetItem rest call e = setting rest call e
-call_fits kinds.GetItem rest call e = made calls.GetItem (λ x. refl) (item_in rest) call e
-call_fits kinds.PutEnv rest call e = made calls.PutEnv (λ x. refl) (text_in rest) call e
-call_fits kinds.GetEnv rest call e = made calls.GetEnv (λ x. refl) (name_in rest) call e
-call_fits kinds.EnvList rest call e = envlist rest call e
-call_fits kinds.FailDelay rest call e = made calls.FailDelay (λ x. refl) (number_in rest) call e
-call_fits kinds.DelayFn rest call e = made calls.DelayFn (λ x. refl) (switch_in rest) call e
-call_fits kinds.Reply rest call e = reply rest call e
+pub call_fits : (kind : CallName) (rest : List ℕ) (call : AppCall) → call_in kind rest ≡ Some call → is_fit call ≡ true
+call_fits names.Start rest call e = start rest call e
+call_fits names.End rest call e = made calls.End (λ x. refl) (number_in rest) call e
+call_fits (names.Run funcs.Authenticate) rest call e = made calls.Authenticate (λ x. refl) (number_in rest) call e
+call_fits (names.Run funcs.SetCred) rest call e = made calls.SetCred (λ x. refl) (number_in rest) call e
+call_fits (names.Run funcs.AcctMgmt) rest call e = made calls.AcctMgmt (λ x. refl) (number_in rest) call e
+call_fits (names.Run funcs.OpenSession) rest call e = made calls.OpenSession (λ x. refl) (number_in rest) call e
+call_fits (names.Run funcs.CloseSession) rest call e = made calls.CloseSession (λ x. refl) (number_in rest) call e
+call_fits (names.Run funcs.ChAuthTok) rest call e = made calls.ChAuthTok (λ x. refl) (number_in rest) call e
+call_fits names.SetItem rest call e = setting rest call e
+call_fits names.GetItem rest call e = made calls.GetItem (λ x. refl) (item_in rest) call e
+call_fits names.PutEnv rest call e = made calls.PutEnv (λ x. refl) (text_in rest) call e
+call_fits names.GetEnv rest call e = made calls.GetEnv (λ x. refl) (name_in rest) call e
+call_fits names.EnvList rest call e = envlist rest call e
+call_fits names.FailDelay rest call e = made calls.FailDelay (λ x. refl) (number_in rest) call e
+call_fits names.DelayFn rest call e = made calls.DelayFn (λ x. refl) (switch_in rest) call e
+call_fits names.Reply rest call e = reply rest call e

@@ -15,11 +15,12 @@ use Rattle.pam_base.specs.declared.call.Step.{Step}
 use Rattle.pam_base.specs.ServiceName.{is_name_byte, is_service_name}
 use Rattle.pam_wire.specs.declared.front.FirstFrame.{FirstFrame}
 use Rattle.pam_wire.specs.declared.front.FirstFrame.TheVariants.{Open, OutOfRange, Whole}
-use Rattle.pam_wire.specs.declared.kind.Kind.{Kind}
+use Rattle.pam_base.specs.declared.call.CallName.{CallName}
 use Rattle.pam_wire.specs.declared.next.Next.{Next}
 use Rattle.pam_wire.specs.declared.next.Next.TheVariants as next
 use Rattle.pam_wire.specs.Frame.{AreBytes, value_bytes, rest_of, is_value, is_sound, has_frame, body_of, sized, frame_of}
-use Rattle.pam_wire.specs.Kind.{kind_of_call, kind_of_number}
+use Rattle.pam_base.specs.Call.{name_of_call}
+use Rattle.pam_wire.specs.Kind.{call_of_number}
 use Rattle.pam_wire.specs.Read.{call_of_kind, step_with, step_in, front_by, front_of}
 use Rattle.pam_wire.specs.Stream.{next_in, next_by, next_of, IsBody}
 use Rattle.pam_wire.proofs.Rests.{mapped, call-written, call-read, kind-read, kind_number-read}
@@ -29,13 +30,13 @@ use Rattle.pam_wire.proofs.Rests.{mapped, call-written, call-read, kind-read, ki
 pub step-read : (step : Step) → has_frame step ≡ true → step_in (body_of step) ≡ Some step
 step-read step e =
     let both = and_parts (nat_le step.number 255) (is_sound step.call) e in
-    rw (kind-read (kind_of_call step.call), call-read step.call both.1) refl
+    rw (kind-read (name_of_call step.call), call-read step.call both.1) refl
 
 record IsBodyOf (body : List ℕ) (step : Step) : Type 0 where
   body_is : body ≡ body_of step
   within : has_frame step ≡ true
 
-step_by_kind : (number kind : ℕ) (rest : List ℕ) (o : Option Kind) (step : Step) → number < 256 → AreBytes rest → kind_of_number kind ≡ o
+step_by_kind : (number kind : ℕ) (rest : List ℕ) (o : Option CallName) (step : Step) → number < 256 → AreBytes rest → call_of_number kind ≡ o
     → option_map (step_with number) (call_of_kind o rest) ≡ Some step → IsBodyOf (number ∷ kind ∷ rest) step
 step_by_kind number kind rest None step few all h e = absurd cc
 step_by_kind number kind rest (Some k) step few all h e =
@@ -52,7 +53,7 @@ step-written [] step all e = absurd cc
 step-written (b ∷ []) step all e = absurd cc
 step-written (number ∷ kind ∷ rest) step all e =
     let behind = All-tail (λ b. b < 256) number (kind ∷ rest) all in
-    step_by_kind number kind rest (kind_of_number kind) step (All-head (λ b. b < 256) number (kind ∷ rest) all) (All-tail (λ b. b < 256) kind rest behind) refl e
+    step_by_kind number kind rest (call_of_number kind) step (All-head (λ b. b < 256) number (kind ∷ rest) all) (All-tail (λ b. b < 256) kind rest behind) refl e
 
 -- ---- how long it is
 

@@ -15,10 +15,12 @@ use Rattle.pam_base.specs.declared.item.ItemName.{ItemName}
 use Rattle.pam_base.specs.declared.item.ItemName.TheVariants as items
 use Rattle.pam_base.specs.Item.{item_number, all_items}
 use Rattle.pam_base.specs.ServiceName.{is_service_name}
-use Rattle.pam_wire.specs.declared.kind.Kind.{Kind}
-use Rattle.pam_wire.specs.declared.kind.Kind.TheVariants as kinds
+use Rattle.pam_base.specs.declared.call.CallName.{CallName}
+use Rattle.pam_base.specs.declared.call.CallName.TheVariants as names
+use Rattle.pam_base.specs.declared.call.Func.TheVariants as funcs
 use Rattle.pam_wire.specs.Frame.{AreBytes, number_bytes, value_bytes, switch_bytes, rest_of, is_number, is_text, is_value, is_name, is_sound}
-use Rattle.pam_wire.specs.Kind.{kind_of_call, kind_of_number, number_of, all_kinds}
+use Rattle.pam_base.specs.Call.{all_calls, name_of_call}
+use Rattle.pam_wire.specs.Kind.{call_of_number, number_of}
 use Rattle.pam_wire.specs.Read.{number_in, text_in, name_in, no_text, value_in, switch_in, item_in, item_of_number, setting_of, setting_in, start_in, list_in, call_in}
 
 -- ---- in general
@@ -151,34 +153,34 @@ item-written (b ∷ c ∷ rest) item e = absurd cc
 
 -- ---- the call of a kind
 
-pub record IsCallOf (kind : Kind) (rest : List ℕ) (call : AppCall) : Type 0 where
-  pub kind_is : kind_of_call call ≡ kind
+pub record IsCallOf (kind : CallName) (rest : List ℕ) (call : AppCall) : Type 0 where
+  pub kind_is : name_of_call call ≡ kind
   pub bytes : rest_of call ≡ rest
   pub within : is_sound call ≡ true
 
-number_call : (f : ℕ → AppCall) (kind : Kind) → ((rest : List ℕ) (n : ℕ) → IsNumberOf rest n → IsCallOf kind rest (f n)) → (rest : List ℕ) (call : AppCall) → AreBytes rest
+number_call : (f : ℕ → AppCall) (kind : CallName) → ((rest : List ℕ) (n : ℕ) → IsNumberOf rest n → IsCallOf kind rest (f n)) → (rest : List ℕ) (call : AppCall) → AreBytes rest
     → option_map f (number_in rest) ≡ Some call → IsCallOf kind rest call
 number_call f kind made rest call all e =
     let m = mapped f (number_in rest) call e in
     subst (λ c. IsCallOf kind rest c) m.2 (made rest m.0 (number-written rest m.0 all m.1))
 
-text_call : (f : List ℕ → AppCall) (kind : Kind) → ((rest : List ℕ) → is_text rest ≡ true → IsCallOf kind rest (f rest)) → (rest : List ℕ) (call : AppCall)
+text_call : (f : List ℕ → AppCall) (kind : CallName) → ((rest : List ℕ) → is_text rest ≡ true → IsCallOf kind rest (f rest)) → (rest : List ℕ) (call : AppCall)
     → option_map f (text_in rest) ≡ Some call → IsCallOf kind rest call
 text_call f kind made rest call e =
     let m = mapped f (text_in rest) call e in
     let t = text-written rest m.0 m.1 in
     subst (λ c. IsCallOf kind rest c) (ap f (sym t.0) ∙ m.2) (made rest (subst (λ z. is_text z ≡ true) t.0 t.1))
 
-setting_by : (b : ℕ) (more : List ℕ) (o : Option ItemName) (call : AppCall) → item_of_number b ≡ o → setting_of o more ≡ Some call → IsCallOf kinds.SetItem (b ∷ more) call
+setting_by : (b : ℕ) (more : List ℕ) (o : Option ItemName) (call : AppCall) → item_of_number b ≡ o → setting_of o more ≡ Some call → IsCallOf names.SetItem (b ∷ more) call
 setting_by b more None call h e = absurd cc
 setting_by b more (Some item) call h e =
     let m = mapped (calls.SetItem item) (value_in more) call e in
     let v = value-written more m.0 m.1 in
     let n = item_number-read b item h in
-    subst (λ c. IsCallOf kinds.SetItem (b ∷ more) c) m.2 (record { kind_is = refl; bytes = rw (n, v.bytes) refl; within = v.within })
+    subst (λ c. IsCallOf names.SetItem (b ∷ more) c) m.2 (record { kind_is = refl; bytes = rw (n, v.bytes) refl; within = v.within })
 
 start_made : (size : ℕ) (more : List ℕ) (user : Option (List ℕ)) → nat_le size (length more) ≡ true → is_service_name (take size more) ≡ true → IsValueOf (drop size more) user
-    → IsCallOf kinds.Start (size ∷ more) (calls.Start (take size more) user)
+    → IsCallOf names.Start (size ∷ more) (calls.Start (take size more) user)
 start_made size more user fits named v = record {
   kind_is = refl;
   bytes = rw (length-take-le size more (leb-true size (length more) fits), v.bytes, take-append-drop size more) refl;
@@ -186,58 +188,58 @@ start_made size more user fits named v = record {
 }
 
 start_by : (size : ℕ) (more : List ℕ) (call : AppCall) (t : Bool) → (nat_le size (length more) && is_service_name (take size more)) ≡ t
-    → cond t (option_map (calls.Start (take size more)) (value_in (drop size more))) None ≡ Some call → IsCallOf kinds.Start (size ∷ more) call
+    → cond t (option_map (calls.Start (take size more)) (value_in (drop size more))) None ≡ Some call → IsCallOf names.Start (size ∷ more) call
 start_by size more call true h e =
     let both = and_parts (nat_le size (length more)) (is_service_name (take size more)) h in
     let m = mapped (calls.Start (take size more)) (value_in (drop size more)) call e in
-    subst (λ c. IsCallOf kinds.Start (size ∷ more) c) m.2 (start_made size more m.0 both.0 both.1 (value-written (drop size more) m.0 m.1))
+    subst (λ c. IsCallOf names.Start (size ∷ more) c) m.2 (start_made size more m.0 both.0 both.1 (value-written (drop size more) m.0 m.1))
 start_by size more call false h e = absurd cc
 
-start_call : (rest : List ℕ) (call : AppCall) → start_in rest ≡ Some call → IsCallOf kinds.Start rest call
+start_call : (rest : List ℕ) (call : AppCall) → start_in rest ≡ Some call → IsCallOf names.Start rest call
 start_call [] call e = absurd cc
 start_call (size ∷ more) call e = start_by size more call _ refl e
 
-setting_call : (rest : List ℕ) (call : AppCall) → setting_in rest ≡ Some call → IsCallOf kinds.SetItem rest call
+setting_call : (rest : List ℕ) (call : AppCall) → setting_in rest ≡ Some call → IsCallOf names.SetItem rest call
 setting_call [] call e = absurd cc
 setting_call (b ∷ more) call e = setting_by b more (item_of_number b) call refl e
 
-list_call : (rest : List ℕ) (call : AppCall) → list_in rest ≡ Some call → IsCallOf kinds.EnvList rest call
-list_call [] call e = subst (λ c. IsCallOf kinds.EnvList [] c) (same_Some calls.EnvList call e) (record { kind_is = refl; bytes = refl; within = refl })
+list_call : (rest : List ℕ) (call : AppCall) → list_in rest ≡ Some call → IsCallOf names.EnvList rest call
+list_call [] call e = subst (λ c. IsCallOf names.EnvList [] c) (same_Some calls.EnvList call e) (record { kind_is = refl; bytes = refl; within = refl })
 list_call (b ∷ bs) call e = absurd cc
 
-get_call : (rest : List ℕ) (call : AppCall) → option_map calls.GetItem (item_in rest) ≡ Some call → IsCallOf kinds.GetItem rest call
+get_call : (rest : List ℕ) (call : AppCall) → option_map calls.GetItem (item_in rest) ≡ Some call → IsCallOf names.GetItem rest call
 get_call rest call e =
     let m = mapped calls.GetItem (item_in rest) call e in
-    subst (λ c. IsCallOf kinds.GetItem rest c) m.2 (record { kind_is = refl; bytes = item-written rest m.0 m.1; within = refl })
+    subst (λ c. IsCallOf names.GetItem rest c) m.2 (record { kind_is = refl; bytes = item-written rest m.0 m.1; within = refl })
 
-switch_call : (rest : List ℕ) (call : AppCall) → option_map calls.DelayFn (switch_in rest) ≡ Some call → IsCallOf kinds.DelayFn rest call
+switch_call : (rest : List ℕ) (call : AppCall) → option_map calls.DelayFn (switch_in rest) ≡ Some call → IsCallOf names.DelayFn rest call
 switch_call rest call e =
     let m = mapped calls.DelayFn (switch_in rest) call e in
-    subst (λ c. IsCallOf kinds.DelayFn rest c) m.2 (record { kind_is = refl; bytes = switch-written rest m.0 m.1; within = refl })
+    subst (λ c. IsCallOf names.DelayFn rest c) m.2 (record { kind_is = refl; bytes = switch-written rest m.0 m.1; within = refl })
 
-name_call : (rest : List ℕ) (call : AppCall) → option_map calls.GetEnv (name_in rest) ≡ Some call → IsCallOf kinds.GetEnv rest call
+name_call : (rest : List ℕ) (call : AppCall) → option_map calls.GetEnv (name_in rest) ≡ Some call → IsCallOf names.GetEnv rest call
 name_call rest call e =
     let m = mapped calls.GetEnv (name_in rest) call e in
     let t = name-written rest m.0 m.1 in
-    subst (λ c. IsCallOf kinds.GetEnv rest c) m.2 (record { kind_is = refl; bytes = t.0; within = t.1 })
+    subst (λ c. IsCallOf names.GetEnv rest c) m.2 (record { kind_is = refl; bytes = t.0; within = t.1 })
 
-pub call-written : (kind : Kind) (rest : List ℕ) (call : AppCall) → AreBytes rest → call_in kind rest ≡ Some call → IsCallOf kind rest call
-call-written kinds.Start rest call all e = start_call rest call e
-call-written kinds.End rest call all e = number_call calls.End kinds.End (λ r n i. record { kind_is = refl; bytes = i.bytes; within = i.within }) rest call all e
-call-written kinds.Authenticate rest call all e = number_call calls.Authenticate kinds.Authenticate (λ r n i. record { kind_is = refl; bytes = i.bytes; within = i.within }) rest call all e
-call-written kinds.SetCred rest call all e = number_call calls.SetCred kinds.SetCred (λ r n i. record { kind_is = refl; bytes = i.bytes; within = i.within }) rest call all e
-call-written kinds.AcctMgmt rest call all e = number_call calls.AcctMgmt kinds.AcctMgmt (λ r n i. record { kind_is = refl; bytes = i.bytes; within = i.within }) rest call all e
-call-written kinds.OpenSession rest call all e = number_call calls.OpenSession kinds.OpenSession (λ r n i. record { kind_is = refl; bytes = i.bytes; within = i.within }) rest call all e
-call-written kinds.CloseSession rest call all e = number_call calls.CloseSession kinds.CloseSession (λ r n i. record { kind_is = refl; bytes = i.bytes; within = i.within }) rest call all e
-call-written kinds.ChAuthTok rest call all e = number_call calls.ChAuthTok kinds.ChAuthTok (λ r n i. record { kind_is = refl; bytes = i.bytes; within = i.within }) rest call all e
-call-written kinds.SetItem rest call all e = setting_call rest call e
-call-written kinds.GetItem rest call all e = get_call rest call e
-call-written kinds.PutEnv rest call all e = text_call calls.PutEnv kinds.PutEnv (λ r h. record { kind_is = refl; bytes = refl; within = h }) rest call e
-call-written kinds.GetEnv rest call all e = name_call rest call e
-call-written kinds.EnvList rest call all e = list_call rest call e
-call-written kinds.FailDelay rest call all e = number_call calls.FailDelay kinds.FailDelay (λ r n i. record { kind_is = refl; bytes = i.bytes; within = i.within }) rest call all e
-call-written kinds.DelayFn rest call all e = switch_call rest call e
-call-written kinds.Reply rest call all e = text_call calls.Reply kinds.Reply (λ r h. record { kind_is = refl; bytes = refl; within = h }) rest call e
+pub call-written : (kind : CallName) (rest : List ℕ) (call : AppCall) → AreBytes rest → call_in kind rest ≡ Some call → IsCallOf kind rest call
+call-written names.Start rest call all e = start_call rest call e
+call-written names.End rest call all e = number_call calls.End names.End (λ r n i. record { kind_is = refl; bytes = i.bytes; within = i.within }) rest call all e
+call-written (names.Run funcs.Authenticate) rest call all e = number_call calls.Authenticate (names.Run funcs.Authenticate) (λ r n i. record { kind_is = refl; bytes = i.bytes; within = i.within }) rest call all e
+call-written (names.Run funcs.SetCred) rest call all e = number_call calls.SetCred (names.Run funcs.SetCred) (λ r n i. record { kind_is = refl; bytes = i.bytes; within = i.within }) rest call all e
+call-written (names.Run funcs.AcctMgmt) rest call all e = number_call calls.AcctMgmt (names.Run funcs.AcctMgmt) (λ r n i. record { kind_is = refl; bytes = i.bytes; within = i.within }) rest call all e
+call-written (names.Run funcs.OpenSession) rest call all e = number_call calls.OpenSession (names.Run funcs.OpenSession) (λ r n i. record { kind_is = refl; bytes = i.bytes; within = i.within }) rest call all e
+call-written (names.Run funcs.CloseSession) rest call all e = number_call calls.CloseSession (names.Run funcs.CloseSession) (λ r n i. record { kind_is = refl; bytes = i.bytes; within = i.within }) rest call all e
+call-written (names.Run funcs.ChAuthTok) rest call all e = number_call calls.ChAuthTok (names.Run funcs.ChAuthTok) (λ r n i. record { kind_is = refl; bytes = i.bytes; within = i.within }) rest call all e
+call-written names.SetItem rest call all e = setting_call rest call e
+call-written names.GetItem rest call all e = get_call rest call e
+call-written names.PutEnv rest call all e = text_call calls.PutEnv names.PutEnv (λ r h. record { kind_is = refl; bytes = refl; within = h }) rest call e
+call-written names.GetEnv rest call all e = name_call rest call e
+call-written names.EnvList rest call all e = list_call rest call e
+call-written names.FailDelay rest call all e = number_call calls.FailDelay names.FailDelay (λ r n i. record { kind_is = refl; bytes = i.bytes; within = i.within }) rest call all e
+call-written names.DelayFn rest call all e = switch_call rest call e
+call-written names.Reply rest call all e = text_call calls.Reply names.Reply (λ r h. record { kind_is = refl; bytes = refl; within = h }) rest call e
 
 -- ---- and a call that was written is read
 
@@ -247,7 +249,7 @@ start-read service user e =
     let fits : nat_le (length service) (length (service ++ value_bytes user)) ≡ true = le-leb _ _ (omega (arith, length-append service (value_bytes user))) in
     rw (fits, take-append_seam service (value_bytes user), both.0, drop-append_seam service (value_bytes user), value-read user both.1) refl
 
-pub call-read : (call : AppCall) → is_sound call ≡ true → call_in (kind_of_call call) (rest_of call) ≡ Some call
+pub call-read : (call : AppCall) → is_sound call ≡ true → call_in (name_of_call call) (rest_of call) ≡ Some call
 call-read (calls.Start service user) e = start-read service user e
 call-read (calls.End status) e = ap (option_map calls.End) (number-read status e)
 call-read (calls.Authenticate flags) e = ap (option_map calls.Authenticate) (number-read flags e)
@@ -268,23 +270,23 @@ call-read (calls.Reply text) e = rw e refl
 
 -- ---- kinds
 
-pub kind-read : (kind : Kind) → kind_of_number (number_of kind) ≡ Some kind
-kind-read kinds.Start = refl
-kind-read kinds.End = refl
-kind-read kinds.Authenticate = refl
-kind-read kinds.SetCred = refl
-kind-read kinds.AcctMgmt = refl
-kind-read kinds.OpenSession = refl
-kind-read kinds.CloseSession = refl
-kind-read kinds.ChAuthTok = refl
-kind-read kinds.SetItem = refl
-kind-read kinds.GetItem = refl
-kind-read kinds.PutEnv = refl
-kind-read kinds.GetEnv = refl
-kind-read kinds.EnvList = refl
-kind-read kinds.FailDelay = refl
-kind-read kinds.DelayFn = refl
-kind-read kinds.Reply = refl
+pub kind-read : (kind : CallName) → call_of_number (number_of kind) ≡ Some kind
+kind-read names.Start = refl
+kind-read names.End = refl
+kind-read (names.Run funcs.Authenticate) = refl
+kind-read (names.Run funcs.SetCred) = refl
+kind-read (names.Run funcs.AcctMgmt) = refl
+kind-read (names.Run funcs.OpenSession) = refl
+kind-read (names.Run funcs.CloseSession) = refl
+kind-read (names.Run funcs.ChAuthTok) = refl
+kind-read names.SetItem = refl
+kind-read names.GetItem = refl
+kind-read names.PutEnv = refl
+kind-read names.GetEnv = refl
+kind-read names.EnvList = refl
+kind-read names.FailDelay = refl
+kind-read names.DelayFn = refl
+kind-read names.Reply = refl
 
-pub kind_number-read : (number : ℕ) (kind : Kind) → kind_of_number number ≡ Some kind → number_of kind ≡ number
-kind_number-read number kind e = eqb-true (number_of kind) number (found (λ kind. eqb (number_of kind) number) all_kinds kind e)
+pub kind_number-read : (number : ℕ) (kind : CallName) → call_of_number number ≡ Some kind → number_of kind ≡ number
+kind_number-read number kind e = eqb-true (number_of kind) number (found (λ kind. eqb (number_of kind) number) all_calls kind e)

@@ -8,7 +8,8 @@ use Rattle.pam_base.specs.declared.call.AppCall.TheVariants as calls
 use Rattle.pam_base.specs.declared.call.Step.{Step}
 use Rattle.pam_base.specs.Item.{item_number}
 use Rattle.pam_base.specs.ServiceName.{is_service_name}
-use Rattle.pam_wire.specs.Kind.{number_of, kind_of_call}
+use Rattle.pam_base.specs.Call.{name_of_call}
+use Rattle.pam_wire.specs.Kind.{number_of}
 
 -- ---- what follows a kind
 
@@ -85,7 +86,7 @@ has_frame step = nat_le step.number 255 && is_sound step.call
 
 -- what follows its length
 abbrev pub body_of : Step → List ℕ
-body_of step = step.number ∷ number_of (kind_of_call step.call) ∷ rest_of step.call
+body_of step = step.number ∷ number_of (name_of_call step.call) ∷ rest_of step.call
 
 abbrev pub sized : List ℕ → List ℕ
 sized body = to_be_bytes w16 (length body) ++ body

@@ -8,12 +8,13 @@ use Rattle.pam_base.specs.declared.call.Step.{Step}
 use Rattle.pam_base.specs.declared.item.ItemName.{ItemName}
 use Rattle.pam_base.specs.Item.{item_number, all_items}
 use Rattle.pam_base.specs.ServiceName.{is_service_name}
-use Rattle.pam_wire.specs.declared.kind.Kind.{Kind}
-use Rattle.pam_wire.specs.declared.kind.Kind.TheVariants as kinds
+use Rattle.pam_base.specs.declared.call.CallName.{CallName}
+use Rattle.pam_base.specs.declared.call.CallName.TheVariants as names
+use Rattle.pam_base.specs.Call.{stack_call}
 use Rattle.pam_wire.specs.declared.front.FirstFrame.{FirstFrame}
 use Rattle.pam_wire.specs.declared.front.FirstFrame.TheVariants.{Open, OutOfRange, Whole}
 use Rattle.pam_wire.specs.Frame.{is_text, is_name}
-use Rattle.pam_wire.specs.Kind.{kind_of_number}
+use Rattle.pam_wire.specs.Kind.{call_of_number}
 
 -- ---- what follows a kind
 
@@ -66,25 +67,20 @@ list_in [] = Some calls.EnvList
 list_in (b ∷ bs) = None
 
 -- the call of a kind
-abbrev pub call_in : Kind → List ℕ → Option AppCall
-call_in kinds.Start rest = start_in rest
-call_in kinds.End rest = option_map calls.End (number_in rest)
-call_in kinds.Authenticate rest = option_map calls.Authenticate (number_in rest)
-call_in kinds.SetCred rest = option_map calls.SetCred (number_in rest)
-call_in kinds.AcctMgmt rest = option_map calls.AcctMgmt (number_in rest)
-call_in kinds.OpenSession rest = option_map calls.OpenSession (number_in rest)
-call_in kinds.CloseSession rest = option_map calls.CloseSession (number_in rest)
-call_in kinds.ChAuthTok rest = option_map calls.ChAuthTok (number_in rest)
-call_in kinds.SetItem rest = setting_in rest
-call_in kinds.GetItem rest = option_map calls.GetItem (item_in rest)
-call_in kinds.PutEnv rest = option_map calls.PutEnv (text_in rest)
-call_in kinds.GetEnv rest = option_map calls.GetEnv (name_in rest)
-call_in kinds.EnvList rest = list_in rest
-call_in kinds.FailDelay rest = option_map calls.FailDelay (number_in rest)
-call_in kinds.DelayFn rest = option_map calls.DelayFn (switch_in rest)
-call_in kinds.Reply rest = option_map calls.Reply (text_in rest)
+abbrev pub call_in : CallName → List ℕ → Option AppCall
+call_in names.Start rest = start_in rest
+call_in names.End rest = option_map calls.End (number_in rest)
+call_in (names.Run func) rest = option_map (stack_call func) (number_in rest)
+call_in names.SetItem rest = setting_in rest
+call_in names.GetItem rest = option_map calls.GetItem (item_in rest)
+call_in names.PutEnv rest = option_map calls.PutEnv (text_in rest)
+call_in names.GetEnv rest = option_map calls.GetEnv (name_in rest)
+call_in names.EnvList rest = list_in rest
+call_in names.FailDelay rest = option_map calls.FailDelay (number_in rest)
+call_in names.DelayFn rest = option_map calls.DelayFn (switch_in rest)
+call_in names.Reply rest = option_map calls.Reply (text_in rest)
 
-abbrev pub call_of_kind : Option Kind → List ℕ → Option AppCall
+abbrev pub call_of_kind : Option CallName → List ℕ → Option AppCall
 call_of_kind None rest = None
 call_of_kind (Some kind) rest = call_in kind rest
 
@@ -94,7 +90,7 @@ step_with number call = record { number = number; call = call }
 -- the step of what follows a length
 abbrev pub step_in : List ℕ → Option Step
 step_in (number ∷ kind ∷ rest) =
-    option_map (step_with number) (call_of_kind (kind_of_number kind) rest)
+    option_map (step_with number) (call_of_kind (call_of_number kind) rest)
 step_in body = None
 
 -- ---- how long a frame is

@@ -1,7 +1,7 @@
 ghost use Rattle.std.specs.Prelude.{◌≡◌, ◌++◌, ◌<◌, ◌^◌, length, IfOk, IsTrue, OnOk};
 ghost use Rattle.pam_wire.specs.Frame.{has_frame, frame_of, rest_of, body_of, value_bytes, answer_of, is_sound};
 
-use crate::kind::Kind;
+use crate::kind::number_of;
 use pam_base::{AppCall, NoMemory, Step, Text};
 use std::alloc::Global;
 
@@ -13,7 +13,7 @@ pub fn frame_of(alloc: Global, step: &Step) -> Result<Text, NoMemory>
 {
     let mut body = Vec::new(alloc);
     body.push(step.number as u8)?;
-    body.push(Kind::of_call(&step.call).number())?;
+    body.push(number_of(step.call.name()))?;
     push_rest(&mut body, &step.call)?;
     let mut frame = Vec::new(alloc);
     frame.extend_from_slice(&(body.len() as u16).to_be_bytes())?;

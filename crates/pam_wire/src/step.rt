@@ -3,8 +3,8 @@ ghost use Rattle.pam_base.specs.Call.{is_fit};
 ghost use Rattle.pam_wire.specs.Read.{number_in, text_in, name_in, value_in, switch_in, item_in, item_of_number, setting_in, start_in, list_in, call_in, step_in, step_of};
 
 use crate::front::{FirstFrame, LENGTH, front_of};
-use crate::kind::Kind;
-use pam_base::{ALL_ITEMS, AppCall, ItemName, NoMemory, Step, Text, is_service_name};
+use crate::kind::call_of_number;
+use pam_base::{ALL_ITEMS, AppCall, CallName, ItemName, NoMemory, Step, Text, is_service_name};
 use std::alloc::Global;
 
 /// The maximum length of a text in bytes.
@@ -40,7 +40,7 @@ pub(crate) fn step_in(alloc: Global, body: &[u8]) -> Result<Option<Step>, NoMemo
     let [number, kind, rest @ ..] = body else {
         return Ok(None);
     };
-    let Some(kind) = Kind::numbered(*kind) else {
+    let Some(kind) = call_of_number(*kind) else {
         return Ok(None);
     };
     let number = u32::from(*number);
@@ -50,28 +50,23 @@ pub(crate) fn step_in(alloc: Global, body: &[u8]) -> Result<Option<Step>, NoMemo
     }
 }
 
-fn call_in(alloc: Global, kind: Kind, rest: &[u8]) -> Result<Option<AppCall>, NoMemory>
+fn call_in(alloc: Global, kind: CallName, rest: &[u8]) -> Result<Option<AppCall>, NoMemory>
     ensures call { IfOk result (λ call. call ≡ call_in kind rest.now) }
     ensures memory { OnErr result (is_some (call_in kind rest.now) ≡ true) }
 {
     let number = number_in(rest);
     Ok(match kind {
-        Kind::Start => start_in(alloc, rest)?,
-        Kind::End => number.map(|status| AppCall::End { status }),
-        Kind::Authenticate => number.map(|flags| AppCall::Authenticate { flags }),
-        Kind::SetCred => number.map(|flags| AppCall::SetCred { flags }),
-        Kind::AcctMgmt => number.map(|flags| AppCall::AcctMgmt { flags }),
-        Kind::OpenSession => number.map(|flags| AppCall::OpenSession { flags }),
-        Kind::CloseSession => number.map(|flags| AppCall::CloseSession { flags }),
-        Kind::ChAuthTok => number.map(|flags| AppCall::ChAuthTok { flags }),
-        Kind::SetItem => setting_in(alloc, rest)?,
-        Kind::GetItem => item_in(rest).map(|item| AppCall::GetItem { item }),
-        Kind::PutEnv => text_in(alloc, rest)?.map(|text| AppCall::PutEnv { text }),
-        Kind::GetEnv => name_in(alloc, rest)?.map(|name| AppCall::GetEnv { name }),
-        Kind::EnvList => list_in(rest),
-        Kind::FailDelay => number.map(|micros| AppCall::FailDelay { micros }),
-        Kind::DelayFn => switch_in(rest).map(|on| AppCall::DelayFn { on }),
-        Kind::Reply => text_in(alloc, rest)?.map(|text| AppCall::Reply { text }),
+        CallName::Start => start_in(alloc, rest)?,
+        CallName::End => number.map(|status| AppCall::End { status }),
+        CallName::Run(func) => number.map(|flags| AppCall::stack(func, flags)),
+        CallName::SetItem => setting_in(alloc, rest)?,
+        CallName::GetItem => item_in(rest).map(|item| AppCall::GetItem { item }),
+        CallName::PutEnv => text_in(alloc, rest)?.map(|text| AppCall::PutEnv { text }),
+        CallName::GetEnv => name_in(alloc, rest)?.map(|name| AppCall::GetEnv { name }),
+        CallName::EnvList => list_in(rest),
+        CallName::FailDelay => number.map(|micros| AppCall::FailDelay { micros }),
+        CallName::DelayFn => switch_in(rest).map(|on| AppCall::DelayFn { on }),
+        CallName::Reply => text_in(alloc, rest)?.map(|text| AppCall::Reply { text }),
     })
 }
 

@@ -1,5 +1,5 @@
 use Rattle.std.proofs.Common.{◌≡◌, Some, slice_index_or, sym, ◌∙◌, rules}
-use Rattle.pam_wire.specs.Kind.{kind_of_number}
+use Rattle.pam_wire.specs.Kind.{call_of_number}
 use Rattle.pam_wire.proofs.Fitting.{call_fits}
 use Rattle.pam_wire.proofs.Wanting.{has_step, whichever}
 use Rattle.pam_wire.proofs.step.step_in.Goals as goal
@@ -9,5 +9,5 @@ returns-in-Some-2-clause-fit c = call_fits c.in-Some.kind _ _ (sym c.in_ok-call.
 
 pub returns-in_err-call-clause-memory : goal.returns-in_err-call-clause-memory
 returns-in_err-call-clause-memory c =
-    let kind : kind_of_number (slice_index_or c.args.body.now 1 0) ≡ Some c.in-Some.kind = search rules in
+    let kind : call_of_number (slice_index_or c.args.body.now 1 0) ≡ Some c.in-Some.kind = search rules in
     whichever _ _ (has_step c.args.body.now c.in-Some.kind c.in-len2-up.len_at_least kind c.in_err-call.ensures.memory)
