@@ -4,16 +4,17 @@ use Rattle.std.specs.List.{flat_map, AllByRecursion}
 use Rattle.std.specs.Fmt.{decimal, digits}
 use Rattle.pam_base.specs.declared.code.Code.{Code}
 use Rattle.pam_base.specs.declared.code.Code.TheVariants.{Abort}
+use Rattle.pam_base.specs.declared.call.CallName.{CallName}
+use Rattle.pam_base.specs.declared.call.CallName.TheVariants as names
 use Rattle.pam_base.specs.declared.call.Func.{Func}
 use Rattle.pam_base.specs.declared.style.Style.{Style}
 use Rattle.pam_base.specs.declared.fault.ScriptKind.{ScriptKind}
+use Rattle.pam_base.specs.Call.{call_word}
 use Rattle.pam_base.specs.Code.{number_of, name_of}
 use Rattle.pam_base.specs.Fault.{fault_number, fault_name, script_fault_number, script_fault_name}
 use Rattle.pam_base.specs.Quote.{quoted_text}
 use Rattle.pam_base.specs.Style.{style_number}
-use Rattle.script_lang.specs.Command.{command_of_func, row_of, word_of_func}
-use Rattle.script_lang.specs.declared.command.Command as commands
-use Rattle.script_lang.specs.declared.command.Command.TheVariants as words
+use Rattle.script_lang.specs.Command.{word_of_func}
 use Rattle.service_load.specs.declared.load_fault.LoadFault.{LoadFault}
 use Rattle.stack_walk.specs.Retell.{Seen}
 
@@ -61,22 +62,22 @@ pub data Command : Type 0 where
   switches_delay : Command
   replies : Command
 
--- the same in the script's table of commands
-abbrev pub scripted : Command → commands.Command
-scripted starts = words.Start
-scripted ends = words.End
-scripted (runs func) = command_of_func func
-scripted sets_item = words.SetItem
-scripted gets_item = words.GetItem
-scripted puts_env = words.PutEnv
-scripted gets_env = words.GetEnv
-scripted lists_env = words.EnvList
-scripted asks_delay = words.FailDelay
-scripted switches_delay = words.DelayFn
-scripted replies = words.Reply
+-- the call that a command makes
+abbrev pub call_made : Command → CallName
+call_made starts = names.Start
+call_made ends = names.End
+call_made (runs func) = names.Run func
+call_made sets_item = names.SetItem
+call_made gets_item = names.GetItem
+call_made puts_env = names.PutEnv
+call_made gets_env = names.GetEnv
+call_made lists_env = names.EnvList
+call_made asks_delay = names.FailDelay
+call_made switches_delay = names.DelayFn
+call_made replies = names.Reply
 
 abbrev pub command_word : Command → List ℕ
-command_word command = (row_of (scripted command)).word
+command_word command = call_word (call_made command)
 
 -- of a command, or of a transaction that the program ended
 pub data Result : Type 0 where
@@ -119,17 +120,17 @@ message_text handle style text = decimal handle
     ++ (codes " say " ++ (decimal (style_number style)
     ++ (codes " " ++ (quoted_text text ++ codes "\n"))))
 
--- line PLACE MODULE NAME NUMBER
+-- line RULE MODULE NAME NUMBER
 abbrev pub visit_text : ℕ → Seen → List ℕ
 visit_text handle v = decimal handle
     ++ (codes " line " ++ (number_words v.place
     ++ (codes " " ++ (quoted_text v.name ++ (codes " " ++ (code_words v.answer ++ codes "\n"))))))
 
--- MODULE DATUM
+-- MODULE DATA
 abbrev pub names_text : List ℕ → List ℕ → List ℕ
 names_text owner datum = quoted_text owner ++ (codes " " ++ (quoted_text datum ++ codes "\n"))
 
--- clean ID STATUS NOTE MODULE DATUM
+-- clean ID STATUS NOTE MODULE DATA
 abbrev pub cleanup_text : ℕ → Cleanup → List ℕ
 cleanup_text handle c = decimal handle
     ++ (codes " clean " ++ (number_words c.id

@@ -5,8 +5,7 @@ ghost use Rattle.report_lines.specs.Line.{code_words, number_words, pending_word
 use crate::code::write_code_line;
 use crate::number::write_number;
 use crate::quoted::write_quoted_line;
-use pam_base::{Code, FaultKind, Func, NoMemory, Text, code_name, code_number, push_quoted};
-use script_lang::func_word;
+use pam_base::{Code, FaultKind, Func, NoMemory, Text, Word, code_name, code_number, push_quoted};
 use service_load::LoadFault;
 use std::alloc::AllocError;
 
@@ -99,21 +98,20 @@ pub fn write_value_result(
         ++ words_text handle command.now (value_words value.now)) }
 {
     match value {
-        Some(set) => write_set_result(text, handle, command, set),
+        Some(set) => {
+            write_heading(text, handle, command)?;
+            write_set(text, set)
+        }
         None => write_result(text, handle, command, "unset"),
     }
 }
 
-fn write_set_result(
-    text: &mut String,
-    handle: u32,
-    command: &str,
-    set: &Text,
-) -> Result<(), NoMemory>
+// The end of a line: a value that is set.
+fn write_set(text: &mut String, set: &Text) -> Result<(), NoMemory>
     ensures { OnOk result (string_bytes text.new ≡ string_bytes text.old
-        ++ words_text handle command.now (value_words (Some set.now))) }
+        ++ (value_words (Some set.now) ++ codes "\n")) }
 {
-    write!(text, "{handle} {command} set ")?;
+    text.push_str("set ")?;
     write_quoted_line(text, set.bytes())
 }
 
@@ -129,7 +127,7 @@ pub fn write_pending_result(
 {
     let name = code_name(Code::Abort);
     let number = code_number(Code::Abort);
-    let call = func_word(func);
+    let call = func.word();
     write!(text, "{handle} {command} {name} {number} pending {call}\n")?;
     Ok(())
 }
@@ -163,7 +161,7 @@ fn write_refusal(text: &mut String, file: &[u8], line: u64, kind: FaultKind) -> 
 {
     text.push_str("refused ")?;
     push_quoted(text, file)?;
-    let name = kind.name();
+    let name = kind.word();
     let number = kind.number();
     write!(text, " {line} {name} {number}")?;
     Ok(())

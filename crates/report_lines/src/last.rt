@@ -1,7 +1,7 @@
 ghost use Rattle.std.specs.Prelude.{◌≡◌, IfOk, Some, string_bytes};
 ghost use Rattle.report_lines.specs.Line.{last_text, script_text, unread};
 
-use pam_base::{NoMemory, ScriptKind};
+use pam_base::{NoMemory, ScriptKind, Word};
 use std::alloc::Global;
 
 /// The last line of a run whose script couldn't be read to its end, with its newline.
@@ -23,7 +23,7 @@ pub fn script_line(alloc: Global, line: u32, kind: ScriptKind) -> Result<String,
 pub fn script_fault_line(alloc: Global, line: u64, kind: ScriptKind) -> Result<String, NoMemory>
     ensures { IfOk result (λ text. string_bytes text ≡ script_text line kind) }
 {
-    let name = kind.name();
+    let name = kind.word();
     let number = kind.number();
     Ok(format!(in alloc; "script {line} {name} {number}\n")?)
 }

@@ -23,18 +23,18 @@ pub fn write_said(
     write_quoted_line(text, message)
 }
 
-/// Adds the line of a rule that was run, `H line PLACE MODULE NAME NUMBER`.
+/// Adds the line of a rule that was run, `H line RULE MODULE NAME NUMBER`.
 pub fn write_visited(
     text: &mut String,
     handle: u32,
     place: u32,
-    module: &[u8],
+    name: &[u8],
     answer: Code,
 ) -> Result<(), NoMemory>
     ensures { OnOk result (string_bytes text.new ≡ string_bytes text.old
-        ++ visit_text handle (seen_at place module.now answer)) }
+        ++ visit_text handle (seen_at place name.now answer)) }
 {
-    write_visit(text, handle, u64::from(place), module, answer)
+    write_visit(text, handle, u64::from(place), name, answer)
 }
 
 /// The same, for a rule number of up to 64 bits.
@@ -42,14 +42,14 @@ pub fn write_visit(
     text: &mut String,
     handle: u32,
     place: u64,
-    module: &[u8],
+    name: &[u8],
     answer: Code,
 ) -> Result<(), NoMemory>
     ensures { OnOk result (string_bytes text.new ≡ string_bytes text.old
-        ++ visit_text handle (seen_at place module.now answer)) }
+        ++ visit_text handle (seen_at place name.now answer)) }
 {
     write_place(text, handle, place)?;
-    push_quoted(text, module)?;
+    push_quoted(text, name)?;
     text.push_str(" ")?;
     write_code_line(text, answer)
 }
@@ -65,7 +65,7 @@ fn write_place(text: &mut String, handle: u32, place: u64) -> Result<(), AllocEr
     text.push_str(" ")
 }
 
-/// Adds the line of module data that was cleaned up, `H clean ID STATUS NOTE MODULE DATUM`.
+/// Adds the line of module data that was cleaned up, `H clean ID STATUS NOTE MODULE DATA`.
 pub fn write_cleaned(
     text: &mut String,
     handle: u32,
@@ -160,12 +160,12 @@ pub fn write_wait(
 }
 
 /// Adds the line of a module that is missing, `H note missing MODULE`.
-pub fn write_missing(text: &mut String, handle: u32, module: &[u8]) -> Result<(), NoMemory>
+pub fn write_missing(text: &mut String, handle: u32, name: &[u8]) -> Result<(), NoMemory>
     ensures { OnOk result (string_bytes text.new ≡ string_bytes text.old
-        ++ missing_text handle module.now) }
+        ++ missing_text handle name.now) }
 {
     write!(text, "{handle} note missing ")?;
-    write_quoted_line(text, module)
+    write_quoted_line(text, name)
 }
 
 /// Adds the line of a variable, `H env NAME=VALUE`.

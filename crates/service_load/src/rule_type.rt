@@ -1,6 +1,7 @@
 ghost use Rattle.std.specs.Prelude.{◌≡◌};
-ghost use Rattle.std.specs.Str.{str_eq_ignore_ascii_case};
 ghost use Rattle.service_load.specs.RuleType.{type_of_word, type_word};
+
+use pam_base::{Word, find_any_case};
 
 /// The type of a rule (`pam.conf(5)`; libpam: PAM_T_AUTH, PAM_T_ACCT, PAM_T_PASS, PAM_T_SESS): for
 /// which calls of an application it is.
@@ -20,11 +21,11 @@ pub const ALL_TYPES: [RuleType; 4] = [
     RuleType::Session,
 ];
 
-impl RuleType {
+impl Word for RuleType {
+    ghost spelling = { type_word };
+
     /// Its word, in lower case.
-    pub fn word(self) -> &'static str
-        ensures { result.now ≡ type_word self }
-    {
+    fn word(self) -> &'static str {
         match self {
             RuleType::Auth => "auth",
             RuleType::Account => "account",
@@ -32,20 +33,13 @@ impl RuleType {
             RuleType::Session => "session",
         }
     }
+}
 
+impl RuleType {
     /// The type that a word names, in any case; None if and only if it names none.
     pub fn named(word: &[u8]) -> Option<RuleType>
         ensures { result ≡ type_of_word word.now }
     {
-        ALL_TYPES
-            .iter()
-            .copied()
-            .find(|rule_type| is_word_of(*rule_type, word))
+        find_any_case(&ALL_TYPES, word)
     }
-}
-
-fn is_word_of(rule_type: RuleType, word: &[u8]) -> bool
-    ensures { result ≡ str_eq_ignore_ascii_case word.now (type_word rule_type) }
-{
-    word.eq_ignore_ascii_case(rule_type.word().as_bytes())
 }
