@@ -42,7 +42,7 @@ impl Handle {
             (nap_holds (in_box world.old.nap)) (nap_holds (in_box world.new.nap))) }
         ensures no_nap { OnErr result (world.new.nap ≡ world.old.nap) }
     {
-        self.stack_call(alloc, gear, world, Func::Authenticate, flags)
+        self.call(alloc, gear, world, Func::Authenticate, flags)
     }
 
     /// Sets, deletes or refreshes the user's credentials (`pam_setcred(3)`); the flags 0 mean
@@ -67,7 +67,7 @@ impl Handle {
             result self.old self.new world.old world.new }
         ensures no_nap { OnErr result (world.new.nap ≡ world.old.nap) }
     {
-        self.stack_call(alloc, gear, world, Func::SetCred, flags)
+        self.call(alloc, gear, world, Func::SetCred, flags)
     }
 
     /// Asks whether the account is valid (`pam_acct_mgmt(3)`): one pass over the account stack. Its
@@ -91,7 +91,7 @@ impl Handle {
             result self.old self.new world.old world.new }
         ensures no_nap { OnErr result (world.new.nap ≡ world.old.nap) }
     {
-        self.stack_call(alloc, gear, world, Func::AcctMgmt, flags)
+        self.call(alloc, gear, world, Func::AcctMgmt, flags)
     }
 
     /// Opens a session (`pam_open_session(3)`): one pass over the session stack. Its return codes
@@ -115,7 +115,7 @@ impl Handle {
             result self.old self.new world.old world.new }
         ensures no_nap { OnErr result (world.new.nap ≡ world.old.nap) }
     {
-        self.stack_call(alloc, gear, world, Func::OpenSession, flags)
+        self.call(alloc, gear, world, Func::OpenSession, flags)
     }
 
     /// Closes a session (`pam_close_session(3)`): one pass over the session stack. It uses the
@@ -139,7 +139,7 @@ impl Handle {
             result self.old self.new world.old world.new }
         ensures no_nap { OnErr result (world.new.nap ≡ world.old.nap) }
     {
-        self.stack_call(alloc, gear, world, Func::CloseSession, flags)
+        self.call(alloc, gear, world, Func::CloseSession, flags)
     }
 
     /// Changes the user's token (`pam_chauthtok(3)`): a pass over the password stack with
@@ -166,6 +166,6 @@ impl Handle {
             result self.old self.new world.old world.new }
         ensures no_nap { OnErr result (world.new.nap ≡ world.old.nap) }
     {
-        self.stack_call(alloc, gear, world, Func::ChAuthTok, flags)
+        self.call(alloc, gear, world, Func::ChAuthTok, flags)
     }
 }

@@ -26,8 +26,14 @@ use std::alloc::Global;
 use std::mem;
 
 impl Handle {
-    // A call of one of the six functions that run a stack, begun or resumed.
-    pub(crate) fn stack_call(
+    /// One of the six calls that run a stack, begun or resumed: `pam_authenticate(3)`, `pam_setcred(3)`,
+    /// `pam_acct_mgmt(3)`, `pam_open_session(3)`, `pam_close_session(3)` or `pam_chauthtok(3)`. The
+    /// methods `authenticate` to `chauthtok` say what each of them does.
+    ///
+    /// It returns SYSTEM_ERR for a change of token with flags of its two passes, and otherwise ABORT
+    /// while another call is pending; then nothing changes. If memory runs out, nothing is pending,
+    /// no delay is requested and nothing was waited.
+    pub fn call(
         &mut self,
         alloc: Global,
         gear: &Gear,

@@ -1,7 +1,5 @@
 ghost use Rattle.std.specs.Prelude.{◌≡◌, OnErr};
 ghost use Rattle.pam_handle.specs.Plain.{plain_handle};
-ghost use Rattle.pam_handle.specs.Ready.{IsReadyFor};
-ghost use Rattle.pam_handle.specs.StackCalled.{StackCalled};
 ghost use Rattle.pam_library.specs.AnyWorld.{stack_refusal};
 ghost use Rattle.pam_library.specs.InPlace.{CallsOpen, IsReadyIn, IsToldAll, stack_app_call};
 
@@ -10,10 +8,9 @@ use crate::session::{Session, StepTold};
 use crate::slot::Slot;
 use crate::world::receipts_in;
 use data_cleanup::laws;
-use fail_delay::{DelayFn, DelayTold};
 use pam_base::{Code, Func, NoMemory};
-use pam_handle::pam_room::{Room, RoomTold, World, WorldTold};
-use pam_handle::{Gear, GearTold, Handle, has_pass_flag};
+use pam_handle::pam_room::{Room, RoomTold, World};
+use pam_handle::{Gear, Handle, has_pass_flag};
 use std::alloc::Global;
 
 // What a stack call returns before a stack is run: SYSTEM_ERR for the flags of the two passes of a change of token, and
@@ -28,35 +25,6 @@ fn refusal(handle: &Handle, func: Func, flags: u32) -> Option<Answer>
     match handle.pending() {
         Some(pending) if pending != func => Some(Answer::Pending(pending)),
         _ => None,
-    }
-}
-
-// Runs the stack of a call that isn't refused.
-fn call_handle(
-    handle: &mut Handle,
-    alloc: Global,
-    gear: &Gear,
-    world: &mut World,
-    func: Func,
-    flags: u32,
-) -> Result<Code, NoMemory>
-    requires { IsReadyFor (⟦<Gear as GearTold>⟧.players gear.now)
-        (plain_handle ⟦<Room as RoomTold>⟧.plain handle.old)
-        (⟦<World as WorldTold>⟧.plain world.old).process }
-    ensures called { StackCalled func flags (⟦<Gear as GearTold>⟧.players gear.now)
-        (⟦<DelayFn as DelayTold>⟧.delay_is gear.now.delay)
-        ⟦<Room as RoomTold>⟧.tells ⟦<Room as RoomTold>⟧.plain
-        ⟦<World as WorldTold>⟧.tells ⟦<World as WorldTold>⟧.plain
-        result handle.old handle.new world.old world.new }
-    ensures no_nap { OnErr result (world.new.nap ≡ world.old.nap) }
-{
-    match func {
-        Func::Authenticate => handle.authenticate(alloc, gear, world, flags),
-        Func::SetCred => handle.setcred(alloc, gear, world, flags),
-        Func::AcctMgmt => handle.acct_mgmt(alloc, gear, world, flags),
-        Func::OpenSession => handle.open_session(alloc, gear, world, flags),
-        Func::CloseSession => handle.close_session(alloc, gear, world, flags),
-        Func::ChAuthTok => handle.chauthtok(alloc, gear, world, flags),
     }
 }
 
@@ -82,7 +50,7 @@ pub(crate) fn call_stack(
     if let Some(refused) = refusal(handle, func, flags) {
         return Ok(Outcome::only(alloc, filed_from, refused));
     }
-    let code = call_handle(handle, alloc, gear, world, func, flags)?;
+    let code = handle.call(alloc, gear, world, func, flags)?;
     let told = handle.take_told(alloc);
     Ok(Outcome::telling(alloc, filed_from, told, Answer::Code(code)))
 }

@@ -15,7 +15,7 @@ use Rattle.pam_handle.proofs.Calling.{call_aborted, call_refused, fails_as, leav
 use Rattle.pam_handle.proofs.Stopping.{stops_call}
 use Rattle.pam_handle.proofs.Tracing.{called_by_trail}
 use Rattle.pam_handle.proofs.Waiting.{none_plain, not_rested, not_waited, tells_beside, waited_at_end}
-use Rattle.pam_handle.proofs.handle.Handle.stack_call.Goals as goal
+use Rattle.pam_handle.proofs.handle.Handle.call.Goals as goal
 
 pub returns-then-is_refused-clause-called : goal.returns-then-is_refused-clause-called
 returns-then-is_refused-clause-called g c =
