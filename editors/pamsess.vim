@@ -24,6 +24,7 @@ function! s:Signs()
   inoremap <buffer> \]] ⟧
   inoremap <buffer> \<lt><lt> «
   inoremap <buffer> \>> »
+  inoremap <buffer> \McL 𝓛
   inoremap <buffer> \tran ∙
   inoremap <buffer> \mapsto ↦
   inoremap <buffer> \from ←

@@ -8,7 +8,7 @@ use Rattle.pam_outside.specs.Files.{VaultState}
 use Rattle.session_audit.specs.control_words.specs.Stack.{Stack}
 use Rattle.session_audit.specs.service_load.specs.declared.load_fault.LoadFault.{LoadFault}
 use Rattle.session_audit.specs.service_load.specs.declared.rule_type.RuleType.{RuleType}
-use Rattle.session_audit.specs.service_load.specs.declared.trees.Trees.{Trees}
+use Rattle.session_audit.specs.service_load.specs.Trees.{Trees}
 use Rattle.session_audit.specs.service_load.specs.FirstFault.{Counts, Stop}
 use Rattle.session_audit.specs.service_load.specs.Kinds.{IfNamed}
 use Rattle.session_audit.specs.service_load.specs.Load.{AreTrees, LoadsBy, LoadsTrees, has_folder, loaded}

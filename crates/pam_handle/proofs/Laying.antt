@@ -3,12 +3,11 @@ use Rattle.std.proofs.Common.{◌≡◌, ℕ, ◌+◌, ◌<◌, ◌≤◌, lengt
 use Rattle.dispatch_core.specs.control_words.specs.Stack.{Stack, stack_of}
 use Rattle.dispatch_core.specs.service_load.specs.declared.rule_type.RuleType.{RuleType}
 use Rattle.dispatch_core.specs.service_load.specs.declared.rule_type.RuleType.TheVariants.{Auth, Account, Password, Session}
-use Rattle.dispatch_core.specs.service_load.specs.declared.trees.Trees.{Trees}
 use Rattle.dispatch_core.specs.service_load.specs.Load.{AreBounded}
 use Rattle.dispatch_core.specs.service_load.specs.Loading.{IsBounded}
 use Rattle.dispatch_core.specs.service_load.specs.RuleType.{all_types}
 use Rattle.dispatch_core.specs.service_load.specs.Stacks.{Stacks, with_stack}
-use Rattle.dispatch_core.specs.service_load.specs.Trees.{nodes_in, stacks_of_trees}
+use Rattle.dispatch_core.specs.service_load.specs.Trees.{Trees, nodes_in, stacks_of_trees}
 use Rattle.dispatch_core.specs.service_load.proofs.Filling.{filled, filled_all, filled_next}
 
 -- the stack of a type

@@ -2,7 +2,7 @@
 use Rattle.std.specs.Prelude.{List, Option}
 use Rattle.control_words.specs.Stack.{stack_of}
 use Rattle.dispatch_core.specs.service_load.specs.Stacks.{Stacks}
-use Rattle.dispatch_core.specs.service_load.specs.declared.trees.Trees.{Trees}
+use Rattle.dispatch_core.specs.service_load.specs.Trees.{Trees}
 use Rattle.stack_walk.specs.declared.seen.Seen.{Seen}
 use Rattle.stack_walk.specs.Retell.{Telling}
 use Rattle.dispatch_core.specs.Calls.{Went, went}

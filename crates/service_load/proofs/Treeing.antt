@@ -12,7 +12,6 @@ use Rattle.service_load.specs.declared.load_fault.LoadFault.{LoadFault}
 use Rattle.service_load.specs.declared.loader.Loader.{Loader}
 use Rattle.service_load.specs.declared.rule_file.RuleFile.{RuleFile}
 use Rattle.service_load.specs.declared.rule_type.RuleType.{RuleType}
-use Rattle.service_load.specs.declared.trees.Trees.{Trees}
 use Rattle.service_load.specs.Files.{held, is_absent}
 use Rattle.service_load.specs.FirstFault.{Counts, look}
 use Rattle.service_load.specs.Entry.{folder_name}
@@ -25,7 +24,7 @@ use Rattle.service_load.specs.Order.{Item, Opener, as_service, as_other, as_last
 use Rattle.service_load.specs.RuleType.{all_types}
 use Rattle.service_load.specs.Stacks.{Stacks, stacks_of, with_stack}
 use Rattle.service_load.specs.Tree.{nodes, tree, tree_from}
-use Rattle.service_load.specs.Trees.{stacks_of_trees, with_nodes}
+use Rattle.service_load.specs.Trees.{Trees, stacks_of_trees, with_nodes}
 use Rattle.service_load.proofs.Filling.{filled, filled_all, filled_next}
 use Rattle.service_load.proofs.Expanding.{Since, since, look_past, look_stops}
 

@@ -12,5 +12,7 @@ pub mod Checking
 pub mod Kinds
 pub mod Loading
 pub mod Load
+pub mod ByType
+pub mod Lending
 pub mod Trees
 pub mod Stacks

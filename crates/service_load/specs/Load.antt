@@ -9,7 +9,7 @@ use Rattle.control_words.specs.Stack.{Stack, stack_of}
 use Rattle.service_load.specs.declared.load_fault.LoadFault.{LoadFault}
 use Rattle.service_load.specs.declared.rule_type.RuleType.{RuleType}
 use Rattle.service_load.specs.declared.rule_type.RuleType.TheVariants.{Auth, Account, Password, Session}
-use Rattle.service_load.specs.declared.trees.Trees.{Trees}
+use Rattle.service_load.specs.Trees.{Trees}
 use Rattle.service_load.specs.Entry.{folder_name}
 use Rattle.service_load.specs.FirstFault.{Counts, Stop, fault_at, look}
 use Rattle.service_load.specs.Loading.{texts_of, IsBounded}

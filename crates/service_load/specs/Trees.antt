@@ -1,17 +1,17 @@
 -- The stacks of a service, one for each type of rule (pam.conf(5)).
 use Rattle.control_words.specs.declared.nodes.Nodes.{Nodes}
 use Rattle.control_words.specs.Stack.{stack_of}
+use Rattle.service_load.specs.ByType.{at_type, with_type}
+use Rattle.service_load.specs.declared.by_type.ByType.{ByType}
 use Rattle.service_load.specs.declared.rule_type.RuleType.{RuleType}
-use Rattle.service_load.specs.declared.rule_type.RuleType.TheVariants.{Auth, Account, Password, Session}
-use Rattle.service_load.specs.declared.trees.Trees.{Trees}
 use Rattle.service_load.specs.Stacks.{Stacks, stacks_of}
+
+abbrev pub Trees : Type 0
+Trees = ByType Nodes
 
 -- the nodes of a type
 abbrev pub nodes_in : Trees → RuleType → Nodes
-nodes_in trees Auth = trees.auth
-nodes_in trees Account = trees.account
-nodes_in trees Password = trees.password
-nodes_in trees Session = trees.session
+nodes_in trees type = at_type trees type
 
 -- their stacks
 abbrev pub stacks_of_trees : Trees → Stacks
@@ -19,7 +19,4 @@ stacks_of_trees trees = stacks_of (λ type. stack_of (nodes_in trees type).vec.i
 
 -- with these nodes of a type
 abbrev pub with_nodes : Trees → RuleType → Nodes → Trees
-with_nodes trees Auth nodes = record trees { auth = nodes }
-with_nodes trees Account nodes = record trees { account = nodes }
-with_nodes trees Password nodes = record trees { password = nodes }
-with_nodes trees Session nodes = record trees { session = nodes }
+with_nodes trees type nodes = with_type trees type nodes

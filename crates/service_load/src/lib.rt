@@ -2,6 +2,7 @@
 //! with the files that they include, give four stacks, or the first fault. Begin at `loading.rt`.
 #![tactic(auto)]
 
+mod by_type;
 mod entry;
 mod file_rules;
 mod inclusion;
@@ -18,6 +19,7 @@ mod rule_type;
 mod trees;
 mod type_field;
 
+pub use by_type::ByType;
 pub use control_words;
 pub use entry::{ConfigEntry, RuleContent};
 pub use kept::KeptTexts;

@@ -7,7 +7,7 @@ use Rattle.control_words.specs.Stack.{Stack}
 use Rattle.service_load.specs.declared.load_fault.LoadFault.{LoadFault}
 use Rattle.service_load.specs.declared.rule_type.RuleType.{RuleType}
 use Rattle.service_load.specs.declared.rule_type.RuleType.TheVariants.{Auth, Account, Password, Session}
-use Rattle.service_load.specs.declared.trees.Trees.{Trees}
+use Rattle.service_load.specs.Trees.{Trees}
 use Rattle.service_load.specs.Load.{AreTrees, Loads}
 use Rattle.service_print.specs.Printed.{stacks_in}
 use Rattle.service_print.specs.Reload.{LoadsTo, Gives}

@@ -4,9 +4,8 @@ use Rattle.std.specs.Prelude.{ℕ, ◌+◌, Bool, List, [], ◌∷◌, ◌++◌,
 use Rattle.control_words.specs.declared.nodes.Rule.{Rule}
 use Rattle.control_words.specs.Stack.{Stack, none, line, sub, stack_of}
 use Rattle.service_load.specs.declared.rule_type.RuleType.{RuleType}
-use Rattle.service_load.specs.declared.trees.Trees.{Trees}
 use Rattle.service_load.specs.RuleType.{all_types, type_word}
-use Rattle.service_load.specs.Trees.{nodes_in}
+use Rattle.service_load.specs.Trees.{Trees, nodes_in}
 use Rattle.service_print.specs.declared.file.File.{File}
 use Rattle.service_print.specs.Tokens.{spaced, token_text, text_of}
 use Rattle.service_print.specs.Controls.{control_text}

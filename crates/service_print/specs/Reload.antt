@@ -11,7 +11,7 @@ use Rattle.pam_outside.specs.Files.{File as VaultFile}
 use Rattle.control_words.specs.Stack.{Stack}
 use Rattle.service_load.specs.declared.load_fault.LoadFault.{LoadFault}
 use Rattle.service_load.specs.declared.rule_type.RuleType.{RuleType}
-use Rattle.service_load.specs.declared.trees.Trees.{Trees}
+use Rattle.service_load.specs.Trees.{Trees}
 use Rattle.service_load.specs.FirstFault.{Counts}
 use Rattle.service_load.specs.Load.{has_folder, loaded}
 use Rattle.service_load.specs.Loading.{texts_of}

@@ -5,7 +5,7 @@ ghost use Rattle.pam_outside.specs.Files.{VaultState};
 ghost use Rattle.control_words.specs.Stack.{Stack};
 ghost use Rattle.service_load.specs.declared.load_fault.LoadFault.{LoadFault};
 ghost use Rattle.service_load.specs.declared.rule_type.RuleType.{RuleType};
-ghost use Rattle.service_load.specs.declared.trees.Trees.{Trees};
+ghost use Rattle.service_load.specs.Trees.{Trees};
 ghost use Rattle.service_load.specs.Load.{Loads};
 ghost use Rattle.service_print.specs.Printed.{printed, stacks_in};
 ghost use Rattle.service_print.specs.Reload.{Gives, HoldsJust, IsLowerName, LoadsTo, is_short};

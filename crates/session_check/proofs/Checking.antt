@@ -6,7 +6,7 @@ use Rattle.pam_outside.specs.Files.{VaultState}
 use Rattle.service_print.specs.control_words.specs.Stack.{Stack}
 use Rattle.service_print.specs.service_load.specs.declared.rule_type.RuleType.{RuleType}
 use Rattle.service_print.specs.service_load.specs.declared.rule_type.RuleType.TheVariants.{Auth, Account, Password, Session}
-use Rattle.service_print.specs.service_load.specs.declared.trees.Trees.{Trees}
+use Rattle.service_print.specs.service_load.specs.Trees.{Trees}
 use Rattle.service_print.specs.service_load.specs.FirstFault.{Counts, Stop}
 use Rattle.service_print.specs.service_load.specs.Load.{AreTrees, LoadsTrees}
 use Rattle.service_print.specs.Printed.{printed, stacks_in}
