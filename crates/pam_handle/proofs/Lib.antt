@@ -1,4 +1,5 @@
 mod Passing
+mod Typing
 mod Resting
 mod Going
 mod Stopping

@@ -16,7 +16,8 @@ use Rattle.dispatch_core.specs.AnyWorld.{GoesSoundly}
 use Rattle.dispatch_core.specs.Failing.{StopsAt}
 use Rattle.dispatch_core.specs.Lines.{answers_by, names_of}
 use Rattle.dispatch_core.specs.Passes.{by_place, paused_after, KeepsAfter, KeepsAll, LeavesAs}
-use Rattle.dispatch_core.specs.pam_room.specs.State.{PlainProcess, PlainTransaction, State}
+use Rattle.dispatch_core.specs.declared.request.PassRequest.{PassRequest}
+use Rattle.dispatch_core.specs.pam_room.specs.State.{PlainProcess, PlainRoom, PlainTransaction, PlainWorld, State}
 use Rattle.dispatch_core.specs.pam_room.specs.Module.{Breaks, Player, Plays, Note, notes_of, player_of}
 use Rattle.dispatch_core.specs.pam_room.specs.Stays.{IsReady}
 use Rattle.dispatch_core.specs.Calls.{answers_held, kept_behind, passed_by}
@@ -24,6 +25,7 @@ use Rattle.dispatch_core.specs.Trail.{ByTrail, seen_in}
 use Rattle.dispatch_core.specs.pam_room.specs.declared.visits.Visit.{Visit as Visited}
 use Rattle.dispatch_core.specs.stack_walk.specs.Retell.{replaying, telling}
 use Rattle.pam_handle.specs.Pass.{PassesTo, kept_answers, passed}
+use Rattle.pam_handle.specs.Passes.{PassGives}
 
 none_by_place : (place : ℕ) → by_place None place ≡ None
 none_by_place zero = refl
@@ -120,3 +122,10 @@ pub names_given : {M : Type 0} (result : Result (List (List ℕ)) NoMemory) (lab
     → IfOk result (λ names. names ≡ map label found) → IfOk result (λ names. names ≡ names_of (map (player_of label plays note breaks) mods))
 names_given (Ok names) label plays note breaks found mods e n = n ∙ ap (map label) e ∙ sym (names_of_players label plays note breaks mods)
 names_given (Err none) label plays note breaks found mods e n = tt
+
+-- what a pass over a stack gives, with another name for the stack
+pub gives_over : {C W : Type 0} {players : List Player} {request : PassRequest} {tells : Bool} {cached later : Answers} {past : List Code} {pausing : Option (List Code)} {result : Result Code NoMemory}
+    {old new : PlainRoom} {w v : PlainWorld} {conv next : C} {before after : W} (stack other : Stack) → other ≡ stack
+    → PassGives players request stack tells cached later past pausing result old new w v conv next before after
+    → PassGives players request other tells cached later past pausing result old new w v conv next before after
+gives_over stack other is g = rw is g

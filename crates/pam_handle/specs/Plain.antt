@@ -11,7 +11,7 @@ use Rattle.pam_handle.specs.declared.handle.Handle.{Handle}
 use Rattle.pam_handle.specs.declared.put_off.PutOff.{PutOff}
 use Rattle.dispatch_core.specs.control_words.specs.Stack.{Stack}
 use Rattle.dispatch_core.specs.service_load.specs.declared.rule_type.RuleType.{RuleType}
-use Rattle.dispatch_core.specs.service_load.specs.declared.rule_type.RuleType.TheVariants.{Auth, Account, Password, Session}
+use Rattle.dispatch_core.specs.service_load.specs.ByType.{at_type}
 use Rattle.dispatch_core.specs.service_load.specs.Stacks.{Stacks}
 use Rattle.dispatch_core.specs.Pending.{Pending}
 use Rattle.pam_handle.specs.Handle.{PlainHandle}
@@ -20,18 +20,15 @@ use Rattle.pam_handle.specs.Pass.{kept_answers}
 -- the stacks from which four chains were made
 abbrev pub stacks_in : Chains → Stacks
 stacks_in c = record {
-  auth = c.auth.nodes;
-  account = c.account.nodes;
-  password = c.password.nodes;
-  session = c.session.nodes;
+  auth = c.by_type.auth.nodes;
+  account = c.by_type.account.nodes;
+  password = c.by_type.password.nodes;
+  session = c.by_type.session.nodes;
 }
 
 -- the stack of a type from which its chain was made
 abbrev pub nodes_in : Chains → RuleType → Stack
-nodes_in c Auth = c.auth.nodes
-nodes_in c Account = c.account.nodes
-nodes_in c Password = c.password.nodes
-nodes_in c Session = c.session.nodes
+nodes_in c type = (at_type c.by_type type).nodes
 
 abbrev pub pending_of : PutOff → Pending
 pending_of p = record { func = p.func; past = past_of p.paused; first = kept_answers p.first }
@@ -55,7 +52,7 @@ module _ {X : Type 0} {V : X → Type 0} where
   plain_handle room h = record {
     room = room h.room;
     stacks = stacks_in h.chains;
-    names = h.chains.auth.names;
+    names = h.chains.by_type.auth.names;
     authenticated = kept_answers h.authenticated;
     opened = kept_answers h.opened;
     delay_on = h.delay_on;

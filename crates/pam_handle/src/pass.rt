@@ -1,23 +1,15 @@
-ghost use Rattle.std.specs.Prelude.{◌≡◌, ◌<◌, ◌^◌, ◌&&◌, ◌⊎◌, None, is_some, length, IfOk, OnErr, IsTrue};
+ghost use Rattle.std.specs.Prelude.{◌≡◌, ◌<◌, ◌^◌, ◌&&◌, length};
 ghost use Rattle.dispatch_core.specs.AnyWorld.{PassStays};
-ghost use Rattle.dispatch_core.specs.Done.{PassDone, PassStops};
 ghost use Rattle.dispatch_core.specs.AnswersSoFar.{past_of};
-ghost use Rattle.dispatch_core.specs.Lines.{names_of};
-ghost use Rattle.dispatch_core.specs.Passes.{kept_failed};
-ghost use Rattle.dispatch_core.specs.pam_room.specs.Plain.{plain_process, plain_transaction};
-ghost use Rattle.dispatch_core.specs.pam_room.specs.Stays.{IsReady};
-ghost use Rattle.dispatch_core.specs.Calls.{answers_held, following, passed_by};
-ghost use Rattle.dispatch_core.specs.Failing.{IsUntouched};
+ghost use Rattle.dispatch_core.specs.Calls.{following};
 ghost use Rattle.pam_handle.specs.Handle.{in_room};
-ghost use Rattle.pam_handle.specs.Pass.{PassesTo, kept_answers};
+ghost use Rattle.pam_handle.specs.Pass.{kept_answers};
 ghost use Rattle.pam_handle.specs.Passes.{PassGives, kind_of, stack_at, stack_type};
 ghost use Rattle.pam_handle.specs.Plain.{plain_handle, room_in};
 ghost use Rattle.pam_handle.specs.Ready.{IsReadyFor};
 
-use crate::chains::Chains;
 use crate::gear::{Gear, GearTold};
 use crate::handle::Handle;
-use dispatch_core::handler_chain::Chain;
 use dispatch_core::pam_room::{Room, RoomTold, World, WorldTold};
 use dispatch_core::service_load::RuleType;
 use dispatch_core::stack_walk::PassKind;
@@ -57,25 +49,9 @@ impl Handle {
             ≡ in_room (⟦<Room as RoomTold>⟧.plain (room_in self.new))
             (plain_handle ⟦<Room as RoomTold>⟧.plain self.old) }
     {
+        let chain = self.chains.by_type.of_mut(stack_type(request.func));
         let room = &mut self.room;
-        let Chains {
-            auth,
-            account,
-            password,
-            session,
-        } = &mut self.chains;
-        match stack_type(request.func) {
-            RuleType::Auth => pass_over(alloc, gear, auth, request, kept, paused, room, world),
-            RuleType::Account => pass_over(
-                alloc, gear, account, request, kept, paused, room, world,
-            ),
-            RuleType::Password => pass_over(
-                alloc, gear, password, request, kept, paused, room, world,
-            ),
-            RuleType::Session => pass_over(
-                alloc, gear, session, request, kept, paused, room, world,
-            ),
-        }
+        dispatch(alloc, chain, &gear.mods, request, kept, paused, room, world)
     }
 }
 
@@ -89,45 +65,6 @@ fn stack_type(func: Func) -> RuleType
         Func::OpenSession | Func::CloseSession => RuleType::Session,
         Func::ChAuthTok => RuleType::Password,
     }
-}
-
-// A pass over one stack.
-fn pass_over(
-    alloc: Global,
-    gear: &Gear,
-    chain: &mut Chain,
-    request: PassRequest,
-    kept: &mut Kept,
-    paused: &mut Paused,
-    room: &mut Room,
-    world: &mut World,
-) -> Result<Code, NoMemory>
-    requires names { chain.old.names ≡ names_of (⟦<Gear as GearTold>⟧.players gear.now) }
-    requires ready { IsReady (length (⟦<Gear as GearTold>⟧.players gear.now))
-        (plain_transaction room.old.transaction) (plain_process world.old.process) }
-    ensures stays { PassStays (⟦<Gear as GearTold>⟧.players gear.now)
-        (length (⟦<Gear as GearTold>⟧.players gear.now))
-        ⟦<Room as RoomTold>⟧.tells ⟦<World as WorldTold>⟧.tells
-        room.old room.new world.old world.new }
-    ensures done { PassDone (⟦<Gear as GearTold>⟧.players gear.now) request
-        (answers_held (kept_answers kept.old)) (past_of paused.old)
-        (λ _ w code state. PassesTo (passed_by request.kind (kept_answers kept.old) w)
-        code (kept_answers kept.new) paused.new state)
-        ⟦<Room as RoomTold>⟧.tells ⟦<Room as RoomTold>⟧.plain
-        ⟦<World as WorldTold>⟧.tells ⟦<World as WorldTold>⟧.plain
-        result chain.old chain.new room.old room.new world.old world.new }
-    ensures kept { OnErr result (kept.new ≡ kept_failed request.kind kept.old) }
-    ensures paused { OnErr result (paused.new ≡ None) }
-    ensures put_off { IfOk result (λ code. IsTrue (is_some paused.new) → code ≡ Code.Incomplete) }
-    ensures stopped { OnErr result
-        (IsUntouched (⟦<Room as RoomTold>⟧.plain room.old) (⟦<Room as RoomTold>⟧.plain room.new)
-        room.old.conv room.new.conv world.old world.new
-        ⊎ PassStops (⟦<Gear as GearTold>⟧.players gear.now) request chain.old.nodes
-        (answers_held (kept_answers kept.old)) (past_of paused.old) ⟦<Room as RoomTold>⟧.tells
-        ⟦<Room as RoomTold>⟧.plain ⟦<World as WorldTold>⟧.tells ⟦<World as WorldTold>⟧.plain
-        room.old room.new world.old world.new) }
-{
-    dispatch(alloc, chain, &gear.mods, request, kept, paused, room, world)
 }
 
 /// Whether the first pass of a call caches its codes, or follows cached ones, if there are any.

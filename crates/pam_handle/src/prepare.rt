@@ -77,7 +77,7 @@ pub(crate) fn lay_flat(alloc: Global, trees: &Trees, names: &Texts) -> Result<Ch
     requires bounded { AreBounded trees.now }
     requires few { length names.now < 2 ^ 32 }
     ensures stacks { IfOk result (λ chains. stacks_in chains ≡ stacks_of_trees trees.now) }
-    ensures names { IfOk result (λ chains. chains.auth.names ≡ names.now) }
+    ensures names { IfOk result (λ chains. chains.by_type.auth.names ≡ names.now) }
 {
     let mut chains = Chains::new(alloc, names);
     for rule_type in &ALL_TYPES {

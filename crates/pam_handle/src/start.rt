@@ -141,7 +141,7 @@ fn prepare(
         (⟦<World as WorldTold>⟧.plain world.new).vault }
     ensures items { IfOk result (λ parts. parts.0
         ≡ first_texts service.now (option_copied user.entry)) }
-    ensures names { IfOk result (λ parts. parts.1.auth.names
+    ensures names { IfOk result (λ parts. parts.1.by_type.auth.names
         ≡ names_of (⟦<Gear as GearTold>⟧.players gear.now)) }
     ensures others { world.new ≡ record world.old { vault = world.new.vault } }
     ensures vault_tells { vault_tells (in_box world.new.vault)
@@ -172,7 +172,7 @@ fn laid_out(
     ensures items { IfOk result (λ parts. parts.0
         ≡ first_texts service.now (option_copied user.entry)) }
     ensures stacks { IfOk result (λ parts. stacks_in parts.1 ≡ stacks_of_trees trees.now) }
-    ensures names { IfOk result (λ parts. parts.1.auth.names
+    ensures names { IfOk result (λ parts. parts.1.by_type.auth.names
         ≡ names_of (⟦<Gear as GearTold>⟧.players gear.now)) }
 {
     name_modules(alloc, gear, names)?;
@@ -185,7 +185,7 @@ fn laid_out(
 fn opened(alloc: Global, number: u32, items: Items, chains: Chains, conv: Box<dyn Conv>) -> Handle
     ensures conv { (room_in result).conv ≡ conv }
     ensures plain { plain_handle ⟦<Room as RoomTold>⟧.plain result
-        ≡ handle_with number items (conv_holds conv) chains.auth.names (stacks_in chains) }
+        ≡ handle_with number items (conv_holds conv) chains.by_type.auth.names (stacks_in chains) }
 {
     let mut transaction = Transaction::new(alloc, number);
     transaction.items = items;

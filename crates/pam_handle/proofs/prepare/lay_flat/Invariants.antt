@@ -8,5 +8,5 @@ use Rattle.pam_handle.proofs.prepare.lay_flat.Given as goal
 abbrev pub invariant-loop-rule_type : goal.invariant-loop-rule_type
 invariant-loop-rule_type l = record {
   filling : filled (stack_in l.trees) (drop l.rule_type-index l.rule_type-items) (stacks_in l.chains) ≡ stacks_of_trees l.trees;
-  names : l.chains.auth.names ≡ l.names;
+  names : l.chains.by_type.auth.names ≡ l.names;
 }

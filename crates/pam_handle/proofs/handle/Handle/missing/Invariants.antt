@@ -6,5 +6,5 @@ use Rattle.pam_handle.proofs.handle.Handle.missing.Given as goal
 
 abbrev pub invariant-loop-rule_type : goal.invariant-loop-rule_type
 invariant-loop-rule_type g l =
-    l.names ++ missing_under l.self.chains.auth.names (nodes_in l.self.chains) (drop l.rule_type-index l.rule_type-items)
-    ≡ missing_from l.self.chains.auth.names (stacks_in l.self.chains)
+    l.names ++ missing_under l.self.chains.by_type.auth.names (nodes_in l.self.chains) (drop l.rule_type-index l.rule_type-items)
+    ≡ missing_from l.self.chains.by_type.auth.names (stacks_in l.self.chains)

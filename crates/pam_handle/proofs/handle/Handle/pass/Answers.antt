@@ -1,42 +1,40 @@
-use Rattle.std.proofs.Common.{sym, ◌∙◌}
+use Rattle.std.proofs.Common.{map, refl, ◌∙◌, ap}
+use Rattle.dispatch_core.specs.AnswersSoFar.{past_of}
+use Rattle.dispatch_core.specs.handler_chain.specs.Chain.{ChainView}
+use Rattle.dispatch_core.specs.pam_room.specs.Module.{player_of}
+use Rattle.dispatch_core.specs.pam_room.specs.Plain.{plain_room}
+use Rattle.pam_handle.specs.Plain.{plain_handle}
+use Rattle.pam_handle.proofs.Passing.{gives_over, names_of_players, pass_by_trail, pass_ready, pass_sound, pass_stopped, pass_told}
+use Rattle.pam_handle.proofs.Typing.{names_at, others_stay, stack_of_call}
 use Rattle.pam_handle.proofs.handle.Handle.pass.Goals as goal
 
-pub returns-in-Auth-clause-gives : goal.returns-in-Auth-clause-gives
-returns-in-Auth-clause-gives g c = rw (sym c.stack_type.ensures ∙ c.in-Auth.is) (record {
-  told = λ told. c.pass_over.ensures.done.told told;
-  by_trail = c.pass_over.ensures.done.by_trail;
-  put_off = c.pass_over.ensures.put_off;
-  kept = c.pass_over.ensures.kept;
-  paused = c.pass_over.ensures.paused;
-  stopped = c.pass_over.ensures.stopped;
-})
+pub dispatch-requires-clause-names : goal.dispatch-requires-clause-names
+dispatch-requires-clause-names g c =
+    rw c.deref.ensures.value (ap (λ (k : ChainView). k.names) c.of_mut-chain.ensures.value ∙ names_at c.args.self.now.chains c.stack_type.result ∙ c.requires.0 ∙ names_of_players _ _ _ _ c.args.gear.now.mods.items)
 
-pub returns-in-Account-clause-gives : goal.returns-in-Account-clause-gives
-returns-in-Account-clause-gives g c = rw (sym c.stack_type.ensures ∙ c.in-Account.is) (record {
-  told = λ told. c.pass_over-in-Account.ensures.done.told told;
-  by_trail = c.pass_over-in-Account.ensures.done.by_trail;
-  put_off = c.pass_over-in-Account.ensures.put_off;
-  kept = c.pass_over-in-Account.ensures.kept;
-  paused = c.pass_over-in-Account.ensures.paused;
-  stopped = c.pass_over-in-Account.ensures.stopped;
-})
+pub returns-clause-gives : goal.returns-clause-gives
+returns-clause-gives g c =
+    let nodes = c.of_mut-chain.result.now.nodes in
+    let players = ap (map (player_of (λ b. (goal.Module-dyn g (b.vtable, b.value)).label b.value) (λ b. (goal.Module-dyn g (b.vtable, b.value)).plays b.value) (λ b. (goal.Module-dyn g (b.vtable, b.value)).note b.value) (λ b. (goal.Module-dyn g (b.vtable, b.value)).breaks b.value))) c.deref.ensures.value in
+    gives_over nodes _ (stack_of_call c.args.self.now.chains c.args.request.func c.stack_type.result _ c.stack_type.ensures c.of_mut-chain.ensures.value) (record {
+      told = λ told. pass_told c.dispatch.result _ _ c.args.request.func c.args.request.flags c.args.request.kind c.args.kept.now c.dispatch.new.kept nodes (past_of c.args.paused.now) _ c.dispatch.new.paused _ players (c.dispatch.ensures.done.told told);
+      by_trail = pass_by_trail c.dispatch.result c.args.request.kind c.args.kept.now c.dispatch.new.kept nodes (past_of c.args.paused.now) _ _ c.dispatch.new.paused c.dispatch.ensures.done.by_trail;
+      put_off = c.dispatch.ensures.put_off;
+      kept = c.dispatch.ensures.kept;
+      paused = c.dispatch.ensures.paused;
+      stopped = pass_stopped c.dispatch.result _ _ c.args.request.func c.args.request.flags c.args.request.kind c.args.kept.now nodes (past_of c.args.paused.now) _ _ _ _ players c.dispatch.ensures.stopped;
+    })
 
-pub returns-in-Password-clause-gives : goal.returns-in-Password-clause-gives
-returns-in-Password-clause-gives g c = rw (sym c.stack_type.ensures ∙ c.in-Password.is) (record {
-  told = λ told. c.pass_over-in-Password.ensures.done.told told;
-  by_trail = c.pass_over-in-Password.ensures.done.by_trail;
-  put_off = c.pass_over-in-Password.ensures.put_off;
-  kept = c.pass_over-in-Password.ensures.kept;
-  paused = c.pass_over-in-Password.ensures.paused;
-  stopped = c.pass_over-in-Password.ensures.stopped;
-})
+pub returns-clause-stays : goal.returns-clause-stays
+returns-clause-stays g c = record {
+  room_tells = c.dispatch.ensures.stays.room_tells;
+  world_tells = c.dispatch.ensures.stays.world_tells;
+  nap = c.dispatch.ensures.stays.nap;
+  sound = pass_sound (λ b. (goal.Module-dyn g (b.vtable, b.value)).label b.value) (λ b. (goal.Module-dyn g (b.vtable, b.value)).plays b.value) (λ b. (goal.Module-dyn g (b.vtable, b.value)).note b.value) (λ b. (goal.Module-dyn g (b.vtable, b.value)).breaks b.value) _ c.args.gear.now.mods.items c.deref.ensures.value _ _ _ _ c.dispatch.ensures.stays.sound;
+  ready = pass_ready (λ b. (goal.Module-dyn g (b.vtable, b.value)).label b.value) (λ b. (goal.Module-dyn g (b.vtable, b.value)).plays b.value) (λ b. (goal.Module-dyn g (b.vtable, b.value)).note b.value) (λ b. (goal.Module-dyn g (b.vtable, b.value)).breaks b.value) _ c.args.gear.now.mods.items c.deref.ensures.value _ _ c.dispatch.ensures.stays.ready;
+}
 
-pub returns-in-Session-clause-gives : goal.returns-in-Session-clause-gives
-returns-in-Session-clause-gives g c = rw (sym c.stack_type.ensures ∙ c.in-Session.is) (record {
-  told = λ told. c.pass_over-in-Session.ensures.done.told told;
-  by_trail = c.pass_over-in-Session.ensures.done.by_trail;
-  put_off = c.pass_over-in-Session.ensures.put_off;
-  kept = c.pass_over-in-Session.ensures.kept;
-  paused = c.pass_over-in-Session.ensures.paused;
-  stopped = c.pass_over-in-Session.ensures.stopped;
-})
+pub returns-clause-others : goal.returns-clause-others
+returns-clause-others g c =
+    let room = plain_room (λ b. (goal.Conv-dyn g (b.vtable, b.value)).conv_holds b.value) in
+    others_stay (plain_handle room c.args.self.now) (room c.dispatch.new.room) c.args.self.now.chains.by_type c.stack_type.result _ c.dispatch.new.chain c.of_mut-chain.ensures.value c.dispatch.ensures.done.nodes c.dispatch.ensures.done.names refl refl
