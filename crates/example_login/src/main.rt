@@ -14,7 +14,7 @@ use fail_delay::DelayFn;
 use guest::Guest;
 use mod_basic::{Permit, Probe};
 use pam_base::{Code, ESTABLISH_CRED, NoMemory, Text, code_name, code_number};
-use pam_handle::{Gear, GearTold, Handle};
+use pam_handle::{Gear, GearTold, Handle, StartCache};
 use pam_outside::{FolderVault, RealClock, SleepNap};
 use pam_room::{Module, Process, Room, RoomTold, World, WorldTold};
 use std::alloc::Global;
@@ -43,8 +43,17 @@ fn main(rt: HostRuntime) -> io::Result<ExitCode> {
         },
     };
     let conv = Box::new(alloc, Card::new())?;
-    let Ok(mut handle) = Handle::start(alloc, &gear, &mut world, 1, b"door", Some(b"guest"), conv)
-    else {
+    let mut cache = StartCache::new(alloc);
+    let Ok(mut handle) = Handle::start(
+        alloc,
+        &gear,
+        &mut world,
+        1,
+        b"door",
+        Some(b"guest"),
+        conv,
+        &mut cache,
+    ) else {
         println!(rt; "refused")?;
         return Ok(ExitCode::FAILURE);
     };

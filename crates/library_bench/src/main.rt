@@ -13,7 +13,7 @@ use data_cleanup::Ledger;
 use fail_delay::DelayFn;
 use mod_basic::Permit;
 use pam_base::{Code, NoMemory, Numbers, Text};
-use pam_handle::{Gear, GearTold, Handle};
+use pam_handle::{Gear, GearTold, Handle, StartCache};
 use pam_outside::{FixedClock, MemVault, NapSum, Vault};
 use pam_room::{Module, Process, Room, RoomTold, World, WorldTold};
 use std::alloc::Global;
@@ -77,6 +77,7 @@ fn let_in(alloc: Global, lines: u32, starts: u32, passes: u32) -> Result<Option<
     let mut count = 0u32;
     for _ in 0..starts {
         let conv: Box<dyn Conv> = Box::new(alloc, QueueConv::new(alloc))?;
+        let mut cache = StartCache::new(alloc);
         let Ok(mut handle) = Handle::start(
             alloc,
             &gear,
@@ -85,6 +86,7 @@ fn let_in(alloc: Global, lines: u32, starts: u32, passes: u32) -> Result<Option<
             b"bench",
             Some(b"joe"),
             conv,
+            &mut cache,
         ) else {
             return Ok(None);
         };

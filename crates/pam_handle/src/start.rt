@@ -34,51 +34,12 @@ impl Handle {
     /// loaded, and flattened for the modules. SERVICE, in lower case, and USER, if known, are set,
     /// and no other item; the delay function is off.
     ///
+    /// A text of a service file that is in the cache, the same byte for byte, isn't parsed again. The cache holds what
+    /// earlier starts kept.
+    ///
     /// It is refused exactly if `load` is, or if memory runs out; then it returns the conversation.
     /// In either case, of the world only the number of file accesses changes.
     pub fn start(
-        alloc: Global,
-        gear: &Gear,
-        world: &mut World,
-        number: u32,
-        service: &[u8],
-        user: Option<&[u8]>,
-        conv: Box<dyn Conv>,
-    ) -> Result<Handle, StartRefused>
-        requires service { IsTrue (is_service_name service.now) }
-        ensures conv { IfOk result (λ handle. (room_in handle).conv ≡ conv) }
-        ensures given_back { IfErr result (λ refused. refused.conv ≡ conv) }
-        ensures tells { Keeps ⟦<World as WorldTold>⟧.tells world.old world.new }
-        ensures told { IsTrue (vault_tells (in_box world.old.vault)) →
-            (let plain = ⟦<World as WorldTold>⟧.plain in
-            let s = started number service.now (option_copied user.entry) (conv_holds conv)
-            (names_of (⟦<Gear as GearTold>⟧.players gear.now)) (plain world.old) in
-            StartsAs ⟦<Room as RoomTold>⟧.plain s result (plain world.new)) }
-        ensures calls { IsTrue (vault_tells (in_box world.old.vault)) →
-            OnlyCalls (⟦<World as WorldTold>⟧.plain world.old).vault
-            (⟦<World as WorldTold>⟧.plain world.new).vault }
-        ensures fresh { IfOk result (λ handle. plain_handle ⟦<Room as RoomTold>⟧.plain handle
-            ≡ new_handle number service.now (option_copied user.entry) (conv_holds conv)
-            (names_of (⟦<Gear as GearTold>⟧.players gear.now))
-            (plain_handle ⟦<Room as RoomTold>⟧.plain handle).stacks) }
-        ensures ready { IfOk result (λ handle. IsReadyFor (⟦<Gear as GearTold>⟧.players gear.now)
-            (plain_handle ⟦<Room as RoomTold>⟧.plain handle)
-            (⟦<World as WorldTold>⟧.plain world.new).process) }
-        ensures others { world.new ≡ record world.old { vault = world.new.vault } }
-        ensures vault_tells { vault_tells (in_box world.new.vault)
-            ≡ vault_tells (in_box world.old.vault) }
-        ensures faults { MatchResult result (λ _. vault_faults (in_box world.new.vault)
-            ≡ vault_faults (in_box world.old.vault)) (λ refused. RefusalCounts refused.why
-            (vault_faults (in_box world.old.vault))
-            (vault_faults (in_box world.new.vault))) }
-    {
-        let mut cache = StartCache::new(alloc);
-        Handle::start_with(alloc, gear, world, number, service, user, conv, &mut cache)
-    }
-
-    /// As `start`, with what earlier starts kept. A text of a service file isn't parsed again if it
-    /// is the same byte for byte.
-    pub fn start_with(
         alloc: Global,
         gear: &Gear,
         world: &mut World,

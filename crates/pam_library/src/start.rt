@@ -75,7 +75,7 @@ pub(crate) fn start(
     ensures no_nap { world.new.nap ≡ world.old.nap }
 {
     let filed_from = receipts_in(world);
-    match Handle::start_with(
+    match Handle::start(
         alloc,
         gear,
         world,

@@ -4,7 +4,7 @@ ghost use Rattle.pam_handle.specs.Ready.{IsReadyFor};
 use conv_port::QueueConv;
 use data_cleanup::Ledger;
 use pam_base::{Code, Func, NoMemory, Numbers, Text};
-use pam_handle::{Gear, GearTold, Handle, Told};
+use pam_handle::{Gear, GearTold, Handle, StartCache, Told};
 use pam_outside::{FixedClock, MemVault, NapSum};
 use pam_room::{Process, Room, RoomTold, World, WorldTold};
 use std::alloc::Global;
@@ -50,7 +50,17 @@ fn world(alloc: Global, file: &[u8]) -> Result<World, Fail> {
 pub fn play(alloc: Global, gear: &Gear, scene: &Scene) -> Result<Outcome, Fail> {
     let mut world = world(alloc, scene.file)?;
     let conv = Box::new(alloc, QueueConv::new(alloc))?;
-    let Ok(mut handle) = Handle::start(alloc, gear, &mut world, 1, b"t", Some(b"joe"), conv) else {
+    let mut cache = StartCache::new(alloc);
+    let Ok(mut handle) = Handle::start(
+        alloc,
+        gear,
+        &mut world,
+        1,
+        b"t",
+        Some(b"joe"),
+        conv,
+        &mut cache,
+    ) else {
         return Err("refused")?;
     };
     let answers = call_all(alloc, gear, &mut world, &mut handle, scene.calls);
@@ -96,33 +106,7 @@ fn call_all(
 {
     let mut answers = Vec::new(alloc);
     for (func, flags) in calls {
-        answers.push(call(alloc, gear, world, handle, *func, *flags))?;
+        answers.push(handle.call(alloc, gear, world, *func, *flags))?;
     }
     Ok(answers)
-}
-
-// The stack call of a function.
-fn call(
-    alloc: Global,
-    gear: &Gear,
-    world: &mut World,
-    handle: &mut Handle,
-    func: Func,
-    flags: u32,
-) -> Result<Code, NoMemory>
-    requires { IsReadyFor (⟦<Gear as GearTold>⟧.players gear.now)
-        (plain_handle ⟦<Room as RoomTold>⟧.plain handle.old)
-        (⟦<World as WorldTold>⟧.plain world.old).process }
-    ensures { IsReadyFor (⟦<Gear as GearTold>⟧.players gear.now)
-        (plain_handle ⟦<Room as RoomTold>⟧.plain handle.new)
-        (⟦<World as WorldTold>⟧.plain world.new).process }
-{
-    match func {
-        Func::Authenticate => handle.authenticate(alloc, gear, world, flags),
-        Func::SetCred => handle.setcred(alloc, gear, world, flags),
-        Func::AcctMgmt => handle.acct_mgmt(alloc, gear, world, flags),
-        Func::OpenSession => handle.open_session(alloc, gear, world, flags),
-        Func::CloseSession => handle.close_session(alloc, gear, world, flags),
-        Func::ChAuthTok => handle.chauthtok(alloc, gear, world, flags),
-    }
 }
