@@ -13,7 +13,7 @@ use Rattle.session_audit.specs.service_load.specs.Loading.{texts_of}
 use Rattle.session_audit.specs.service_load.specs.Stacks.{stacks_of}
 use Rattle.session_audit.specs.service_load.specs.Tree.{tree}
 use Rattle.explain_origins.specs.Placed.{sources_at}
-use Rattle.explain_report.specs.explain_lines.specs.declared.origin.Sources.{Sources}
+use Rattle.explain_report.specs.explain_lines.specs.Origins.{Sources}
 use Rattle.explain.specs.declared.explaining.Output.{Output}
 use Rattle.transcript_audit.specs.declared.transcript.Transcript.{Transcript}
 use Rattle.transcript_audit.specs.declared.transcript.Transcript.TheVariants.{Whole, TooLong, Unread}

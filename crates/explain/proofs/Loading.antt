@@ -18,7 +18,7 @@ use Rattle.session_audit.specs.service_load.specs.Tree.{tree}
 use Rattle.session_audit.specs.pass_replay.specs.Retold.{stacks_in}
 use Rattle.explain_origins.specs.Placed.{sources_at}
 use Rattle.explain_origins.specs.Reading.{CountsReads, ends_failing}
-use Rattle.explain_report.specs.explain_lines.specs.declared.origin.Sources.{Sources}
+use Rattle.explain_report.specs.explain_lines.specs.Origins.{Sources}
 use Rattle.explain.specs.declared.explaining.Output.{Output}
 use Rattle.explain.specs.Explained.{Explains, ExplainsBy, IsExplained, IsExplainedWith, IsRefused, OrUnread, IsOutputOf, IsOutputBy, explained_of}
 

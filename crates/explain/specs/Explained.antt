@@ -22,7 +22,7 @@ use Rattle.session_audit.specs.Fits.{all_shut}
 use Rattle.session_audit.specs.Whole.{lines_read}
 use Rattle.explain_origins.specs.Placed.{sources_at}
 use Rattle.explain_origins.specs.Reading.{ends_failing}
-use Rattle.explain_report.specs.explain_lines.specs.declared.origin.Sources.{Sources}
+use Rattle.explain_report.specs.explain_lines.specs.Origins.{Sources}
 use Rattle.explain_report.specs.Report.{explained_from}
 use Rattle.explain.specs.declared.explaining.Output.{Output}
 

@@ -6,7 +6,7 @@ use Rattle.service_load.specs.Stacks.{Stacks}
 use Rattle.stack_walk.specs.Retell.{Telling}
 use Rattle.stack_walk.specs.Route.{KeptAnswers}
 use Rattle.pass_replay.specs.dispatch_core.specs.Calls.{Held}
-use Rattle.explain_lines.specs.declared.origin.Sources.{Sources}
+use Rattle.explain_lines.specs.Origins.{Sources}
 use Rattle.explain_calls.specs.Calls.{change_text, check_text}
 
 -- what follows from a fact of a success

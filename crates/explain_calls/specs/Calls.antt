@@ -16,8 +16,7 @@ use Rattle.stack_walk.specs.Route.{KeptAnswers}
 use Rattle.pass_replay.specs.dispatch_core.specs.Calls.{Held, answers_held, following, first_pass}
 use Rattle.pass_replay.specs.dispatch_core.specs.Pending.{first_in, past_in}
 use Rattle.pass_replay.specs.Replay.{as_told}
-use Rattle.explain_lines.specs.declared.origin.Sources.{Sources}
-use Rattle.explain_lines.specs.Origins.{origins_in}
+use Rattle.explain_lines.specs.Origins.{Sources, origins_in}
 use Rattle.explain_calls.specs.Rows.{pass_rows}
 use Rattle.explain_lines.specs.Text.{pass_text}
 

@@ -3,7 +3,7 @@ use Rattle.std.proofs.Common.{◌≡◌, ℕ, Bool, true, false, not, List, [], 
 use Rattle.std.specs.Prelude.{codes}
 use Rattle.pam_outside.specs.Files.{VaultState}
 use Rattle.explain_lines.specs.declared.origin.Origin.{Origin}
-use Rattle.explain_lines.specs.declared.origin.Sources.{Sources}
+use Rattle.explain_lines.specs.Origins.{Sources}
 use Rattle.explain_origins.specs.Placed.{Placed, is_nothing, places, placed_from, placed_if, sources_at}
 use Rattle.explain_origins.specs.Reading.{Adds, placed_at}
 use Rattle.explain_origins.proofs.Going.{nothing_there}

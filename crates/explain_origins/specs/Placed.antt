@@ -4,7 +4,7 @@ use Rattle.std.specs.Prelude.{ℕ, zero, suc, Bool, true, false, List, [], ◌�
 use Rattle.control_words.specs.declared.nodes.Rule.{Rule}
 use Rattle.control_words.specs.Stack.{Stack, none, line, sub}
 use Rattle.explain_lines.specs.declared.origin.Origin.{Origin}
-use Rattle.explain_lines.specs.declared.origin.Sources.{Sources}
+use Rattle.explain_lines.specs.Origins.{Sources}
 use Rattle.service_load.specs.declared.entry.RuleContent.{RuleContent}
 use Rattle.service_load.specs.declared.entry.RuleContent.TheVariants.{Line, Include, Substack}
 use Rattle.service_load.specs.declared.entry.ConfigEntry.{ConfigEntry}

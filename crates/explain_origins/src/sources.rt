@@ -9,7 +9,7 @@ use crate::files::{add_file, file_of};
 use explain_lines::{Origins, Sources};
 use pam_base::{Failed, Refuse};
 use pam_outside::{ReplaceFault, Vault, is_folder, path_of};
-use service_load::{RuleFile, RuleType};
+use service_load::{ByType, RuleFile, RuleType};
 use std::alloc::Global;
 
 /// Where the rules of a service's stacks are written, below a root: the file and line of each rule
@@ -38,7 +38,7 @@ pub fn sources_of(
     let account = origins_of(alloc, vault, root, RuleType::Account, &own, &other)?;
     let password = origins_of(alloc, vault, root, RuleType::Password, &own, &other)?;
     let session = origins_of(alloc, vault, root, RuleType::Session, &own, &other)?;
-    Ok(Sources {
+    Ok(ByType {
         auth,
         account,
         password,

@@ -25,7 +25,7 @@ use Rattle.session_audit.specs.Whole.{formless}
 use Rattle.session_audit.proofs.Checking.{visits_are}
 use Rattle.session_audit.proofs.Taking.{get_some}
 use Rattle.explain_calls.specs.Calls.{call_text, refused_text}
-use Rattle.explain_lines.specs.declared.origin.Sources.{Sources}
+use Rattle.explain_lines.specs.Origins.{Sources}
 use Rattle.explain_report.specs.declared.explainer.Explainer.{Explainer}
 use Rattle.explain_report.specs.Report.{Takes, block_text, called_text, explained_from, left_of, text_behind}
 

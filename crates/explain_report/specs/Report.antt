@@ -10,7 +10,7 @@ use Rattle.report_lines.specs.Line.{Told, shows_code, runs, Result, answered, cl
 use Rattle.report_reader.specs.Says.{Says, tells, results, lasts}
 use Rattle.session_audit.specs.Checked.{told_in, place_of}
 use Rattle.session_audit.specs.Fits.{SlotLog, shut, running, place_at, visits_told, is_refused_change, behind_block}
-use Rattle.explain_lines.specs.declared.origin.Sources.{Sources}
+use Rattle.explain_lines.specs.Origins.{Sources}
 use Rattle.explain_report.specs.declared.explainer.Explainer.{Explainer}
 use Rattle.explain_calls.specs.Calls.{call_text, refused_text}
 
