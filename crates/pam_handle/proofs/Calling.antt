@@ -1,4 +1,4 @@
--- The result of a stack call, from what its passes give and what stands around them.
+-- The result of a stack call, from what its passes give and what is done before and after them.
 use Rattle.std.proofs.Common.{◌≡◌, ℕ, ◌≤◌, List, [], Option, Some, None, Result, Ok, Err, IfOk, OnErr, Bool, true, false, not, if◌then◌else◌, is_some, IsTrue, refl, sym, ◌∙◌, ap, subst, arith}
 use Rattle.std.specs.Prelude.{IfNone}
 use Rattle.pam_base.specs.declared.code.Code.{Code}

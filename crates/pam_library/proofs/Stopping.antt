@@ -1,4 +1,4 @@
--- The line at which a stack call ran out of memory, where fewer objects are known to be modelled.
+-- The line at which a stack call ran out of memory: what holds if some objects are modelled holds if all are.
 use Rattle.std.proofs.Common.{inl, inr, ℕ, Bool, IsTrue, List, [], Option, Some, None, Result, Ok, Err, OnErr, ap}
 use Rattle.pam_base.specs.declared.code.Code.{Code}
 use Rattle.pam_base.specs.declared.call.AppCall.{AppCall}
