@@ -13,11 +13,11 @@ use crate::world::receipts_in;
 use conv_port::Conv;
 use pam_base::{AppCall, Step};
 use pam_handle::pam_room::World;
-use pam_handle::{Gear, Handle, StartCache};
+use pam_handle::{Gear, StartCache};
 use std::alloc::Global;
 
 impl Slot {
-    // A step in the slot of its number.
+    // A step in the slot of its number. What an open transaction had to report before is dropped.
     pub(crate) fn step(
         self,
         alloc: Global,
@@ -36,7 +36,17 @@ impl Slot {
     {
         match self {
             Slot::Closed(conv) => step_closed(alloc, gear, world, conv, step, cache),
-            Slot::Open(handle) => step_open(alloc, gear, world, handle, step),
+            Slot::Open(mut handle) => {
+                let _before = handle.take_told(alloc);
+                if let AppCall::End { status } = &step.call {
+                    return end(alloc, gear, world, handle, *status);
+                }
+                let outcome = call_open(alloc, gear, world, &mut handle, &step.call);
+                Stepped {
+                    slot: Slot::Open(handle),
+                    outcome,
+                }
+            }
         }
     }
 }
@@ -72,28 +82,5 @@ fn step_closed(
             slot: Slot::Closed(conv),
             outcome: Ok(Outcome::only(alloc, receipts_in(world), Answer::NotOpen)),
         },
-    }
-}
-
-// A step in an open slot. What its transaction had to report before is dropped.
-fn step_open(alloc: Global, gear: &Gear, world: &mut World, handle: Handle, step: &Step) -> Stepped
-    requires may { let seen = ⟦<Session as StepTold>⟧.seen in
-        MayStep step.now.number (seen gear.now (Slot.Open handle) world.old) }
-    requires fit { IsTrue (is_fit step.now.call) }
-    ensures called { let seen = ⟦<Session as StepTold>⟧.seen in
-        StepsPlace step.now.number step.now.call (seen gear.now (Slot.Open handle) world.old)
-        world.old result.outcome (seen gear.now result.slot world.new) world.new }
-    ensures no_nap { OnErr result.outcome (world.new.nap ≡ world.old.nap) }
-{
-    let mut handle = handle;
-    // What a call on the handle alone had to report before is dropped.
-    let _before = handle.take_told(alloc);
-    if let AppCall::End { status } = &step.call {
-        return end(alloc, gear, world, handle, *status);
-    }
-    let outcome = call_open(alloc, gear, world, &mut handle, &step.call);
-    Stepped {
-        slot: Slot::Open(handle),
-        outcome,
     }
 }
