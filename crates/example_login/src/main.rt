@@ -15,11 +15,11 @@ use guest::Guest;
 use mod_basic::{Permit, Probe};
 use pam_base::{Code, ESTABLISH_CRED, NoMemory, Text, code_name, code_number};
 use pam_handle::{Gear, GearTold, Handle, StartCache};
-use pam_outside::{FolderVault, RealClock, SleepNap};
 use pam_room::{Module, Process, Room, RoomTold, World, WorldTold};
 use std::alloc::Global;
 use std::io;
 use std::process::ExitCode;
+use system_objects::{FolderVault, RealClock, SleepNap};
 
 fn main(rt: HostRuntime) -> io::Result<ExitCode> {
     let alloc = rt.alloc();

@@ -12,9 +12,9 @@ mod program;
 
 use crate::program::explain_to;
 use command_line::{arguments, exit_status};
-use pam_outside::{FolderVault, ReaderSource, WriterSink};
 use std::io;
 use std::process::ExitCode;
+use system_objects::{FolderVault, ReaderSource, WriterSink};
 
 fn main(rt: HostRuntime) -> ExitCode {
     ExitCode::from(exit_status(run(rt)))

@@ -3,5 +3,4 @@ pub mod Streams
 pub mod Files
 pub mod Memory
 pub mod Time
-pub mod Adapter
 pub mod Paths

@@ -43,7 +43,9 @@ impl Held {
 // The number of attempts at a lock, a tenth of a second apart: 15 seconds, as in lckpwdf(3).
 const TRIES: u32 = 150;
 
-/// Locks the file at this path, and makes it if it doesn't exist. If its directory doesn't exist, nothing is locked.
+/// Locks the file at this path, and makes it if it doesn't exist; tries for 15 seconds. If its directory doesn't exist,
+/// nothing is locked. Failed is returned if another process keeps its lock, for a path that isn't UTF-8, for what isn't
+/// a regular file, and for any other error of the system; then nothing is locked.
 pub fn hold_path(rt: &HostRuntime, path: &[u8], kind: LockKind) -> Result<Held, Failed> {
     let path = str::from_utf8(path).map_err(|_| Failed)?;
     match locked(rt, path, kind) {
@@ -117,7 +119,7 @@ fn opened(rt: &HostRuntime, path: &str) -> io::Result<File> {
     }
 }
 
-/// Whether the path names the file that is open.
+/// Whether the path names the file that is open, by device and inode. An error of the system is returned.
 pub fn is_at(rt: &HostRuntime, file: &File, path: &str) -> io::Result<bool> {
     let (found, named) = (file.metadata()?, symlink_metadata(rt, path)?);
     Ok(found.dev() == named.dev() && found.ino() == named.ino())

@@ -4,8 +4,8 @@ ghost use Rattle.pam_outside.specs.Paths.{path_of, root_before};
 use pam_base::{NoMemory, Text};
 use std::alloc::Global;
 
-/// One text after another.
-pub(crate) fn joined(alloc: Global, front: &[u8], back: &[u8]) -> Result<Text, NoMemory>
+/// One text after another. `NoMemory` is returned if an allocation fails.
+pub fn joined(alloc: Global, front: &[u8], back: &[u8]) -> Result<Text, NoMemory>
     ensures { IfOk result (λ text. text ≡ front.now ++ back.now) }
 {
     let length = front.len().saturating_add(back.len());

@@ -26,13 +26,14 @@ use mod_history::mod_unix::Unix;
 use mod_history::{Pwhistory, Securetty, Wheel};
 use mod_lists::{Listfile, Nologin, Shells, SucceedIf};
 use pam_base::{Code, Text};
-use pam_outside::{FolderVault, NapSum, ReaderSource, RealClock, Sink, Source, Vault, WriterSink};
+use pam_outside::{NapSum, Sink, Source, Vault};
 use pam_room::{Module, Process, World};
 use session_program::mod_tally::Faillock;
 use session_program::{Desk, DeskTold, Outside, OutsideTold, pamsess};
 use std::alloc::Global;
 use std::io;
 use std::process::ExitCode;
+use system_objects::{FolderVault, ReaderSource, RealClock, WriterSink};
 
 /// How many transactions may be open at a time, each with a conversation.
 const TRANSACTIONS: usize = 16;

@@ -20,15 +20,13 @@ use mod_history::mod_unix::Unix;
 use mod_history::{Pwhistory, Securetty, Wheel};
 use mod_lists::{Listfile, Nologin, Shells, SucceedIf};
 use pam_base::{Code, Numbers, Text};
-use pam_outside::{
-    Clock, FixedClock, FolderVault, MemVault, Nap, NapSum, ReaderSource, RealClock, Sink, SleepNap,
-    Source, Vault, WriterSink,
-};
+use pam_outside::{Clock, FixedClock, MemVault, Nap, NapSum, Sink, Source, Vault};
 use session_program::mod_tally::Faillock;
 use session_program::{Desk, pamsess};
 use std::alloc::Global;
 use std::io;
 use std::process::ExitCode;
+use system_objects::{FolderVault, ReaderSource, RealClock, SleepNap, WriterSink};
 
 #[cfg(test)]
 mod tests;

@@ -1,9 +1,6 @@
 use super::{bytes_of, read_some};
 use pam_base::{Failed, Text};
-use pam_outside::{
-    Clock, FolderVault, LockKind, Nap, ReaderSource, RealClock, ReplaceFault, Sink, SleepNap,
-    Vault, VaultFault, WriterSink, write_all,
-};
+use pam_outside::{Clock, LockKind, Nap, ReplaceFault, Sink, Vault, VaultFault, write_all};
 use std::fs::Permissions;
 use std::io::{self, ErrorKind, Read};
 use std::os::unix::fs::PermissionsExt;
@@ -12,6 +9,7 @@ use std::random::RandomSource;
 use std::test::Fail;
 use std::time::{Duration, Instant};
 use std::{env, fs, process};
+use system_objects::{FolderVault, ReaderSource, RealClock, SleepNap, WriterSink};
 
 // A reader whose second read fails.
 #[derive(Drop)]

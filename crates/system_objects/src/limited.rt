@@ -3,9 +3,8 @@ ghost use Rattle.std.specs.Io.KnownBytes.{Consumes, IsAtEnd};
 ghost use Rattle.pam_outside.specs.Counts.{next_count};
 
 use crate::reader_source::ReaderSource;
-use crate::source::Source;
-use crate::vault::VaultFault;
 use pam_base::Text;
+use pam_outside::{Source, VaultFault};
 use std::alloc::Global;
 use std::io::Read;
 

@@ -1,7 +1,7 @@
 use Rattle.std.proofs.Common.{◌≡◌, ◌≤◌, ◌-◌}
 use Rattle.std.specs.Io.KnownBytes.{Consumes}
 use Rattle.std.specs.Vec.{vec_len}
-use Rattle.pam_outside.proofs.limited.read_until.Given as goal
+use Rattle.system_objects.proofs.limited.read_until.Given as goal
 
 abbrev pub invariant-loop-size : goal.invariant-loop-size
 invariant-loop-size g l = record {

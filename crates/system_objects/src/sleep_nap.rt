@@ -1,6 +1,6 @@
 ghost use Rattle.std.specs.Prelude.{false};
 
-use crate::nap::Nap;
+use pam_outside::Nap;
 use std::rt::Clock as SystemClock;
 use std::thread;
 use std::time::Duration;

@@ -1,8 +1,7 @@
 ghost use Rattle.std.specs.Prelude.{◌≡◌, Err};
 ghost use Rattle.std.specs.Str.{IsUtf8};
 
-use crate::held::is_at;
-use crate::vault::ReplaceFault;
+use pam_outside::{ReplaceFault, is_at};
 use std::alloc::Global;
 use std::fs::{self, File, OpenOptions, metadata, read_dir, symlink_metadata};
 use std::io::{self, ErrorKind, Write};

@@ -4,13 +4,12 @@ ghost use Rattle.pam_outside.specs.Counts.{Rose, next_count};
 ghost use Rattle.pam_outside.specs.Files.{ReadsFile, TellsFolder, Replaces, counted, file_at};
 
 use crate::beside::replace_beside;
-use crate::held::{Held, LockKind, hold_path};
 use crate::held_file::{HeldFile, put_held, take_held};
 use crate::limited::{CHUNK, read_of_size, read_to_limit};
 use crate::read_at::ReadAt;
 use crate::reader_source::ReaderSource;
-use crate::vault::{ReplaceFault, Vault, VaultFault};
 use pam_base::{Failed, Text};
+use pam_outside::{Held, LockKind, ReplaceFault, Vault, VaultFault, hold_path};
 use std::alloc::Global;
 use std::fs;
 use std::io::ErrorKind;
@@ -31,7 +30,7 @@ pub struct FolderVault {
 
 impl Model for FolderVault {
     ghost use Rattle.std.specs.declared.rt.LibcRuntime.{LibcRuntime};
-    ghost use Rattle.pam_outside.specs.Adapter.{Adapter};
+    ghost use Rattle.system_objects.specs.Adapter.{Adapter};
 
     ghost Value = { Adapter LibcRuntime };
 
