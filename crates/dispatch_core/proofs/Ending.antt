@@ -1,5 +1,5 @@
 -- The result of a walk over all lines, by its last turn.
-use Rattle.std.proofs.Common.{◌≡◌, true, Option, Some, None, is_some, List, refl, sym, ◌∙◌, ap, subst}
+use Rattle.std.proofs.Common.{◌≡◌, true, Some, None, is_some, List, refl, sym, ◌∙◌, ap, subst}
 use Rattle.pam_base.specs.declared.code.Code.{Code}
 use Rattle.frozen_chain.specs.Kept.{Answers}
 use Rattle.control_words.specs.Stack.{Stack}
@@ -23,7 +23,7 @@ module _ {State : Type 0} (w : Walked (PassState State)) (opinion : Opinion) (pa
       subst (λ (x : Walked (PassState State)). WalksAs x (Some code) kept given state) is (record { end_is = ap (λ (c : Code). Some c) decided; kept_is = keeps; taken_is = taken; state_is = refl })
 
 -- a turn more, of a chain whose stack stayed
-pub turn_more : {State : Type 0} (kind : PassKind) (serve : Serving State) (now start : Stack) (old : Walker) (s : State) (all : Walked State) (answer which : Option Code) (behind : Stack → Option Code → Walked State)
-    → now ≡ start → walk_on kind serve now old s ≡ behind now answer → answer ≡ which → walk_on kind serve start old s ≡ all → behind start which ≡ all
-turn_more kind serve now start old s all answer which behind same turn is so_far =
-    ap (λ (stack : Stack). behind stack which) (sym same) ∙ ap (behind now) (sym is) ∙ sym turn ∙ ap (λ (stack : Stack). walk_on kind serve stack old s) same ∙ so_far
+pub turn_more : {State : Type 0} (kind : PassKind) (serve : Serving State) (now start : Stack) (old : Walker) (s : State) (all : Walked State) (behind : Stack → Walked State)
+    → now ≡ start → walk_on kind serve now old s ≡ behind now → walk_on kind serve start old s ≡ all → behind start ≡ all
+turn_more kind serve now start old s all behind same turn so_far =
+    ap behind (sym same) ∙ sym turn ∙ ap (λ (stack : Stack). walk_on kind serve stack old s) same ∙ so_far

@@ -5,8 +5,10 @@ use Rattle.std.proofs.lemmas.Bool.{cases_eq}
 use Rattle.std.proofs.lemmas.List.{length-replicate, length-set}
 use Rattle.pam_base.specs.declared.code.Code.{Code}
 use Rattle.frozen_chain.specs.Kept.{Answers, empty_cells, kept_at, lines_kept}
+use Rattle.stack_walk.specs.declared.pass_kind.PassKind.{PassKind}
+use Rattle.stack_walk.specs.declared.pass_kind.PassKind.TheVariants as kinds
 use Rattle.stack_walk.specs.Pass.{Visit, visit, kept_in, answers_of}
-use Rattle.dispatch_core.specs.Passes.{by_place, Keeps}
+use Rattle.dispatch_core.specs.Passes.{by_place, first_cells, Keeps}
 
 -- ---- cells
 
@@ -109,3 +111,11 @@ held-more (Some cells) at answer = refl
 
 pub lines_kept-empty : (n : ℕ) → lines_kept (Some (empty_cells n)) ≡ n
 lines_kept-empty n = length-replicate n None
+
+pub first_cells-open : (kind : PassKind) (n : ℕ) → is_some (first_cells kind n) ≡ true → first_cells kind n ≡ Some (empty_cells n)
+first_cells-open kinds.Keep n there = refl
+first_cells-open kinds.Follow n there = cc
+first_cells-open kinds.Loose n there = cc
+
+pub first_cells-held : (kind : PassKind) (n : ℕ) → kind ≡ kinds.Keep → is_some (first_cells kind n) ≡ true
+first_cells-held kind n keep = ap (λ (k : PassKind). is_some (first_cells k n)) keep

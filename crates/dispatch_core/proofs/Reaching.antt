@@ -1,5 +1,5 @@
 -- How far a pass has got, whatever codes come after it; and where it stops if it runs out of memory.
-use Rattle.std.proofs.Common.{◌≡◌, ℕ, ◌+◌, ◌-◌, ◌<◌, ◌⊎◌, inl, inr, Bool, false, ◌&&◌, IsTrue, List, [], ◌∷◌, ◌++◌, length, append_assoc, append-nil, Option, Some, None, IfSome, refl, sym, ◌∙◌, ap, subst, arith}
+use Rattle.std.proofs.Common.{◌≡◌, ℕ, ◌+◌, ◌-◌, ◌<◌, ◌⊎◌, inl, inr, Bool, false, ◌&&◌, IsTrue, List, [], ◌∷◌, ◌++◌, length, append_assoc, append-nil, Option, Some, None, refl, sym, ◌∙◌, ap, subst, arith}
 use Rattle.pam_base.specs.declared.code.Code.{Code}
 use Rattle.pam_base.specs.declared.code.Code.TheVariants as codes
 use Rattle.pam_base.specs.declared.call.Func.{Func}
@@ -158,11 +158,11 @@ module _ (players : List Player) (func : Func) (flags : ℕ) (stack : Stack) whe
 
     -- the same of a chain whose stack stayed, by the turn's result
     pub far_later : (nodes : Stack) (walker new : Walker) (past left : List Code) (code : Code) (now later : State) (answer : Option Code) → nodes ≡ stack → (still : Bool) → (IsTrue tells → IsTrue still)
-        → Far walker past now → IfSome answer (λ (k : Code). GoesBy kind kept nodes k walker new) → Takes players func flags nodes still walker.at answer past left now later → answer ≡ Some code
+        → Far walker past now → GoesBy kind kept nodes code walker new → Takes players func flags nodes still walker.at answer past left now later → answer ≡ Some code
         → Far new left later
     far_later nodes walker new past left code now later answer same still tell far goes takes is =
         far_more walker new past left code now later far
-        (subst (λ (t : Stack). GoesBy kind kept t code walker new) same (subst (λ (o : Option Code). IfSome o (λ (k : Code). GoesBy kind kept nodes k walker new)) is goes))
+        (subst (λ (t : Stack). GoesBy kind kept t code walker new) same goes)
         (takes_told still walker.at code past left now later tell
         (subst (λ (t : Stack). Takes players func flags t still walker.at (Some code) past left now later) same (subst (λ (o : Option Code). Takes players func flags nodes still walker.at o past left now later) is takes)))
 

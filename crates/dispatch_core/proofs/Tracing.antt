@@ -1,9 +1,10 @@
 -- A pass replayed by its trace, as far as it has got.
-use Rattle.std.proofs.Common.{◌≡◌, ℕ, ◌+◌, ◌<◌, ◌≤◌, inl, inr, Bool, true, false, ◌&&◌, nat_eq, if◌then◌else◌, List, [], ◌∷◌, ◌++◌, append_assoc, append-nil, Option, Some, None, is_some, IfSome, Result, Ok, Err, IfOk, is_ok, refl, sym, ◌∙◌, ap, subst, arith, eq-eqb}
+use Rattle.std.proofs.Common.{◌≡◌, ℕ, ◌+◌, ◌<◌, ◌≤◌, inl, inr, Bool, true, false, ◌&&◌, nat_eq, if◌then◌else◌, List, [], ◌∷◌, ◌++◌, append_assoc, append-nil, Option, Some, None, is_some, Result, Ok, Err, IfOk, OnErr, is_ok, refl, sym, ◌∙◌, ap, subst, arith, eq-eqb}
 use Rattle.std.specs.Str.{bytes_eq}
 use Rattle.pam_base.specs.declared.code.Code.{Code}
 use Rattle.pam_base.specs.declared.code.Code.TheVariants as codes
 use Rattle.pam_base.specs.declared.call.Func.{Func}
+use Rattle.pam_base.specs.declared.fault.NoMemory.{NoMemory}
 use Rattle.control_words.specs.declared.nodes.Rule.{Rule}
 use Rattle.control_words.specs.Module.{name_of_module}
 use Rattle.control_words.specs.Stack.{Stack, lines_in}
@@ -24,7 +25,7 @@ use Rattle.dispatch_core.specs.EntryStates.{entry_at}
 use Rattle.dispatch_core.specs.Failing.{GoesBy, IsAsked, Takes, visited_at}
 use Rattle.dispatch_core.specs.AnswersSoFar.{AnswersView}
 use Rattle.dispatch_core.specs.Index.{walk_on}
-use Rattle.dispatch_core.specs.Passes.{Keeps, KeepsAfter, KeepsAll, LeavesAs, PassesAs, WalksAs, kept_behind}
+use Rattle.dispatch_core.specs.Passes.{Keeps, KeepsAfter, KeepsAll, LeavesAs, WalksAs, answer_in, code_by, kept_behind, paused_by}
 use Rattle.dispatch_core.specs.Trail.{ByTrail, seen_in, seen_of}
 use Rattle.dispatch_core.proofs.Ending.{walks_off, walks_to}
 use Rattle.dispatch_core.proofs.Taking.{put_off}
@@ -115,11 +116,11 @@ module _ (kind : PassKind) (kept : KeptAnswers) (stack : Stack) (given : List Co
 
     -- the same of a chain whose stack stayed, by the turn's result
     pub traced_later : (nodes : Stack) (new : Walker) (code : Code) (answer : Option Code) → nodes ≡ stack
-        → IfSome answer (λ (k : Code). GoesBy kind kept nodes k walker new) → Takes players func flags nodes tells walker.at answer past left now later → answer ≡ Some code
+        → GoesBy kind kept nodes code walker new → Takes players func flags nodes tells walker.at answer past left now later → answer ≡ Some code
         → Traced new left (visits ++ visit (walker.at + 1) code ∷ []) later.room.transaction.trail
     traced_later nodes new code answer same goes takes is =
         traced_more new code
-        (subst (λ (t : Stack). GoesBy kind kept t code walker new) same (subst (λ (o : Option Code). IfSome o (λ (k : Code). GoesBy kind kept nodes k walker new)) is goes))
+        (subst (λ (t : Stack). GoesBy kind kept t code walker new) same goes)
         (subst (λ (t : Stack). Takes players func flags t tells walker.at (Some code) past left now later) same (subst (λ (o : Option Code). Takes players func flags nodes tells walker.at o past left now later) is takes))
 
     module _ (cells : Answers) (view : AnswersView) (taken : view.taken ≡ answers_of visits) (keeps : is_some cells ≡ true → Keeps cells visits) where
@@ -159,7 +160,7 @@ module _ (kind : PassKind) (kept : KeptAnswers) (stack : Stack) (given : List Co
 
 module _ (kind : PassKind) (kept : KeptAnswers) (stack : Stack) where
   -- what follows from what a walk gives and leaves
-  pub by_trail : (given past : List Code) (start before after : List Visited) (As Bs : Walked (PassState Telling) → Telling → Type 0) → given ≡ past → start ≡ before
+  by_trail : (given past : List Code) (start before after : List Visited) (As Bs : Walked (PassState Telling) → Telling → Type 0) → given ≡ past → start ≡ before
       → ((w : Walked (PassState Telling)) (told : Telling) → As w told → Bs w told) → ByTrail kind kept stack given start after As → ByTrail kind kept stack past before after Bs
   by_trail given past start before after As Bs all first each b = record {
     more = b.more;
@@ -175,42 +176,50 @@ on_if : (b : Bool) (code x : Code) → Some code ≡ (if b then None else Some x
 on_if true code x e = (cc)
 on_if false code x e = (refl, cc)
 
-pub passes_off : {T : Type 0} (kind : PassKind) (w : Walked (PassState T)) (code : Code) (cells : Answers) (view : AnswersView) (paused : Option (List Code)) (t : T) → code ≡ codes.Incomplete → paused ≡ Some view.taken
-    → (kind ≡ kinds.Keep → is_some cells ≡ true) → WalksAs w None cells view t → PassesAs kind w code cells paused t
-passes_off kind w code cells view paused t off at held walks =
-    let stops : w.stopped ≡ true = off_if w.stopped (verdict w.opinion) walks.end_is in
-    record {
-      code_is = off ∙ ap (λ (b : Bool). if b then codes.Incomplete else verdict w.opinion) (sym stops);
-      kept_is = λ keep. (held keep, walks.kept_is (held keep));
-      paused_is = at ∙ ap Some walks.taken_is ∙ ap (λ (b : Bool). if b then Some (answers_of w.state.visits) else None) (sym stops);
-      state_is = walks.state_is;
-    }
-
-pub passes_on : {T : Type 0} (kind : PassKind) (w : Walked (PassState T)) (code : Code) (cells : Answers) (view : AnswersView) (paused : Option (List Code)) (t : T) → paused ≡ None
-    → (kind ≡ kinds.Keep → is_some cells ≡ true) → WalksAs w (Some code) cells view t → PassesAs kind w code cells paused t
-passes_on kind w code cells view paused t none held walks =
-    let on = on_if w.stopped code (verdict w.opinion) walks.end_is in
-    record {
-      code_is = on.1 ∙ ap (λ (b : Bool). if b then codes.Incomplete else verdict w.opinion) (sym on.0);
-      kept_is = λ keep. (held keep, walks.kept_is (held keep));
-      paused_is = none ∙ ap (λ (b : Bool). if b then Some (answers_of w.state.visits) else None) (sym on.0);
-      state_is = walks.state_is;
-    }
-
 kept_so : (kind : PassKind) (visits : List Visit) (cells old new : Answers) → new ≡ kept_behind kind true cells old → (kind ≡ kinds.Keep → KeepsAll cells visits) → KeepsAfter kind visits old new
 kept_so kinds.Keep visits cells old new is all = subst (λ (k : Answers). KeepsAll k visits) (sym is) (all refl)
 kept_so kinds.Follow visits cells old new is all = is
 kept_so kinds.Loose visits cells old new is all = is
 
-pub leaves_as : {T : Type 0} (kind : PassKind) (w : Walked (PassState T)) (cells old new : Answers) (code : Code) (paused : Option (List Code)) (t : T) → new ≡ kept_behind kind true cells old
-    → PassesAs kind w code cells paused t → LeavesAs kind w old code new paused t
-leaves_as kind w cells old new code paused t is passes = record { code_is = passes.code_is; kept_is = kept_so kind w.state.visits cells old new is passes.kept_is; paused_is = passes.paused_is; state_is = passes.state_is }
+leaves_as : {T : Type 0} (kind : PassKind) (w : Walked (PassState T)) (end : Option Code) (cells old new : Answers) (view : AnswersView) (paused : Option (List Code)) (t : T)
+    → new ≡ kept_behind kind true cells old → paused ≡ paused_by (Ok end) view.taken → (kind ≡ kinds.Keep → is_some cells ≡ true) → WalksAs w end cells view t → LeavesAs kind w old (answer_in end) new paused t
+leaves_as kind w None cells old new view paused t keeps at held walks =
+    let stops : w.stopped ≡ true = off_if w.stopped (verdict w.opinion) walks.end_is in
+    record {
+      code_is = ap (λ (b : Bool). if b then codes.Incomplete else verdict w.opinion) (sym stops);
+      kept_is = kept_so kind w.state.visits cells old new keeps (λ keep. (held keep, walks.kept_is (held keep)));
+      paused_is = at ∙ ap Some walks.taken_is ∙ ap (λ (b : Bool). if b then Some (answers_of w.state.visits) else None) (sym stops);
+      state_is = walks.state_is;
+    }
+leaves_as kind w (Some code) cells old new view paused t keeps at held walks =
+    let on = on_if w.stopped code (verdict w.opinion) walks.end_is in
+    record {
+      code_is = on.1 ∙ ap (λ (b : Bool). if b then codes.Incomplete else verdict w.opinion) (sym on.0);
+      kept_is = kept_so kind w.state.visits cells old new keeps (λ keep. (held keep, walks.kept_is (held keep)));
+      paused_is = at ∙ ap (λ (b : Bool). if b then Some (answers_of w.state.visits) else None) (sym on.0);
+      state_is = walks.state_is;
+    }
 
--- the whole pass: what is cached after it
-pub pass_leaves : {E : Type 0} (result : Result Code E) (answered : Bool) (kind : PassKind) (kept : KeptAnswers) (stack : Stack) (past : List Code) (before after : List Visited) (cells old new : Answers) (paused : Option (List Code))
-    → answered ≡ is_ok result → new ≡ kept_behind kind answered cells old
-    → IfOk result (λ code. ByTrail kind kept stack past before after (λ w told. PassesAs kind w code cells paused told)) → IfOk result (λ code. ByTrail kind kept stack past before after (λ w told. LeavesAs kind w old code new paused told))
-pass_leaves (Err e) answered kind kept stack past before after cells old new paused ended keeps b = tt
-pass_leaves (Ok code) answered kind kept stack past before after cells old new paused ended keeps b =
-    by_trail kind kept stack past past before before after (λ w told. PassesAs kind w code cells paused told) (λ w told. LeavesAs kind w old code new paused told) refl refl
-    (λ w told passes. leaves_as kind w cells old new code paused told (keeps ∙ ap (λ (a : Bool). kept_behind kind a cells old) ended) passes) b
+-- the whole pass, by how its walk ended: what is cached and paused after it
+module _ (kind : PassKind) (cells old new : Answers) (view : AnswersView) (paused : Option (List Code)) (held : kind ≡ kinds.Keep → is_some cells ≡ true) where
+  pub pass_leaves : {T : Type 0} (w : Walked (PassState T)) (t : T) (ended : Result (Option Code) NoMemory) (result : Result Code NoMemory)
+      → result ≡ code_by ended → new ≡ kept_behind kind (is_ok ended) cells old → paused ≡ paused_by ended view.taken
+      → IfOk ended (λ end. WalksAs w end cells view t) → IfOk result (λ code. LeavesAs kind w old code new paused t)
+  pass_leaves {T} w t (Err e) result is keeps at walks = subst (λ (r : Result Code NoMemory). IfOk r (λ code. LeavesAs kind w old code new paused t)) (sym is) tt
+  pass_leaves {T} w t (Ok end) result is keeps at walks = subst (λ (r : Result Code NoMemory). IfOk r (λ code. LeavesAs kind w old code new paused t)) (sym is) (leaves_as kind w end cells old new view paused t keeps at held walks)
+
+  pub pass_traced : (kept : KeptAnswers) (stack : Stack) (given past : List Code) (start before after : List Visited) (ended : Result (Option Code) NoMemory) (result : Result Code NoMemory)
+      → result ≡ code_by ended → new ≡ kept_behind kind (is_ok ended) cells old → paused ≡ paused_by ended view.taken → given ≡ past → start ≡ before
+      → IfOk ended (λ end. ByTrail kind kept stack given start after (λ w told. WalksAs w end cells view told))
+      → IfOk result (λ code. ByTrail kind kept stack past before after (λ w told. LeavesAs kind w old code new paused told))
+  pass_traced kept stack given past start before after (Err e) result is keeps at all first b =
+      subst (λ (r : Result Code NoMemory). IfOk r (λ code. ByTrail kind kept stack past before after (λ w told. LeavesAs kind w old code new paused told))) (sym is) tt
+  pass_traced kept stack given past start before after (Ok end) result is keeps at all first b =
+      subst (λ (r : Result Code NoMemory). IfOk r (λ code. ByTrail kind kept stack past before after (λ w told. LeavesAs kind w old code new paused told))) (sym is)
+      (by_trail kind kept stack given past start before after (λ w told. WalksAs w end cells view told) (λ w told. LeavesAs kind w old (answer_in end) new paused told) all first
+      (λ w told walks. leaves_as kind w end cells old new view paused told keeps at held walks) b)
+
+-- where it stopped is where its walk stopped
+pub pass_stops : {S T : Type 0} (ended : Result (Option Code) NoMemory) (result : Result Code NoMemory) → result ≡ code_by ended → (S → T) → OnErr ended S → OnErr result T
+pass_stops {S} {T} (Ok end) result is goes stops = subst (λ (r : Result Code NoMemory). OnErr r T) (sym is) tt
+pass_stops {S} {T} (Err e) result is goes stops = subst (λ (r : Result Code NoMemory). OnErr r T) (sym is) (goes stops)

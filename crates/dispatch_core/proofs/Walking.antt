@@ -51,7 +51,7 @@ module _ {State : Type 0} (kind : PassKind) (serve : Serving State) where
   skip_to (x ∷ xs) (suc k) at f o s =
       skip_to xs k (at + 1) f o s ∙ ap (λ n. run kind serve (drop k xs) 0 n f o s) (let e : at + 1 + k ≡ at + suc k = omega arith in e)
 
-  -- with all nodes passed over, nothing is walked
+  -- with all nodes skipped, nothing is walked
   all_passed : (t : Stack) (at : ℕ) (entry o : Opinion) (s : State) → walk kind serve (count t) t at entry o s ≡ walked o s
   all_passed none at entry o s = refl
   all_passed (line rule rest) at entry o s =

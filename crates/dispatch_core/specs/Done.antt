@@ -17,11 +17,9 @@ use Rattle.stack_walk.specs.Route.{KeptAnswers}
 use Rattle.stack_walk.specs.Walk.{ServedAs, Walked}
 use Rattle.dispatch_core.specs.declared.request.PassRequest.{PassRequest}
 use Rattle.dispatch_core.specs.declared.pass_memory.PassMemory.{PassMemory}
-use Rattle.dispatch_core.specs.declared.walker.Walker.{Walker}
 use Rattle.dispatch_core.specs.Failing.{BreaksAt, IsAtWork, IsUntouched, StopsAt, Takes}
-use Rattle.dispatch_core.specs.Index.{walk_on}
 use Rattle.dispatch_core.specs.Lines.{answers_by}
-use Rattle.dispatch_core.specs.Passes.{answer_in, taken_with, turned, visits_with}
+use Rattle.dispatch_core.specs.Passes.{answer_in, taken_with, visits_with}
 use Rattle.dispatch_core.specs.Paths.{HasPaths}
 use Rattle.dispatch_core.specs.Trail.{ByTrail}
 
@@ -34,17 +32,6 @@ GivesLine players request stack i answer past left s t =
     (pass_state past visits s))
     (answer_in answer) (decides kind kept (i + 1) (answer_in answer)) (is_none answer)
     (pass_state left (visits_with visits (i + 1) answer) t)
-
--- a turn is the next step of the walk from where a walker is
-abbrev pub TurnsLine : List Player → PassRequest → KeptAnswers → Stack → Walker → Walker
-    → Option Code → List Code → List Code → State → State → Type 0
-TurnsLine players request kept stack old new answer past left s t =
-    (visits : List Visit) → walk_on request.kind
-    (serving request.kind kept (answers_by players request.func request.flags)) stack old
-    (pass_state past visits s)
-    ≡ turned request.kind
-    (serving request.kind kept (answers_by players request.func request.flags)) stack answer
-    old.opinion new (pass_state left (visits_with visits (old.at + 1) answer) t)
 
 module _ {C World : Type 0} {T : C → Type 0} where
   -- The line of an index has returned: what is taken of the codes of earlier calls and of the memory of the pass, and

@@ -1,19 +1,16 @@
 -- What a pass by index leaves.
-use Rattle.std.specs.Prelude.{◌≡◌, ℕ, zero, suc, ◌<◌, Bool, true, if◌then◌else◌, Option, Some, None, is_some, List, [], ◌∷◌, ◌++◌}
+use Rattle.std.specs.Prelude.{◌≡◌, ℕ, zero, suc, Bool, true, if◌then◌else◌, Option, Some, None, is_some, List, [], ◌∷◌, ◌++◌, Result, Ok, Err}
 use Rattle.pam_base.specs.declared.code.Code.{Code}
 use Rattle.pam_base.specs.declared.code.Code.TheVariants as codes
-use Rattle.control_words.specs.Stack.{Stack}
-use Rattle.frozen_chain.specs.Kept.{Answers, answer_at, kept_at}
-use Rattle.stack_walk.specs.declared.opinion.Opinion.{Opinion}
+use Rattle.pam_base.specs.declared.fault.NoMemory.{NoMemory}
+use Rattle.frozen_chain.specs.Kept.{Answers, answer_at, empty_cells}
 use Rattle.stack_walk.specs.declared.pass_kind.PassKind.{PassKind}
 use Rattle.stack_walk.specs.declared.pass_kind.PassKind.TheVariants as kinds
 use Rattle.stack_walk.specs.Opinion.{verdict}
-use Rattle.stack_walk.specs.Walk.{Serving, Walked, halted, code_of}
+use Rattle.stack_walk.specs.Walk.{Walked, code_of}
 use Rattle.stack_walk.specs.Route.{KeptAnswers}
 use Rattle.stack_walk.specs.Pass.{PassState, Visit, visit, kept_in, answers_of}
-use Rattle.dispatch_core.specs.declared.walker.Walker.{Walker}
 use Rattle.dispatch_core.specs.AnswersSoFar.{AnswersView}
-use Rattle.dispatch_core.specs.Index.{walk_on}
 
 -- cached codes by rule number, from 1
 abbrev pub by_place : Answers → KeptAnswers
@@ -34,21 +31,13 @@ abbrev pub taken_with : List Code → Option Code → List Code
 taken_with taken None = taken
 taken_with taken (Some answer) = taken ++ answer ∷ []
 
-abbrev pub kept_with : Answers → ℕ → Option Code → Answers
-kept_with kept i None = kept
-kept_with kept i (Some answer) = kept_at kept i answer
-
-abbrev pub IsAhead : Option Code → Walker → Walker → Type 0
-IsAhead None old new = Unit {0}
-IsAhead (Some answer) old new = old.at < new.at
-
--- what is left of a pass after a turn
-abbrev pub turned : {State : Type 0} → PassKind → Serving State → Stack → Option Code → Opinion
-    → Walker → State → Walked State
-turned kind serve stack None opinion walker state = halted opinion state
-turned kind serve stack (Some answer) opinion walker state = walk_on kind serve stack walker state
-
 -- ---- all turns
+
+-- the cells of a pass before its first line: one for each line, if it caches
+abbrev pub first_cells : PassKind → ℕ → Answers
+first_cells kinds.Keep lines = Some (empty_cells lines)
+first_cells kinds.Follow lines = None
+first_cells kinds.Loose lines = None
 
 -- the code of a walk, or None if it is incomplete
 abbrev pub end_of : {State : Type 0} → Walked State → Option Code
@@ -74,13 +63,16 @@ pub record WalksAs {State : Type 0} (w : Walked (PassState State)) (ended : Opti
 abbrev pub paused_after : {State : Type 0} → Walked (PassState State) → Option (List Code)
 paused_after w = if w.stopped then Some (answers_of w.state.visits) else None
 
--- a code, the codes cached in a pass that caches, what is paused and a state are those of a walk
-pub record PassesAs {State : Type 0} (kind : PassKind) (w : Walked (PassState State)) (code : Code)
-    (kept : Answers) (paused : Option (List Code)) (state : State) : Type 0 where
-  pub code_is : code ≡ code_of w
-  pub kept_is : kind ≡ kinds.Keep → KeepsAll kept w.state.visits
-  pub paused_is : paused ≡ paused_after w
-  pub state_is : state ≡ w.state.state
+-- the code of a pass whose walk ended so: INCOMPLETE if the walk is incomplete
+abbrev pub code_by : Result (Option Code) NoMemory → Result Code NoMemory
+code_by (Ok end) = Ok (answer_in end)
+code_by (Err failure) = Err failure
+
+-- what is paused after it: the codes so far, if the walk is incomplete
+abbrev pub paused_by : Result (Option Code) NoMemory → List Code → Option (List Code)
+paused_by (Ok None) taken = Some taken
+paused_by (Ok (Some code)) taken = None
+paused_by (Err failure) taken = None
 
 -- what is cached after a pass: the codes of its lines, what was cached before, or nothing
 abbrev pub KeepsAfter : PassKind → List Visit → Answers → Answers → Type 0

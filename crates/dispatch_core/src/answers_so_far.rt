@@ -1,7 +1,7 @@
 ghost use Rattle.std.specs.Prelude.{◌≡◌, ◌<◌, ◌≤◌, ◌+◌, ◌∷◌, ◌++◌, [], None, Some, IfOk, IfSome, IfNone};
 ghost use Rattle.dispatch_core.specs.AnswersSoFar.{past_of};
 
-use crate::paused::Paused;
+use frozen_chain::Paused;
 use pam_base::{Code, NoMemory};
 use std::alloc::Global;
 use std::marker::Model;

@@ -14,17 +14,16 @@ mod next_line;
 mod pass;
 mod pass_memory;
 mod paths;
-mod paused;
 mod request;
 mod turn;
 mod walker;
 
 pub use control_words;
+pub use frozen_chain::Paused;
 pub use handler_chain;
 pub use pam_room;
 pub use pam_room::{conv_port, fail_delay, pam_outside};
 pub use pass::dispatch;
-pub use paused::Paused;
 pub use request::PassRequest;
 pub use service_load;
 pub use stack_walk;

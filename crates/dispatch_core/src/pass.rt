@@ -1,4 +1,4 @@
-ghost use Rattle.std.specs.Prelude.{◌≡◌, ◌<◌, ◌≤◌, [], None, Some, true, is_some, length, map, IfOk, OnOk, OnErr, IsNone, IsTrue};
+ghost use Rattle.std.specs.Prelude.{◌≡◌, ◌<◌, ◌≤◌, [], None, Some, true, false, is_some, length, map, IfOk, OnErr, IsNone, IsTrue, is_ok};
 ghost use Rattle.control_words.specs.Stack.{lines_in};
 ghost use Rattle.frozen_chain.specs.Kept.{empty_cells};
 ghost use Rattle.pam_room.specs.Stays.{AreReady};
@@ -7,15 +7,15 @@ ghost use Rattle.dispatch_core.specs.AnyWorld.{PassStays};
 ghost use Rattle.dispatch_core.specs.Done.{IsUntouchedOrStops, PassDone, PassStops};
 ghost use Rattle.dispatch_core.specs.AnswersSoFar.{past_of};
 ghost use Rattle.dispatch_core.specs.Paths.{HasPaths};
-ghost use Rattle.dispatch_core.specs.Passes.{LeavesAs, PassesAs, WalksAs, by_place, kept_behind, kept_failed};
+ghost use Rattle.dispatch_core.specs.Passes.{LeavesAs, WalksAs, by_place, code_by, kept_behind, kept_failed, paused_by};
 
+use crate::answers_so_far::AnswersSoFar;
 use crate::laws;
 use crate::pass_memory::PassMemory;
-use crate::paused::Paused;
 use crate::request::PassRequest;
-use crate::turn::walk_line;
+use crate::turn::{act_on, next_answer};
 use crate::walker::Walker;
-use frozen_chain::Kept;
+use frozen_chain::{Kept, Paused};
 use handler_chain::Chain;
 use pam_base::{Code, NoMemory};
 use pam_room::{Module, Room, RoomTold, World, WorldTold};
@@ -51,7 +51,7 @@ fn walk(
         ⟦<Room as RoomTold>⟧.tells ⟦<Room as RoomTold>⟧.plain
         ⟦<World as WorldTold>⟧.tells ⟦<World as WorldTold>⟧.plain
         result chain.old chain.new room.old room.new world.old world.new }
-    ensures held { OnOk result (is_some keeps.new ≡ is_some keeps.old) }
+    ensures held { is_some keeps.new ≡ is_some keeps.old }
     ensures none { IfOk result (λ end. IsNone end → memory.new.answers.past ≡ []) }
     ensures stopped { OnErr result (PassStops
         (map (player_of label plays note breaks) mods.now) request chain.old.nodes
@@ -63,90 +63,53 @@ fn walk(
     laws::soundness_is_transitive();
     let mut walker = Walker::new();
     while walker.at < chain.len() {
-        let Some(_answer) = walk_line(
-            alloc,
-            chain,
-            mods,
-            request,
-            follows,
-            keeps,
-            memory,
-            room,
-            world,
-            &mut walker,
-        )?
-        else {
+        let i = walker.at;
+        let Some(answer) = next_answer(alloc, chain, mods, request, i, memory, room, world)? else {
             return Ok(None);
         };
+        act_on(chain, request.kind, follows, keeps, answer, &mut walker);
     }
     Ok(Some(walker.opinion.verdict()))
 }
 
-// Allocates everything, walks the stack, and pauses if the walk is incomplete.
-fn walk_all(
-    alloc: Global,
-    chain: &mut Chain,
-    mods: &[Box<dyn Module>],
-    request: PassRequest,
-    follows: &Kept,
-    keeps: &mut Kept,
-    paused: &mut Paused,
-    room: &mut Room,
-    world: &mut World,
-) -> Result<Code, NoMemory>
-    requires names { chain.old.names ≡ map label mods.now }
-    requires cells { keeps.old ≡ None }
-    requires ready { AreReady (length mods.now) room.old world.old }
-    ensures stays { PassStays (map (player_of label plays note breaks) mods.now) (length mods.now)
-        ⟦<Room as RoomTold>⟧.tells ⟦<World as WorldTold>⟧.tells
-        room.old room.new world.old world.new }
-    ensures done { PassDone (map (player_of label plays note breaks) mods.now) request
-        (by_place follows.now) (past_of paused.old)
-        (λ _ w code state. PassesAs request.kind w code keeps.new paused.new state)
-        ⟦<Room as RoomTold>⟧.tells ⟦<Room as RoomTold>⟧.plain
-        ⟦<World as WorldTold>⟧.tells ⟦<World as WorldTold>⟧.plain
-        result chain.old chain.new room.old room.new world.old world.new }
-    ensures paused { OnErr result (paused.new ≡ None) }
-    ensures put_off { IfOk result (λ code. IsTrue (is_some paused.new) → code ≡ Code.Incomplete) }
-    ensures stopped { OnErr result (IsUntouchedOrStops
-        (map (player_of label plays note breaks) mods.now) request chain.old.nodes
-        (by_place follows.now) (past_of paused.old) ⟦<Room as RoomTold>⟧.tells
-        ⟦<Room as RoomTold>⟧.plain ⟦<World as WorldTold>⟧.tells ⟦<World as WorldTold>⟧.plain
-        room.old room.new world.old world.new) }
-{
-    pam_room::data_cleanup::laws::nothing_grows();
-    let mut memory = PassMemory::take(alloc, chain, paused, room)?;
-    if request.kind == PassKind::Keep {
-        keeps.open(alloc, chain.len())?;
-    }
-    match walk(
-        alloc,
-        chain,
-        mods,
-        request,
-        follows,
-        keeps,
-        &mut memory,
-        room,
-        world,
-    )? {
-        Some(code) => Ok(code),
-        None => {
-            *paused = memory.answers.pause();
-            Ok(Code::Incomplete)
-        }
-    }
-}
-
 // What stays cached after a pass that has ended, or for which an allocation failed.
 fn keep_answers(kind: PassKind, kept: &mut Kept, keeps: Kept, answered: bool)
-    ensures { kept.new ≡ kept_behind kind answered keeps kept.old }
+    ensures kept { kept.new ≡ kept_behind kind answered keeps kept.old }
+    ensures failed { answered ≡ false → kept.new ≡ kept_failed kind kept.old }
 {
     match kind {
         PassKind::Keep if answered => *kept = keeps,
         PassKind::Keep => kept.drop_all(),
         PassKind::Loose if answered => kept.drop_all(),
         PassKind::Follow | PassKind::Loose => {}
+    }
+}
+
+// What is cached and paused after the walk of a pass, and the code of the pass.
+fn end_pass(
+    kind: PassKind,
+    kept: &mut Kept,
+    keeps: Kept,
+    paused: &mut Paused,
+    answers: AnswersSoFar,
+    ended: Result<Option<Code>, NoMemory>,
+) -> Result<Code, NoMemory>
+    requires paused { paused.old ≡ None }
+    requires past { IfOk ended (λ end. IsNone end → answers.past ≡ []) }
+    ensures code { result ≡ code_by ended }
+    ensures kept { kept.new ≡ kept_behind kind (is_ok ended) keeps kept.old }
+    ensures paused { paused.new ≡ paused_by ended answers.taken }
+    ensures failed { OnErr result (kept.new ≡ kept_failed kind kept.old) }
+    ensures none { OnErr result (paused.new ≡ None) }
+    ensures put_off { IfOk result (λ code. IsTrue (is_some paused.new) → code ≡ Code.Incomplete) }
+{
+    keep_answers(kind, kept, keeps, ended.is_ok());
+    match ended? {
+        Some(code) => Ok(code),
+        None => {
+            *paused = answers.pause();
+            Ok(Code::Incomplete)
+        }
     }
 }
 
@@ -192,10 +155,23 @@ pub fn dispatch(
         ⟦<Room as RoomTold>⟧.plain ⟦<World as WorldTold>⟧.tells ⟦<World as WorldTold>⟧.plain
         room.old room.new world.old world.new) }
 {
+    pam_room::data_cleanup::laws::nothing_grows();
     let mut keeps = Kept::none();
-    let result = walk_all(
-        alloc, chain, mods, request, kept, &mut keeps, paused, room, world,
+    let kind = request.kind;
+    let Ok(mut memory) = PassMemory::take(alloc, chain, kind, &mut keeps, paused, room) else {
+        keep_answers(kind, kept, keeps, false);
+        return Err(NoMemory);
+    };
+    let ended = walk(
+        alloc,
+        chain,
+        mods,
+        request,
+        kept,
+        &mut keeps,
+        &mut memory,
+        room,
+        world,
     );
-    keep_answers(request.kind, kept, keeps, result.is_ok());
-    result
+    end_pass(kind, kept, keeps, paused, memory.answers, ended)
 }

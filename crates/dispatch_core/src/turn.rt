@@ -1,15 +1,16 @@
-ghost use Rattle.std.specs.Prelude.{◌≡◌, ◌<◌, ◌≤◌, ◌+◌, ◌*◌, [], None, is_some, true, length, map, IfOk, OnOk, IfSome, IsTrue};
+ghost use Rattle.std.specs.Prelude.{◌≡◌, ◌<◌, ◌≤◌, ◌+◌, [], is_some, true, length, map, IfOk, OnOk, IsTrue};
 ghost use Rattle.control_words.specs.Stack.{lines_in};
-ghost use Rattle.frozen_chain.specs.Kept.{lines_kept};
+ghost use Rattle.frozen_chain.specs.Kept.{kept_at, lines_kept};
+ghost use Rattle.handler_chain.specs.FlatLines.{FlatLine};
 ghost use Rattle.pam_room.specs.Stays.{AreReady};
 ghost use Rattle.pam_room.specs.Module.{player_of};
-ghost use Rattle.stack_walk.specs.declared.pass_kind.PassKind.{PassKind};
 ghost use Rattle.stack_walk.specs.Pass.{decides, is_incomplete};
 ghost use Rattle.dispatch_core.specs.AnyWorld.{PassStays};
-ghost use Rattle.dispatch_core.specs.Done.{GivesLine, LineDone, TurnsLine};
+ghost use Rattle.dispatch_core.specs.Done.{GivesLine, LineDone};
 ghost use Rattle.dispatch_core.specs.Failing.{GoesBy};
+ghost use Rattle.dispatch_core.specs.Index.{GoesOn, Stands};
 ghost use Rattle.dispatch_core.specs.Paths.{HasPaths};
-ghost use Rattle.dispatch_core.specs.Passes.{IsAhead, by_place, kept_with};
+ghost use Rattle.dispatch_core.specs.Passes.{by_place};
 
 use crate::line::ask_line;
 use crate::pass_memory::PassMemory;
@@ -95,59 +96,32 @@ pub fn next_answer(
     Ok(Some(answer))
 }
 
-/// One turn: the next line returns its code, which is cached if cells are open, and the walker acts
-/// on it. None if the line leaves the pass incomplete.
-pub fn walk_line(
-    alloc: Global,
+/// The code of the walker's line is cached if cells are open, and the walker acts on it.
+pub fn act_on(
     chain: &mut Chain,
-    mods: &[Box<dyn Module>],
-    request: PassRequest,
+    kind: PassKind,
     follows: &Kept,
     keeps: &mut Kept,
-    memory: &mut PassMemory,
-    room: &mut Room,
-    world: &mut World,
+    answer: Code,
     walker: &mut Walker,
-) -> Result<Option<Code>, NoMemory>
+)
     requires within { walker.old.at < lines_in chain.old.nodes }
-    requires names { chain.old.names ≡ map label mods.now }
-    requires answers { memory.old.answers.past ≡ [] → 0 < memory.old.answers.room }
-    requires paths { HasPaths chain.old.nodes walker.old.at memory.old.paths }
-    requires spare { 0 < room.old.transaction.trail.spare }
-    requires ready { AreReady (length mods.now) room.old world.old }
     requires cells { is_some keeps.old ≡ true → walker.old.at < lines_kept keeps.old }
-    ensures stays { PassStays (map (player_of label plays note breaks) mods.now) (length mods.now)
-        ⟦<Room as RoomTold>⟧.tells ⟦<World as WorldTold>⟧.tells
-        room.old room.new world.old world.new }
-    ensures told { let seen = ⟦<Both as Told>⟧.seen in IsTrue (seen room.old world.old).tells →
-        IfOk result (λ answer. TurnsLine (map (player_of label plays note breaks) mods.now)
-        request (by_place follows.now) chain.old.nodes walker.old walker.new answer
-        memory.old.answers.past memory.new.answers.past
-        (seen room.old world.old).state (seen room.new world.new).state) }
-    ensures line { LineDone (map (player_of label plays note breaks) mods.now) request
-        chain.old.nodes walker.old.at ⟦<Room as RoomTold>⟧.tells ⟦<Room as RoomTold>⟧.plain
-        ⟦<World as WorldTold>⟧.tells ⟦<World as WorldTold>⟧.plain
-        result memory.old memory.new room.old room.new world.old world.new }
-    ensures ahead { IfOk result (λ answer. IsAhead answer walker.old walker.new) }
-    ensures keeps { IfOk result (λ answer. keeps.new ≡ kept_with keeps.old walker.old.at answer) }
-    ensures goes { IfOk result (λ answer. IfSome answer (λ code.
-        GoesBy request.kind (by_place follows.now) chain.old.nodes code walker.old
-        walker.new)) }
+    ensures line { (line : FlatLine) → Stands chain.old.nodes walker.old.at line →
+        GoesOn kind line answer
+        (decides kind (by_place follows.now) (walker.old.at + 1) answer) walker.old walker.new }
+    ensures goes { GoesBy kind (by_place follows.now) chain.old.nodes answer walker.old
+        walker.new }
+    ensures ahead { walker.old.at < walker.new.at }
+    ensures keeps { keeps.new ≡ kept_at keeps.old walker.old.at answer }
     ensures nodes { chain.new.nodes ≡ chain.old.nodes }
     ensures names { chain.new.names ≡ chain.old.names }
-    ensures looks { OnOk result (chain.new.looks + 4 *
-        (length room.old.transaction.trail.visits + length memory.new.answers.past)
-        ≤ chain.old.looks + 4 *
-        (length room.new.transaction.trail.visits + length memory.old.answers.past)) }
+    ensures looks { chain.new.looks ≤ chain.old.looks + 4 }
 {
     let i = walker.at;
-    let Some(answer) = next_answer(alloc, chain, mods, request, i, memory, room, world)? else {
-        return Ok(None);
-    };
     if keeps.held() {
         keeps.keep(i, answer);
     }
-    let deciding = decide(request.kind, follows, i, answer);
-    walker.go_on(chain, request.kind, answer, deciding);
-    Ok(Some(answer))
+    let deciding = decide(kind, follows, i, answer);
+    walker.go_on(chain, kind, answer, deciding);
 }

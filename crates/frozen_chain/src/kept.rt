@@ -1,42 +1,16 @@
-ghost use Rattle.std.specs.Prelude.{◌≡◌, ◌≢◌, ◌<◌, ℕ, None, Some, is_some, OnOk, OnErr};
+ghost use Rattle.std.specs.Prelude.{◌≡◌, ◌≢◌, ◌<◌, ℕ, None, Some, OnOk, OnErr};
 ghost use Rattle.frozen_chain.specs.Kept.{answer_at, empty_cells, kept_at, lines_kept};
 
+use crate::cached::Cached;
 use pam_base::{Code, NoMemory};
 use std::alloc::Global;
-use std::marker::Model;
 
 /// Return codes cached for the lines of a stack (libpam's `cached_retval`), by their indices from
 /// 0. Contracts see None if none are held, otherwise a cell for each line: None, or the code that
 /// is cached for it.
-#[derive(Debug, Drop)]
-pub struct Kept {
-    cells: Option<Vec<Option<Code>>>,
-}
+pub type Kept = Cached<Option<Code>>;
 
-impl Model for Kept {
-    ghost use Rattle.std.specs.Prelude.{List, Option, option_map};
-    ghost use Rattle.pam_base.specs.declared.code.Code.{Code};
-
-    ghost Value = { Option (List (Option Code)) };
-
-    ghost view = { λ k. option_map (λ cells. cells.items) k.cells };
-}
-
-impl Kept {
-    /// Nothing is held. It does not allocate.
-    pub fn none() -> Kept
-        ensures { result ≡ None }
-    {
-        Kept { cells: None }
-    }
-
-    /// Whether codes are held, even for a stack without lines.
-    pub fn held(&self) -> bool
-        ensures { result ≡ is_some self.now }
-    {
-        self.cells.is_some()
-    }
-
+impl Cached<Option<Code>> {
     /// Makes room for the codes of n lines, none of which is cached yet. Earlier ones are
     /// forgotten; if an allocation fails, nothing is held.
     pub fn open(&mut self, alloc: Global, lines: usize) -> Result<(), NoMemory>
@@ -46,7 +20,7 @@ impl Kept {
         ensures err { OnErr result (self.new ≡ None) }
     {
         self.drop_all();
-        self.cells = Some(vec![in alloc; None; lines]?);
+        self.codes = Some(vec![in alloc; None; lines]?);
         Ok(())
     }
 
@@ -58,7 +32,7 @@ impl Kept {
         ensures kept { answer_at self.new i ≡ Some answer }
         ensures others { (j : ℕ) → j ≢ i → answer_at self.new j ≡ answer_at self.old j }
     {
-        if let Some(cells) = &mut self.cells {
+        if let Some(cells) = &mut self.codes {
             cells[i] = Some(answer);
         }
     }
@@ -67,7 +41,7 @@ impl Kept {
     pub fn at(&self, i: usize) -> Option<Code>
         ensures { result ≡ answer_at self.now i }
     {
-        match &self.cells {
+        match &self.codes {
             Some(cells) => cells.get(i).copied().flatten(),
             None => None,
         }
@@ -77,6 +51,6 @@ impl Kept {
     pub fn drop_all(&mut self)
         ensures { self.new ≡ None }
     {
-        self.cells = None;
+        self.codes = None;
     }
 }

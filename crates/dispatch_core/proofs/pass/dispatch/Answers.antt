@@ -1,15 +1,34 @@
-use Rattle.std.proofs.Common.{rules}
-use Rattle.dispatch_core.specs.AnswersSoFar.{past_of}
+use Rattle.std.proofs.Common.{◌≡◌, true, is_some, sym, ◌∙◌, ap, rules}
+use Rattle.control_words.specs.Stack.{lines_in}
+use Rattle.pam_room.specs.State.{PlainRoom}
+use Rattle.stack_walk.specs.declared.pass_kind.PassKind.TheVariants.{Keep}
 use Rattle.dispatch_core.specs.Passes.{by_place}
-use Rattle.dispatch_core.proofs.Tracing.{pass_leaves}
+use Rattle.dispatch_core.proofs.Progress.{first_cells-held, first_cells-open}
+use Rattle.dispatch_core.proofs.Reaching.{stopped_as}
+use Rattle.dispatch_core.proofs.Tracing.{pass_leaves, pass_stops, pass_traced}
 use Rattle.dispatch_core.proofs.pass.dispatch.Goals as goal
 
+pub walk-ended-requires-clause-cells : goal.walk-ended-requires-clause-cells
+walk-ended-requires-clause-cells g c = λ there.
+    c.in-Ok.ensures.cells ∙ first_cells-open c.args.request.kind (lines_in c.args.chain.now.nodes) (ap is_some (sym c.in-Ok.ensures.cells) ∙ there)
+
 pub returns-clause-done : goal.returns-clause-done
-returns-clause-done g c = record {
-  told = search rules;
-  by_trail = pass_leaves c.walk_all-result.result _ c.args.request.kind (by_place c.args.kept.now) c.args.chain.now.nodes (past_of c.args.paused.now) _ _ c.walk_all-result.new.keeps c.args.kept.now c.keep_answers.new.kept c.walk_all-result.new.paused
-      c.is_ok.ensures.value c.keep_answers.ensures c.walk_all-result.ensures.done.by_trail;
-  nodes = c.walk_all-result.ensures.done.nodes;
-  names = c.walk_all-result.ensures.done.names;
-  looks = c.walk_all-result.ensures.done.looks;
-}
+returns-clause-done g c =
+    let held : c.args.request.kind ≡ Keep → is_some c.walk-ended.new.keeps ≡ true = λ keep.
+        c.walk-ended.ensures.held ∙ ap is_some c.in-Ok.ensures.cells ∙ first_cells-held c.args.request.kind (lines_in c.args.chain.now.nodes) keep in
+    record {
+      told = λ told.
+          pass_leaves c.args.request.kind c.walk-ended.new.keeps c.args.kept.now c.end_pass.new.kept c.walk-ended.new.memory.answers c.end_pass.new.paused held _ _ c.walk-ended.result c.end_pass.result
+          c.end_pass.ensures.code c.end_pass.ensures.kept c.end_pass.ensures.paused (rw (c.take.ensures.tells, c.take.ensures.room, c.in-Ok.ensures.past) at c.walk-ended.ensures.done.told told);
+      by_trail =
+          pass_traced c.args.request.kind c.walk-ended.new.keeps c.args.kept.now c.end_pass.new.kept c.walk-ended.new.memory.answers c.end_pass.new.paused held (by_place c.args.kept.now) c.args.chain.now.nodes _ _ _ _ _ c.walk-ended.result c.end_pass.result
+          c.end_pass.ensures.code c.end_pass.ensures.kept c.end_pass.ensures.paused c.in-Ok.ensures.past (ap (λ (r : PlainRoom). r.transaction.trail) c.take.ensures.room) c.walk-ended.ensures.done.by_trail;
+      nodes = c.walk-ended.ensures.done.nodes;
+      names = c.walk-ended.ensures.done.names;
+      looks = search rules;
+    }
+
+pub returns-clause-stopped : goal.returns-clause-stopped
+returns-clause-stopped g c =
+    pass_stops c.walk-ended.result c.end_pass.result c.end_pass.ensures.code
+    (stopped_as _ _ _ _ _ _ _ _ _ _ _ _ _ _ _ _ c.in-Ok.ensures.past c.take.ensures.tells c.take.ensures.room) c.walk-ended.ensures.stopped
