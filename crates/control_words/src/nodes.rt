@@ -1,8 +1,8 @@
-ghost use Rattle.std.specs.Prelude.{◌≡◌, ◌==◌, length, OnOk, OnErr};
+ghost use Rattle.std.specs.Prelude.{◌≡◌, ◌==◌, length, IfOk, OnOk, OnErr};
 ghost use Rattle.control_words.specs.Stack.{joined, node_on, none, stack_of, count};
 
 use crate::control::Control;
-use pam_base::{NoMemory, SharedText, Texts};
+use pam_base::{NoMemory, SharedText, Text, Texts};
 use std::alloc::Global;
 
 /// What a line of a service names: its module, the module's arguments, and its control.
@@ -14,6 +14,30 @@ pub struct Rule {
     /// The module's path, as it is written.
     pub path: SharedText,
     pub args: Texts,
+}
+
+impl Rule {
+    /// A copy of the rule. `NoMemory` is returned if an allocation fails.
+    pub fn copied(&self, alloc: Global) -> Result<Rule, NoMemory>
+        ensures { IfOk result (λ copy. copy ≡ self.now) }
+    {
+        Ok(Rule {
+            silent: self.silent,
+            control: self.control,
+            path: self.path.share()?,
+            args: copy_of_texts(alloc, &self.args)?,
+        })
+    }
+}
+
+fn copy_of_texts(alloc: Global, texts: &Texts) -> Result<Texts, NoMemory>
+    ensures { IfOk result (λ copy. copy ≡ texts.now) }
+{
+    let mut copy = Texts::new(alloc);
+    for text in texts.items() {
+        copy.push(Text::from_bytes(alloc, text.bytes())?)?;
+    }
+    Ok(copy)
 }
 
 /// A node of a stack: a line, or a substack with a list of its own.

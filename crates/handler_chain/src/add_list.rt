@@ -5,30 +5,9 @@ ghost use Rattle.handler_chain.specs.Flat.{positions_behind, AddsList};
 
 use crate::chain_line::ChainLine;
 use crate::line_count::line_count;
-use control_words::{Node, Nodes, Rule, module_name};
-use pam_base::{NoMemory, Text, Texts};
+use control_words::{Node, Nodes, module_name};
+use pam_base::{NoMemory, Texts};
 use std::alloc::Global;
-
-fn copy_of_texts(alloc: Global, texts: &Texts) -> Result<Texts, NoMemory>
-    ensures { IfOk result (λ copy. copy ≡ texts.now) }
-{
-    let mut copy = Texts::new(alloc);
-    for text in texts.items() {
-        copy.push(Text::from_bytes(alloc, text.bytes())?)?;
-    }
-    Ok(copy)
-}
-
-fn copy_of(alloc: Global, rule: &Rule) -> Result<Rule, NoMemory>
-    ensures { IfOk result (λ copy. copy ≡ rule.now) }
-{
-    Ok(Rule {
-        silent: rule.silent,
-        control: rule.control,
-        path: rule.path.share()?,
-        args: copy_of_texts(alloc, &rule.args)?,
-    })
-}
 
 // The index of the first of several names that is this one.
 fn number_of(names: &Texts, wanted: &[u8]) -> Option<u32>
@@ -91,7 +70,7 @@ pub fn add_list(
         match node {
             Node::Line(rule) => {
                 let module_number = number_of(names, module_name(rule.path.bytes()));
-                let rule = copy_of(alloc, rule)?;
+                let rule = rule.copied(alloc)?;
                 lines.push(ChainLine {
                     rule,
                     module_number,

@@ -4,12 +4,13 @@ ghost use Rattle.service_load.specs.Entry.{entry_of_tokens, behind_type, file_fi
 ghost use Rattle.service_load.specs.Kinds.{IfNamed, is_read_failed};
 ghost use Rattle.service_load.specs.Tree.{serves};
 
-use crate::names::{IN_FOLDER, joined};
+use crate::names::IN_FOLDER;
 use crate::rule_type::RuleType;
 use crate::type_field::{TypeField, is_word};
 use control_words::conf_lex::Token;
 use control_words::{Control, Rule, control_of};
 use pam_base::{FaultKind, NoMemory, Refuse, Sequence, SharedText, Text, Texts};
+use pam_outside::joined;
 use std::alloc::Global;
 
 /// What a rule adds to a stack.
@@ -95,7 +96,7 @@ impl RuleContent {
         ensures { IfOk result (λ copy. copy ≡ self.now) }
     {
         match self {
-            RuleContent::Line(rule) => Ok(RuleContent::Line(copy_of_rule(alloc, rule)?)),
+            RuleContent::Line(rule) => Ok(RuleContent::Line(rule.copied(alloc)?)),
             RuleContent::Include(name) => Ok(RuleContent::Include(Text::from_bytes(
                 alloc,
                 name.bytes(),
@@ -105,27 +106,6 @@ impl RuleContent {
             }
         }
     }
-}
-
-fn copy_of_rule(alloc: Global, rule: &Rule) -> Result<Rule, NoMemory>
-    ensures { IfOk result (λ copy. copy ≡ rule.now) }
-{
-    Ok(Rule {
-        silent: rule.silent,
-        control: rule.control,
-        path: rule.path.share()?,
-        args: copy_of_texts(alloc, &rule.args)?,
-    })
-}
-
-fn copy_of_texts(alloc: Global, texts: &Texts) -> Result<Texts, NoMemory>
-    ensures { IfOk result (λ copy. copy ≡ texts.now) }
-{
-    let mut copy = Texts::new(alloc);
-    for text in texts.items() {
-        copy.push(Text::from_bytes(alloc, text.bytes())?)?;
-    }
-    Ok(copy)
 }
 
 // What follows the type.
@@ -163,7 +143,10 @@ fn file_field(alloc: Global, tokens: &[Token]) -> Result<Text, Refuse<FaultKind>
     }
 }
 
-fn named_file(alloc: Global, name: &[u8]) -> Result<Text, NoMemory>
+/// The path that a rule means by the name of a file: the name itself if it begins with a slash,
+/// otherwise that of the file in `/etc/pam.d` (`pam.conf(5)`). `NoMemory` is returned if an
+/// allocation fails.
+pub fn named_file(alloc: Global, name: &[u8]) -> Result<Text, NoMemory>
     ensures { IfOk result (λ file. file ≡ named_file name.now) }
 {
     match name {
