@@ -1,23 +1,16 @@
-ghost use Rattle.std.specs.Prelude.{◌≡◌, ◌≤◌, ◌||◌, IsTrue, IfOk, option_copied};
+ghost use Rattle.std.specs.Prelude.{◌≡◌, ◌≤◌, ◌||◌, IsTrue, IfOk};
 ghost use Rattle.explain_origins.specs.Reading.{Adds, CountsReads, ReadsRules, Takes, ends_failing, placed_at, step_of_rules};
-ghost use Rattle.service_load.specs.Checking.{GivesFields};
-ghost use Rattle.service_load.specs.Files.{held, is_in_folder, own_rule, rules_held, service_file};
+ghost use Rattle.service_load.specs.Files.{held, is_in_folder, own_rule, rules_held};
 ghost use Rattle.service_load.specs.Kinds.{IfNamed};
 ghost use Rattle.service_load.specs.Loading.{OnlyCalls, texts_of};
 
-use crate::step::{Step, is_word, joined, step_of};
-use control_words::conf_lex::{RawRule, RawRules, Token, rules};
+use crate::step::{Step, step_of};
+use control_words::conf_lex::{RawRule, RawRules, rules};
 use explain_lines::{Origin, Origins};
-use pam_base::{Failed, NoMemory, Refuse, Text, lowercase};
+use pam_base::{Failed, NoMemory, Refuse, Text};
 use pam_outside::{Vault, VaultFault, path_of, read_file};
-use service_load::{RuleFile, RuleType};
+use service_load::{MAX_FILE, MAX_LEVEL, RuleFile, RuleType, fields_of};
 use std::alloc::Global;
-
-// The maximum length of a file in bytes.
-const MAX_FILE: u32 = 65_536;
-
-// The maximum level of a file.
-const MAX_LEVEL: u32 = 16;
 
 /// A file that a rule includes.
 #[derive(Drop)]
@@ -34,23 +27,6 @@ impl Inclusion {
     {
         any || self.as_substack || found
     }
-}
-
-/// The file of a service: one in `/etc/pam.d` if that is a directory, else `/etc/pam.conf`.
-pub fn file_of(alloc: Global, is_folder: bool, service: &[u8]) -> Result<RuleFile, NoMemory>
-    ensures { IfOk result (λ file. file ≡ service_file is_folder service.now) }
-{
-    let service = lowercase(alloc, service)?;
-    if is_folder {
-        return Ok(RuleFile {
-            name: joined(alloc, b"/etc/pam.d/", service.bytes())?,
-            service: None,
-        });
-    }
-    Ok(RuleFile {
-        name: Text::from_bytes(alloc, b"/etc/pam.conf")?,
-        service: Some(service),
-    })
 }
 
 /// Adds where the lines of a file for a type are written, at a level of at most 17. Returns whether
@@ -115,10 +91,7 @@ fn take_step(
             Ok(None)
         }
         Step::File { name, as_substack } => Ok(Some(Inclusion {
-            file: RuleFile {
-                name,
-                service: None,
-            },
+            file: RuleFile::plain(name),
             as_substack,
         })),
     }
@@ -166,29 +139,7 @@ fn step_in(
         (is_in_folder file.now) (own_rule file.now.service rule.now)) }
 {
     match fields_of(file, rule) {
-        Some(fields) => step_of(alloc, rule_type, rule.line, is_in_folder(file), fields),
+        Some(fields) => step_of(alloc, rule_type, rule.line, file.is_in_folder(), fields),
         None => Ok(Step::Nothing),
-    }
-}
-
-// Whether it has the form of the files in `/etc/pam.d`.
-fn is_in_folder(file: &RuleFile) -> bool
-    ensures { result ≡ is_in_folder file.now }
-{
-    file.service.is_none()
-}
-
-// The fields of a rule without its service, if it is one of those asked for.
-fn fields_of<'a>(file: &RuleFile, rule: &'a RawRule) -> Option<&'a [Token]>
-    ensures { GivesFields (option_copied result) rule.now.line
-        (own_rule file.now.service rule.now) }
-{
-    let tokens = rule.tokens.items();
-    match &file.service {
-        None => Some(tokens),
-        Some(service) => match tokens {
-            [first, fields @ ..] if is_word(service.bytes(), first) => Some(fields),
-            _ => None,
-        },
     }
 }

@@ -5,11 +5,11 @@ ghost use Rattle.service_load.specs.Kinds.{IfNamed};
 ghost use Rattle.service_load.specs.Load.{has_folder};
 ghost use Rattle.service_load.specs.Loading.{OnlyCalls, texts_of};
 
-use crate::files::{add_file, file_of};
+use crate::files::add_file;
 use explain_lines::{Origins, Sources};
 use pam_base::{Failed, Refuse};
 use pam_outside::{ReplaceFault, Vault, is_folder, path_of};
-use service_load::{ByType, RuleFile, RuleType};
+use service_load::{ByType, RuleType, ServiceFiles};
 use std::alloc::Global;
 
 /// Where the rules of a service's stacks are written, below a root: the file and line of each rule
@@ -32,12 +32,11 @@ pub fn sources_of(
     ensures faults { CountsReads result (vault_faults vault.old) (vault_faults vault.new) }
 {
     let is_folder = has_folder(alloc, vault, root)?;
-    let own = file_of(alloc, is_folder, service)?;
-    let other = file_of(alloc, is_folder, b"other")?;
-    let auth = origins_of(alloc, vault, root, RuleType::Auth, &own, &other)?;
-    let account = origins_of(alloc, vault, root, RuleType::Account, &own, &other)?;
-    let password = origins_of(alloc, vault, root, RuleType::Password, &own, &other)?;
-    let session = origins_of(alloc, vault, root, RuleType::Session, &own, &other)?;
+    let files = ServiceFiles::of(alloc, is_folder, service)?;
+    let auth = origins_of(alloc, vault, root, RuleType::Auth, &files)?;
+    let account = origins_of(alloc, vault, root, RuleType::Account, &files)?;
+    let password = origins_of(alloc, vault, root, RuleType::Password, &files)?;
+    let session = origins_of(alloc, vault, root, RuleType::Session, &files)?;
     Ok(ByType {
         auth,
         account,
@@ -72,13 +71,12 @@ fn origins_of(
     vault: &mut dyn Vault,
     root: &[u8],
     rule_type: RuleType,
-    own: &RuleFile,
-    other: &RuleFile,
+    files: &ServiceFiles,
 ) -> Result<Origins, Refuse<Failed>>
     ensures tells { vault_tells vault.new ≡ vault_tells vault.old }
     ensures told { IsTrue (vault_tells vault.old) → IfOk result (λ found.
         found ≡ places (placed_from (texts_of root.now (vault_holds vault.old))
-        own.now other.now rule_type)) }
+        files.now.own files.now.other rule_type)) }
     ensures stays { IsTrue (vault_tells vault.old) →
         OnlyCalls (vault_holds vault.old) (vault_holds vault.new) }
     ensures planned { IsTrue (vault_tells vault.old) →
@@ -86,10 +84,10 @@ fn origins_of(
     ensures faults { CountsReads result (vault_faults vault.old) (vault_faults vault.new) }
 {
     let mut origins = Origins::new(alloc);
-    let any = add_file(alloc, vault, root, rule_type, 0, own, &mut origins)?;
+    let any = add_file(alloc, vault, root, rule_type, 0, &files.own, &mut origins)?;
     if any {
         return Ok(origins);
     }
-    add_file(alloc, vault, root, rule_type, 0, other, &mut origins)?;
+    add_file(alloc, vault, root, rule_type, 0, &files.other, &mut origins)?;
     Ok(origins)
 }

@@ -1,12 +1,12 @@
-ghost use Rattle.std.specs.Prelude.{◌≡◌, ◌∷◌, ◌++◌, ◌&&◌, Bool, IfOk, codes};
+ghost use Rattle.std.specs.Prelude.{◌≡◌, ◌∷◌, ◌&&◌, Bool, IfOk, codes};
 ghost use Rattle.explain_origins.specs.Reading.{is_type, step_by, step_from, step_to};
-ghost use Rattle.service_load.specs.Entry.{behind_type, entry_of_tokens, file_field, named_file};
+ghost use Rattle.service_load.specs.Entry.{behind_type, entry_of_tokens, file_field};
 ghost use Rattle.service_load.specs.RuleType.{is_word, type_field_of, type_field_of_word};
 
 use control_words::conf_lex::Token;
 use control_words::control_of;
 use pam_base::{NoMemory, Text};
-use service_load::RuleType;
+use service_load::{RuleType, is_word, named_file};
 use std::alloc::Global;
 
 /// What a rule adds to a stack.
@@ -95,32 +95,6 @@ fn step_to(alloc: Global, tokens: &[Token], as_substack: bool) -> Result<Step, N
             as_substack,
         }),
     }
-}
-
-// The name of a file.
-fn named_file(alloc: Global, name: &[u8]) -> Result<Text, NoMemory>
-    ensures { IfOk result (λ file. file ≡ named_file name.now) }
-{
-    match name {
-        [b'/', ..] => Text::from_bytes(alloc, name),
-        _ => joined(alloc, b"/etc/pam.d/", name),
-    }
-}
-
-/// One text after another.
-pub fn joined(alloc: Global, front: &[u8], back: &[u8]) -> Result<Text, NoMemory>
-    ensures { IfOk result (λ text. text ≡ front.now ++ back.now) }
-{
-    let mut text = Vec::from_slice(alloc, front)?;
-    text.extend_from_slice(back)?;
-    Ok(Text::from_vec(text))
-}
-
-/// Whether a token is this word, in any case and without brackets.
-pub fn is_word(word: &[u8], token: &Token) -> bool
-    ensures { result ≡ is_word word.now token.now }
-{
-    !token.bracketed && token.text.bytes().eq_ignore_ascii_case(word)
 }
 
 // Whether a token is the field of this type.

@@ -60,8 +60,9 @@ fn add_rule(
     }
 }
 
-// The fields of a rule without its service, if it is one of those asked for.
-fn fields_of<'a>(file: &RuleFile, rule: &'a RawRule) -> Option<&'a [Token]>
+/// The fields of a rule without its service; None if it is of another service than the one asked
+/// for (`pam.conf(5)`).
+pub fn fields_of<'a>(file: &RuleFile, rule: &'a RawRule) -> Option<&'a [Token]>
     ensures { GivesFields (option_copied result) rule.now.line
         (own_rule file.now.service rule.now) }
 {

@@ -21,11 +21,13 @@ mod type_field;
 
 pub use by_type::ByType;
 pub use control_words;
-pub use entry::{ConfigEntry, RuleContent};
+pub use entry::{ConfigEntry, RuleContent, named_file};
+pub use file_rules::fields_of;
 pub use kept::KeptTexts;
 pub use load_fault::LoadFault;
+pub use loader::{MAX_FILE, MAX_LEVEL};
 pub use loading::{load, load_with};
-pub use rule_file::RuleFile;
+pub use rule_file::{RuleFile, ServiceFiles};
 pub use rule_type::{ALL_TYPES, RuleType};
 pub use trees::Trees;
-pub use type_field::TypeField;
+pub use type_field::{TypeField, is_word};

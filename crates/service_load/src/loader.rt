@@ -18,7 +18,7 @@ use crate::kept::KeptTexts;
 use crate::load_fault::{LoadFault, refused};
 use crate::opener::{Opener, opener_of_other, refused_opening};
 use crate::position::Position;
-use crate::rule_file::RuleFile;
+use crate::rule_file::{RuleFile, ServiceFiles};
 use crate::rule_type::{ALL_TYPES, RuleType};
 use crate::trees::Trees;
 use control_words::{Node, Nodes, Rule};
@@ -27,9 +27,9 @@ use pam_outside::{Vault, VaultFault, path_of, read_file};
 use std::alloc::Global;
 
 /// The maximum length of a file in bytes.
-const MAX_FILE: u32 = 65536;
-/// The maximum level of a file.
-const MAX_LEVEL: u32 = 16;
+pub const MAX_FILE: u32 = 65536;
+/// The maximum level of a file: how many files include it.
+pub const MAX_LEVEL: u32 = 16;
 /// The maximum number of files that a load opens.
 const MAX_OPENINGS: u32 = 256;
 /// The maximum number of lines of a stack.
@@ -97,7 +97,6 @@ impl Loader {
         alloc: Global,
         vault: &mut dyn Vault,
         at: Position,
-        opener: Opener,
         file: &RuleFile,
     ) -> Result<Option<Entries>, Refuse<LoadFault>>
         requires { at.level ≤ 17 }
@@ -108,20 +107,20 @@ impl Loader {
             Opens (texts_of at.entry.root.now (vault_holds vault.old)) result
             (vault_holds vault.old).fails (counts_of self.old (vault_holds vault.old))
             (counts_of self.new (vault_holds vault.new)) at.entry.level at.entry.rule_type
-            (opener_of opener.entry) file.now }
+            (opener_of at.entry.opener) file.now }
         ensures stays { IsTrue (vault_tells vault.old) →
             OnlyCalls (vault_holds vault.old) (vault_holds vault.new) }
         ensures faults { CountsFaults result (vault_faults vault.old) (vault_faults vault.new) }
     {
         if at.level > MAX_LEVEL {
-            return Err(refused_opening(alloc, opener, file, FaultKind::TooDeep));
+            return Err(refused_opening(alloc, at.opener, file, FaultKind::TooDeep));
         }
         if self.openings >= MAX_OPENINGS {
-            return Err(refused_opening(alloc, opener, file, FaultKind::TooManyFiles));
+            return Err(refused_opening(alloc, at.opener, file, FaultKind::TooManyFiles));
         }
         match self.read(alloc, vault, at.root, at.rule_type, file)? {
             Some(entries) => Ok(Some(entries)),
-            None => match opener {
+            None => match at.opener {
                 Opener::Service | Opener::Other => Ok(None),
                 Opener::Last(service) => Err(refused(alloc, service, 0, FaultKind::NoService)),
                 Opener::Rule(name, line) => {
@@ -191,7 +190,6 @@ impl Loader {
         alloc: Global,
         vault: &mut dyn Vault,
         at: Position,
-        opener: Opener,
         file: &RuleFile,
         nodes: &mut Nodes,
     ) -> Result<bool, Refuse<LoadFault>>
@@ -202,7 +200,7 @@ impl Loader {
             (vault_holds vault.new)
             self.old self.new
             (items_at (texts_of at.entry.root.now (vault_holds vault.old)) at.entry.level
-            at.entry.rule_type (opener_of opener.entry) file.now)
+            at.entry.rule_type (opener_of at.entry.opener) file.now)
             (stack_of nodes.old.vec.items) (stack_of nodes.new.vec.items)
             (nodes_at (texts_of at.entry.root.now (vault_holds vault.old)) at.entry.level
             at.entry.rule_type file.now) }
@@ -213,21 +211,21 @@ impl Loader {
             (stack_of nodes.old.vec.items) (stack_of nodes.new.vec.items)) }
         ensures faults { CountsFaults result (vault_faults vault.old) (vault_faults vault.new) }
     {
-        let Some(entries) = self.open(alloc, vault, at, opener, file)? else {
+        let Some(entries) = self.open(alloc, vault, at, file)? else {
             return Ok(false);
-        };
-        let deeper = Position {
-            level: at.level + 1,
-            ..at
         };
         for entry in entries.into_vec() {
             let name = file.name.bytes();
             let Some(inclusion) = self.take_entry(alloc, at.rule_type, name, entry, nodes)? else {
                 continue;
             };
-            let by_rule = Opener::Rule(name, inclusion.line);
+            let deeper = Position {
+                level: at.level + 1,
+                opener: Opener::Rule(name, inclusion.line),
+                ..at
+            };
             let mut inner = Nodes::new(alloc);
-            self.add_file(alloc, vault, deeper, by_rule, &inclusion.file, &mut inner)?;
+            self.add_file(alloc, vault, deeper, &inclusion.file, &mut inner)?;
             inclusion.bring_in(inner, nodes)?;
         }
         Ok(true)
@@ -241,14 +239,13 @@ impl Loader {
         vault: &mut dyn Vault,
         root: &[u8],
         rule_type: RuleType,
-        own: &RuleFile,
-        other: &RuleFile,
+        files: &ServiceFiles,
     ) -> Result<Nodes, Refuse<LoadFault>>
         ensures tells { vault_tells vault.new ≡ vault_tells vault.old }
         ensures told { IsTrue (vault_tells vault.old) → Makes result
             (texts_of root.now (vault_holds vault.old)) (vault_holds vault.old)
             (vault_holds vault.new)
-            self.old self.new own.now other.now rule_type }
+            self.old self.new files.now.own files.now.other rule_type }
         ensures bounded { IfOk result (λ nodes. IsBounded (stack_of nodes.vec.items)) }
         ensures faults { CountsFaults result (vault_faults vault.old) (vault_faults vault.new) }
     {
@@ -257,14 +254,16 @@ impl Loader {
             root,
             rule_type,
             level: 0,
+            opener: Opener::Service,
         };
         let mut nodes = Nodes::new(alloc);
-        let there = self.add_file(alloc, vault, at, Opener::Service, own, &mut nodes)?;
+        let there = self.add_file(alloc, vault, at, &files.own, &mut nodes)?;
         if !nodes.is_empty() {
             return Ok(nodes);
         }
-        let opener = opener_of_other(there, own);
-        self.add_file(alloc, vault, at, opener, other, &mut nodes)?;
+        let opener = opener_of_other(there, &files.own);
+        let next = Position { opener, ..at };
+        self.add_file(alloc, vault, next, &files.other, &mut nodes)?;
         Ok(nodes)
     }
 
@@ -274,16 +273,15 @@ impl Loader {
         alloc: Global,
         vault: &mut dyn Vault,
         root: &[u8],
-        own: &RuleFile,
-        other: &RuleFile,
+        files: &ServiceFiles,
     ) -> Result<Trees, Refuse<LoadFault>>
         ensures tells { vault_tells vault.new ≡ vault_tells vault.old }
         ensures told { IsTrue (vault_tells vault.old) → LoadsBy result
             (look (texts_of root.now (vault_holds vault.old)) (vault_holds vault.old).fails
             (counts_of self.old (vault_holds vault.old))
-            (trees_items (texts_of root.now (vault_holds vault.old)) own.now other.now))
+            (trees_items (texts_of root.now (vault_holds vault.old)) files.now.own files.now.other))
             (vault_holds vault.new) (tree_from (texts_of root.now
-            (vault_holds vault.old)) own.now other.now) }
+            (vault_holds vault.old)) files.now.own files.now.other) }
         ensures stays { IsTrue (vault_tells vault.old) →
             OnlyCalls (vault_holds vault.old) (vault_holds vault.new) }
         ensures bounded { IfOk result (λ trees. AreBounded trees) }
@@ -291,7 +289,7 @@ impl Loader {
     {
         let mut trees = Trees::new(alloc);
         for rule_type in &ALL_TYPES {
-            let nodes = self.tree(alloc, vault, root, *rule_type, own, other)?;
+            let nodes = self.tree(alloc, vault, root, *rule_type, files)?;
             trees.put(*rule_type, nodes);
         }
         Ok(trees)

@@ -7,7 +7,7 @@ use crate::kept::KeptTexts;
 use crate::load_fault::LoadFault;
 use crate::loader::Loader;
 use crate::names::FOLDER;
-use crate::rule_file::RuleFile;
+use crate::rule_file::ServiceFiles;
 use crate::trees::Trees;
 use pam_base::{Refuse, Text};
 use pam_outside::{ReplaceFault, Vault, is_folder, path_of};
@@ -97,14 +97,13 @@ fn load_from(
     ensures bounded { IfOk result (λ trees. AreBounded trees) }
     ensures faults { CountsFaults result (vault_faults vault.old) (vault_faults vault.new) }
 {
-    let own = RuleFile::of_service(alloc, is_folder, service)?;
-    let other = RuleFile::of_service(alloc, is_folder, b"other")?;
+    let files = ServiceFiles::of(alloc, is_folder, service)?;
     let mut loader = Loader {
         openings: 0,
         lines: 0,
         kept: mem::replace(kept, KeptTexts::new(alloc)),
     };
-    let trees = loader.trees(alloc, vault, root, &own, &other);
+    let trees = loader.trees(alloc, vault, root, &files);
     *kept = loader.kept.trimmed(alloc);
     trees
 }

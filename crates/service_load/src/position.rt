@@ -1,3 +1,4 @@
+use crate::opener::Opener;
 use crate::rule_type::RuleType;
 
 /// The position of a load.
@@ -9,4 +10,6 @@ pub(crate) struct Position<'a> {
     pub(crate) rule_type: RuleType,
     /// How many files include this one: 0 for the file of a service.
     pub(crate) level: u32,
+    /// Why the file is opened.
+    pub(crate) opener: Opener<'a>,
 }

@@ -1,8 +1,9 @@
-ghost use Rattle.std.specs.Prelude.{◌≡◌, IfOk};
+ghost use Rattle.std.specs.Prelude.{◌≡◌, IfOk, codes};
 ghost use Rattle.service_load.specs.Files.{service_file, plain_file, is_in_folder};
 
-use crate::names::{IN_FOLDER, PAM_CONF, joined};
+use crate::names::{IN_FOLDER, PAM_CONF};
 use pam_base::{NoMemory, Text, lowercase};
+use pam_outside::joined;
 use std::alloc::Global;
 
 /// A file of rules.
@@ -17,7 +18,7 @@ pub struct RuleFile {
 
 impl RuleFile {
     /// The file with this name, in the form of those in `/etc/pam.d`.
-    pub(crate) fn plain(name: Text) -> RuleFile
+    pub fn plain(name: Text) -> RuleFile
         ensures { result ≡ plain_file name }
     {
         RuleFile {
@@ -27,11 +28,7 @@ impl RuleFile {
     }
 
     /// The file of a service: one in `/etc/pam.d` if that is a directory, else `/etc/pam.conf`.
-    pub(crate) fn of_service(
-        alloc: Global,
-        is_folder: bool,
-        service: &[u8],
-    ) -> Result<RuleFile, NoMemory>
+    fn of_service(alloc: Global, is_folder: bool, service: &[u8]) -> Result<RuleFile, NoMemory>
         ensures { IfOk result (λ file. file ≡ service_file is_folder service.now) }
     {
         let service = lowercase(alloc, service)?;
@@ -48,9 +45,33 @@ impl RuleFile {
     }
 
     /// Whether it has the form of the files in `/etc/pam.d`.
-    pub(crate) fn is_in_folder(&self) -> bool
+    pub fn is_in_folder(&self) -> bool
         ensures { result ≡ is_in_folder self.now }
     {
         self.service.is_none()
+    }
+}
+
+/// The files of the stacks of a service (`pam.conf(5)`).
+#[derive(Debug, Drop)]
+pub struct ServiceFiles {
+    /// The service's own.
+    pub own: RuleFile,
+    /// That of the service `other`, for the types of which the service's own has no nodes.
+    pub other: RuleFile,
+}
+
+impl ServiceFiles {
+    /// Those of a service: in `/etc/pam.d` if that is a directory, else `/etc/pam.conf`.
+    /// `NoMemory` is returned if an allocation fails.
+    pub fn of(alloc: Global, is_folder: bool, service: &[u8]) -> Result<ServiceFiles, NoMemory>
+        ensures own { IfOk result (λ files. files.own ≡ service_file is_folder service.now) }
+        ensures other { IfOk result (λ files.
+            files.other ≡ service_file is_folder (codes "other")) }
+    {
+        Ok(ServiceFiles {
+            own: RuleFile::of_service(alloc, is_folder, service)?,
+            other: RuleFile::of_service(alloc, is_folder, b"other")?,
+        })
     }
 }

@@ -26,7 +26,7 @@ impl TypeField {
 }
 
 /// Whether a token is this word, in any case and without brackets.
-pub(crate) fn is_word(word: &[u8], token: &Token) -> bool
+pub fn is_word(word: &[u8], token: &Token) -> bool
     ensures { result ≡ is_word word.now token.now }
 {
     !token.bracketed && token.text.bytes().eq_ignore_ascii_case(word)

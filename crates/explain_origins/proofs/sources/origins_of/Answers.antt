@@ -10,4 +10,4 @@ returns-clause-told g c = λ tells.
     let first = (goal.Vault-dyn g c.args.vault.now).vault_holds c.args.vault.now.1 in
     let mid = (goal.Vault-dyn g (c.args.vault.now.0, c.add_file.new.vault)).vault_holds c.add_file.new.vault in
     other_then _ _ _ _ _ _ _ c.if-any.false c.new-origins.ensures (c.in_ok-any.ensures.told tells)
-    (adds_since _ _ _ c.args.root.now first mid 0 c.args.rule_type c.args.other.now (c.in_ok-any.ensures.stays tells) (c.in_ok-add_file.ensures.told (c.in_ok-any.ensures.tells ∙ tells)))
+    (adds_since _ _ _ c.args.root.now first mid 0 c.args.rule_type c.args.files.now.other (c.in_ok-any.ensures.stays tells) (c.in_ok-add_file.ensures.told (c.in_ok-any.ensures.tells ∙ tells)))

@@ -15,5 +15,5 @@ returns-clause-told g c = λ tells.
     let t4 = c.in_ok-password.ensures.tells ∙ t3 in
     all_sources c.args.root.now c.args.service.now first v1 v2 v3 v4 _ _ _ _ _ _ _
     (c.in_ok-is_folder.ensures.stays tells) (c.in_ok-auth.ensures.stays t1) (c.in_ok-account.ensures.stays t2) (c.in_ok-password.ensures.stays t3)
-    (c.in_ok-is_folder.ensures.told tells) c.in_ok-own.ensures c.in_ok-other.ensures
+    (c.in_ok-is_folder.ensures.told tells) c.in_ok-files.ensures.own c.in_ok-files.ensures.other
     (c.in_ok-auth.ensures.told t1) (c.in_ok-account.ensures.told t2) (c.in_ok-password.ensures.told t3) (c.in_ok-session.ensures.told t4)

@@ -13,7 +13,7 @@ returns-in_default-clause-told g t c = λ tells.
     let first = (lent.members (dyn-1-ghosts g.dyn-1) c.args.vault.now).vault_holds c.args.vault.now.1 in
     let old = (lent.members (dyn-1-ghosts g.dyn-1) (c.args.vault.now.0, c.open.new.vault)).vault_holds c.open.new.vault in
     let before = stack_of c.args.nodes.now.vec.items in
-    brings_absent c.args.at.root.now first first old c.args.self.now c.open.new.self c.open.new.self c.args.at.level c.args.at.rule_type (opener_of c.args.opener) c.args.file.now [] before before
+    brings_absent c.args.at.root.now first first old c.args.self.now c.open.new.self c.open.new.self c.args.at.level c.args.at.rule_type (opener_of c.args.at.opener) c.args.file.now [] before before
     (rw c.in_default.is at (c.in_ok-entries.ensures.told tells)) refl (c.in_ok-entries.ensures.stays tells)
 
 pub loop-entry-init : goal.loop-entry-init
@@ -97,7 +97,7 @@ returns-in_err-inclusion-clause-told g t c = λ tells.
     let r = c.in_err-inclusion.field-0.0 in
     let answered : c.from_residual-in_err-inclusion.result ≡ Err r = search rules in
     let looks = taking_stops (texts_of root first) first.fails here _ _ _ _ level type name e.line (serves type e.rule_type) e.content r (rw c.bytes-name.ensures at c.in_err-inclusion.ensures) in
-    rw answered (brings_stop root first old here _ c.open.new.self _ level type (opener_of c.args.opener) c.args.file.now c.in-Some.entries _ _ r (rw c.in-Some.is at (c.in_ok-entries.ensures.told tells))
+    rw answered (brings_stop root first old here _ c.open.new.self _ level type (opener_of c.args.at.opener) c.args.file.now c.in-Some.entries _ _ r (rw c.in-Some.is at (c.in_ok-entries.ensures.told tells))
     (all_stop (texts_of root first) first.fails r _ (counts_of c.loop-entry.self here) _ level type name c.in-Some.entries _ _ _ e (rw (c.in-Some-entry.ensures.steps.0, whole) at (inv.going tells)) looks) (inv.stays tells))
 
 pub returns-in_err-add_file-clause-told : goal.returns-in_err-add_file-clause-told
@@ -118,7 +118,7 @@ returns-in_err-add_file-clause-told g t c = λ tells.
     let answered : c.from_residual-in_err-add_file.result ≡ Err r = search rules in
     let taken = taking_file (texts_of root first) first.fails here _ _ _ _ level type name e.line (serves type e.rule_type) e.content i (rw (c.in-Some-2.is, c.bytes-name.ensures) at c.in_ok-inclusion.ensures) in
     let moved = file_since (Err r) root first here new _ _ level type name i _ (inv.stays tells) (rw (c.bytes-name.ensures, c.new-inner.ensures) at (c.in_err-add_file.ensures.told (inv.tells ∙ tells))) in
-    rw answered (brings_stop root first old new _ c.open.new.self _ level type (opener_of c.args.opener) c.args.file.now c.in-Some.entries _ _ r (rw c.in-Some.is at (c.in_ok-entries.ensures.told tells))
+    rw answered (brings_stop root first old new _ c.open.new.self _ level type (opener_of c.args.at.opener) c.args.file.now c.in-Some.entries _ _ r (rw c.in-Some.is at (c.in_ok-entries.ensures.told tells))
     (all_stop (texts_of root first) first.fails r _ (counts_of c.loop-entry.self here) _ level type name c.in-Some.entries _ _ _ e (rw (c.in-Some-entry.ensures.steps.0, whole) at (inv.going tells))
     (file_stops (texts_of root first) first.fails r _ _ _ _ taken.items (rw taken.loader at moved.looks))) moved.stays)
 
@@ -134,4 +134,4 @@ returns-clause-told g t c = λ tells.
     let opens = rw c.in-Some.is at (c.in_ok-entries.ensures.told tells) in
     let whole = c.into_iter-entry-iterator.ensures.into_iter_gives.0 ∙ c.into_vec-entry-items.ensures in
     let empty = nothing_left (into_iter_items c.loop-entry.entry-iterator) (into_iter_len c.loop-entry.entry-iterator) c.in-None.ensures.steps.0 inv.counted in
-    brings_all root first old here c.args.self.now c.open.new.self c.loop-entry.self c.args.at.level c.args.at.rule_type (opener_of c.args.opener) c.args.file.now c.in-Some.entries before now opens (rw (empty, whole) at (inv.going tells)) (inv.stays tells)
+    brings_all root first old here c.args.self.now c.open.new.self c.loop-entry.self c.args.at.level c.args.at.rule_type (opener_of c.args.at.opener) c.args.file.now c.in-Some.entries before now opens (rw (empty, whole) at (inv.going tells)) (inv.stays tells)

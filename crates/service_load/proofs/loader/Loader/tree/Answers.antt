@@ -28,8 +28,8 @@ returns-in_err-add_file-clause-told g c = λ tells.
     let answered : c.from_residual-in_err-add_file.result ≡ Err r = search rules in
     let brings = rw c.new-nodes.ensures at (c.in_ok-there.ensures.told tells) in
     let told = rw c.opener_of_other-opener.ensures at (c.in_err-add_file.ensures.told (c.in_ok-there.ensures.tells ∙ tells)) in
-    let s = other_since (Err r) c.args.root.now first mid _ _ _ c.args.own.now c.args.other.now c.args.rule_type c.in_ok-there.there _ _ brings.stays told in
-    rw answered (stop_other c.args.root.now first _ c.args.own.now _ _ mid _ _ _ _ c.in_ok-there.there brings.looks brings.nodes (sym c.is_empty.ensures ∙ c.if-not-is_empty.false) (c.in_ok-there.ensures.there tells) r s.looks s.stays)
+    let s = other_since (Err r) c.args.root.now first mid _ _ _ c.args.files.now.own c.args.files.now.other c.args.rule_type c.in_ok-there.there _ _ brings.stays told in
+    rw answered (stop_other c.args.root.now first _ c.args.files.now.own _ _ mid _ _ _ _ c.in_ok-there.there brings.looks brings.nodes (sym c.is_empty.ensures ∙ c.if-not-is_empty.false) (c.in_ok-there.ensures.there tells) r s.looks s.stays)
 
 pub returns-clause-told : goal.returns-clause-told
 returns-clause-told g c = λ tells.
@@ -37,8 +37,8 @@ returns-clause-told g c = λ tells.
     let mid = (goal.Vault-dyn g (c.args.vault.now.0, c.add_file.new.vault)).vault_holds c.add_file.new.vault in
     let brings = rw c.new-nodes.ensures at (c.in_ok-there.ensures.told tells) in
     let told = rw c.opener_of_other-opener.ensures at (c.in_ok-add_file.ensures.told (c.in_ok-there.ensures.tells ∙ tells)) in
-    let s = other_since (Ok c.in_ok-add_file.field-0) c.args.root.now first mid _ _ _ c.args.own.now c.args.other.now c.args.rule_type c.in_ok-there.there _ _ brings.stays told in
-    makes_other c.args.root.now first _ c.args.own.now _ _ mid _ _ _ _ c.in_ok-there.there brings.looks brings.nodes (sym c.is_empty.ensures ∙ c.if-not-is_empty.false) (c.in_ok-there.ensures.there tells) c.add_file-2.new.nodes s.looks s.nodes s.stays
+    let s = other_since (Ok c.in_ok-add_file.field-0) c.args.root.now first mid _ _ _ c.args.files.now.own c.args.files.now.other c.args.rule_type c.in_ok-there.there _ _ brings.stays told in
+    makes_other c.args.root.now first _ c.args.files.now.own _ _ mid _ _ _ _ c.in_ok-there.there brings.looks brings.nodes (sym c.is_empty.ensures ∙ c.if-not-is_empty.false) (c.in_ok-there.ensures.there tells) c.add_file-2.new.nodes s.looks s.nodes s.stays
 
 pub returns-clause-bounded : goal.returns-clause-bounded
 returns-clause-bounded g c =

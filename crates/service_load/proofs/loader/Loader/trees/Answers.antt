@@ -8,7 +8,7 @@ loop-rule_type-init g c =
     let first = (goal.Vault-dyn g c.args.vault.now).vault_holds c.args.vault.now.1 in
     record {
       tells = refl;
-      making = λ tells. making_none c.args.root.now first c.args.self.now c.args.own.now c.args.other.now c.new-trees.result;
+      making = λ tells. making_none c.args.root.now first c.args.self.now c.args.files.now.own c.args.files.now.other c.new-trees.result;
       bounded = bounded_new c.new-trees.result c.new-trees.ensures;
       faults = refl;
     }
@@ -21,7 +21,7 @@ loop-rule_type-preserved g c =
     let made = c.in_ok-nodes.ensures in
     record {
       tells = made.tells ∙ inv.tells;
-      making = λ tells. making_next c.args.root.now first _ _ _ _ _ c.args.own.now c.args.other.now _ _ c.in_ok-nodes.nodes i Auth c.loop-rule_type-test.true (inv.making tells) (made.told (inv.tells ∙ tells)) c.put.ensures;
+      making = λ tells. making_next c.args.root.now first _ _ _ _ _ c.args.files.now.own c.args.files.now.other _ _ c.in_ok-nodes.nodes i Auth c.loop-rule_type-test.true (inv.making tells) (made.told (inv.tells ∙ tells)) c.put.ensures;
       bounded = bounded_next _ _ _ c.in_ok-nodes.nodes c.put.ensures inv.bounded made.bounded;
       faults = made.faults ∙ inv.faults;
     }
@@ -32,7 +32,7 @@ returns-in_err-nodes-clause-told g c = λ tells.
     let inv = c.loop-rule_type.invariant in
     let r = c.in_err-nodes.field-0.0 in
     let answered : c.from_residual.result ≡ Err r = search rules in
-    rw answered (making_stops r c.args.root.now first _ _ _ _ _ c.args.own.now c.args.other.now _ c.loop-rule_type.rule_type-index Auth c.loop-rule_type-test.true (inv.making tells) (c.in_err-nodes.ensures.told (inv.tells ∙ tells)))
+    rw answered (making_stops r c.args.root.now first _ _ _ _ _ c.args.files.now.own c.args.files.now.other _ c.loop-rule_type.rule_type-index Auth c.loop-rule_type-test.true (inv.making tells) (c.in_err-nodes.ensures.told (inv.tells ∙ tells)))
 
 pub returns-in_err-nodes-clause-stays : goal.returns-in_err-nodes-clause-stays
 returns-in_err-nodes-clause-stays g c = λ tells.
@@ -43,7 +43,7 @@ returns-in_err-nodes-clause-stays g c = λ tells.
 pub returns-clause-told : goal.returns-clause-told
 returns-clause-told g c = λ tells.
     let first = (goal.Vault-dyn g c.args.vault.now).vault_holds c.args.vault.now.1 in
-    making_all c.args.root.now first _ _ _ c.args.own.now c.args.other.now _ c.loop-rule_type.rule_type-index c.loop-rule_type-test.false (c.loop-rule_type.invariant.making tells)
+    making_all c.args.root.now first _ _ _ c.args.files.now.own c.args.files.now.other _ c.loop-rule_type.rule_type-index c.loop-rule_type-test.false (c.loop-rule_type.invariant.making tells)
 
 pub returns-clause-stays : goal.returns-clause-stays
 returns-clause-stays g c = λ tells. (c.loop-rule_type.invariant.making tells).stays

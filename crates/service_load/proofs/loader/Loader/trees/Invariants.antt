@@ -12,7 +12,7 @@ invariant-loop-rule_type g l =
     record {
       tells : now.vault_tells l.vault.now.1 ≡ start.vault_tells l.fn.vault.now.1;
       making : start.vault_tells l.fn.vault.now.1 ≡ true →
-          Making l.root first (now.vault_holds l.vault.now.1) (counts_of l.fn.self first) l.self l.own l.other l.trees (drop l.rule_type-index l.rule_type-items);
+          Making l.root first (now.vault_holds l.vault.now.1) (counts_of l.fn.self first) l.self l.files.own l.files.other l.trees (drop l.rule_type-index l.rule_type-items);
       bounded : AreBounded l.trees;
       faults : now.vault_faults l.vault.now.1 ≡ start.vault_faults l.fn.vault.now.1;
     }
