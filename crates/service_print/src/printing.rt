@@ -1,11 +1,10 @@
-ghost use Rattle.std.specs.Prelude.{◌≡◌, ◌++◌, length, IfOk, OnOk};
-ghost use Rattle.service_print.specs.Printed.{list_lines, printed, stacks_in, substack_files};
-ghost use Rattle.service_print.specs.Tokens.{text_of};
+ghost use Rattle.std.specs.Prelude.{◌≡◌, IfOk};
+ghost use Rattle.service_print.specs.Printed.{printed, stacks_in};
 
-use crate::file::{File, Files};
+use crate::file::Files;
 use crate::substack::{add_nodes, empty_file, fill};
 use pam_base::NoMemory;
-use service_load::{ALL_TYPES, RuleType, Trees};
+use service_load::{ALL_TYPES, Trees};
 use std::alloc::Global;
 
 /// Returns the four stacks of a service in normal form (`pam.d(5)`): its file, with the lines of
@@ -26,27 +25,9 @@ pub fn print(alloc: Global, trees: &Trees, service: &[u8]) -> Result<Files, NoMe
     let mut files = Vec::new(alloc);
     files.push(empty_file(alloc))?;
     for rule_type in &ALL_TYPES {
-        add_stack(alloc, service, *rule_type, trees, &mut text, &mut files)?;
+        let nodes = trees.of(*rule_type);
+        add_nodes(alloc, service, *rule_type, nodes, &mut text, &mut files)?;
     }
     fill(0, Vec::from_slice(alloc, service)?, text, &mut files);
     Ok(Files::from_vec(files))
-}
-
-// Adds the lines of one stack, and the files of its substacks.
-fn add_stack(
-    alloc: Global,
-    service: &[u8],
-    rule_type: RuleType,
-    trees: &Trees,
-    text: &mut Vec<u8>,
-    files: &mut Vec<File>,
-) -> Result<(), NoMemory>
-    ensures lines { OnOk result (text.new.items ≡ text.old.items
-        ++ text_of (list_lines service.now rule_type (length files.old.items)
-        (stacks_in trees.now rule_type))) }
-    ensures files { OnOk result (files.new.items ≡ files.old.items
-        ++ substack_files service.now rule_type (length files.old.items)
-        (stacks_in trees.now rule_type)) }
-{
-    add_nodes(alloc, service, rule_type, trees.of(rule_type), text, files)
 }

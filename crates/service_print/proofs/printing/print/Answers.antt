@@ -6,7 +6,7 @@ use Rattle.service_print.proofs.printing.print.Goals as goal
 
 pub loop-rule_type-preserved : goal.loop-rule_type-preserved
 loop-rule_type-preserved c =
-    printing_next (stacks_in c.args.trees.now) c.args.service.now c.loop-rule_type.rule_type-index Auth _ _ _ _ c.loop-rule_type-test.true c.loop-rule_type.invariant c.in_ok-add_stack.ensures.lines c.in_ok-add_stack.ensures.files
+    printing_next (stacks_in c.args.trees.now) c.args.service.now c.loop-rule_type.rule_type-index Auth _ _ _ _ c.loop-rule_type-test.true c.loop-rule_type.invariant (rw c.of-nodes.ensures at c.in_ok-add_nodes.ensures.lines) (rw c.of-nodes.ensures at c.in_ok-add_nodes.ensures.files)
 
 pub returns : goal.returns
 returns c =
