@@ -1,5 +1,5 @@
--- The pieces that spell a service file's text: pam.conf(5), "DESCRIPTION", and this project's own
--- if a line says so. Bytes are numbers: 9 tab, 10 newline, 13 carriage return, 32 space, 35 `#`, 91
+-- The pieces of a service file's text, by pam.conf(5), "DESCRIPTION"; a definition that says so is
+-- this project's own. Bytes are numbers: 9 tab, 10 newline, 13 carriage return, 32 space, 35 `#`, 91
 -- `[`, 92 backslash, 93 `]`.
 use Rattle.std.specs.Prelude.{◌≡◌, ℕ, Bool, true, false, not, List, [], ◌∷◌, ◌++◌, Option, Some, None, ◌==◌, ◌||◌, ◌&&◌, if◌then◌else◌}
 use Rattle.std.specs.List.{flat_map}

@@ -36,7 +36,7 @@ last_are nodes i left within counted =
 pub few_left : (nodes : List Node) (i left : ℕ) → i < length nodes → left ≡ count (stack_of (drop (i + 1) nodes)) → left ≤ length nodes
 few_left nodes i left within counted = omega (arith, counted, count_length (drop (i + 1) nodes), length-drop (i + 1) nodes)
 
--- ---- lines that are passed over
+-- ---- lines that are skipped
 
 -- those of a substack, as a node
 pub over_node_sub : (why : Fate) (at : ℕ) (node : Node) (inner : Nodes) → node ≡ Sub inner

@@ -27,14 +27,14 @@ rows_over why at none = []
 rows_over why at (line rule rest) = row_of at rule why ∷ rows_over why (at + 1) rest
 rows_over why at (sub inner rest) = rows_over why at inner ++ rows_over why (at + lines_in inner) rest
 
--- why nodes are passed over after the line of a rule, by where its list goes on
+-- why nodes are skipped after the line of a rule, by where its list goes on
 abbrev pub why_by : Next → ℕ → Fate
 why_by (after n) at = Jumped at
 why_by stop at = Ended at
 
 module _ {State : Type 0} (kind : PassKind) (serve : Serving State) where
   -- The rows of a walk over a stack whose first line has the rule number `at`, with its first n
-  -- nodes passed over for this reason. Lines after one that waits weren't reached.
+  -- nodes skipped for this reason. Lines after one that waits weren't reached.
   abbrev pub rows : ℕ → Fate → Stack → ℕ → Opinion → Opinion → State → List Row
   rows skip why none at entry opinion state = []
   rows (suc skip) why (line rule rest) at entry opinion state =

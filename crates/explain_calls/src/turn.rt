@@ -6,7 +6,7 @@ use control_words::Action;
 use explain_lines::Fate;
 use stack_walk::Opinion;
 
-/// Where a list goes on after a line: the state, how many of its nodes are passed over, which is
+/// Where a list goes on after a line: the state, how many of its nodes are skipped, which is
 /// all that are left if the list ends, and why they are.
 #[derive(Clone, Copy, Debug)]
 pub struct Turn {
@@ -15,7 +15,7 @@ pub struct Turn {
     pub why: Fate,
 }
 
-/// Why nodes are passed over after the line of a rule with this number, whose action led to a
+/// Why nodes are skipped after the line of a rule with this number, whose action led to a
 /// state, if `left` nodes of its list are left.
 pub fn why_after(action: Action, left: usize, new: Opinion, place: usize) -> Fate
     ensures { result ≡ why_by (next_of action left new) place }

@@ -77,7 +77,7 @@ fate_words (Jumped by) = codes ": not run, rule " ++ (decimal by ++ codes " jump
 fate_words (Ended by) = codes ": not run, rule " ++ (decimal by ++ codes " ends the list")
 fate_words Unreached = codes ": not run, the call waits"
 
--- PLACE FILE:LINE MODULE
+-- RULE FILE:LINE MODULE
 abbrev pub row_head : List Origin → Row → List ℕ
 row_head origins r = codes "  " ++ (decimal r.place ++ (codes " "
     ++ (origin_words (origin_at origins r.place) ++ (codes " "

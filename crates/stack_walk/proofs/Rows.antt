@@ -94,7 +94,7 @@ over_substack-code = refl
 over_substack-visits : (keep over_substack (Success ∷ AuthErr ∷ AuthErr ∷ AuthErr ∷ Success ∷ [])).state.visits ≡ visit 1 Success ∷ visit 5 Success ∷ []
 over_substack-visits = refl
 
--- of two substacks one is passed over
+-- of two substacks one is skipped
 abbrev second_substack : Stack
 second_substack = line (by (jump 1)) (sub (line (by required) none) (sub (line (by required) none) none))
 
