@@ -30,7 +30,7 @@ use Rattle.module_acts.specs.Returns.{Returns, ReturnsWith, Follows, scene_of_pa
 use Rattle.module_acts.specs.Steps.{answers_keeping, asks_token, exchanges, requests_delay, sees_caller, sees_clock, sees_data, sets_item, with_replies}
 use Rattle.account_files.proofs.Acting.{carried}
 
-answering : (code : Code) (known : Known) (s : Scene) → Acts (answers code) known s code s
+pub answering : (code : Code) (known : Known) (s : Scene) → Acts (answers code) known s code s
 unfolding answers
 answering code known s = record { code_is = refl; scene_is = rw append-nil refl }
 

@@ -1,15 +1,15 @@
--- What is decided for the user is what the module plays.
-use Rattle.std.proofs.Common.{◌≡◌, ℕ, List, Option, None, Result, Ok, Err, IfOk}
+-- What is done, if nothing is returned at once, is what the module plays.
+use Rattle.std.proofs.Common.{◌≡◌, Option, None, Result, Ok, Err, IfOk}
 use Rattle.pam_base.specs.declared.code.Code.{Code}
 use Rattle.pam_base.specs.declared.fault.NoMemory.{NoMemory}
 use Rattle.account_files.specs.pam_room.specs.Call.{PlainCall}
 use Rattle.account_files.specs.pam_room.specs.Module.{Plays, PlaysIn}
 use Rattle.account_files.specs.pam_room.specs.State.{Scene}
-use Rattle.account_files.specs.Act.{Act, asks_user, unless_answered}
+use Rattle.account_files.specs.Act.{Act, unless_answered}
 use Rattle.module_acts.specs.Returns.{Follows}
 
-pub decided : (plays : Plays) (call : PlainCall) (at_once : Option Code) (decides : List ℕ → Act) (old new : Scene) (r : Result Code NoMemory) → None ≡ at_once
-    → ((code : Code) → Follows (unless_answered at_once (asks_user decides)) old code new → PlaysIn plays call old code new)
-    → IfOk r (λ code. Follows (asks_user decides) old code new) → IfOk r (λ code. PlaysIn plays call old code new)
-decided plays call at_once decides old new (Ok code) is law h = law code (rw (← is) h)
-decided plays call at_once decides old new (Err e) is law h = h
+pub decided : (plays : Plays) (call : PlainCall) (at_once : Option Code) (does : Act) (old new : Scene) (r : Result Code NoMemory) → None ≡ at_once
+    → ((code : Code) → Follows (unless_answered at_once does) old code new → PlaysIn plays call old code new)
+    → IfOk r (λ code. Follows does old code new) → IfOk r (λ code. PlaysIn plays call old code new)
+decided plays call at_once does old new (Ok code) is law h = law code (rw (← is) h)
+decided plays call at_once does old new (Err e) is law h = h

@@ -10,6 +10,7 @@ use Rattle.account_files.specs.pam_room.specs.Plain.{plain_transaction}
 use Rattle.account_files.specs.pam_room.specs.State.{PlainProcess}
 use Rattle.account_files.specs.pam_room.specs.Stays.{Stays}
 use Rattle.module_acts.specs.OnlyTalks.{OnlyTalks}
+use Rattle.module_acts.specs.SetsNoData.{SetsNoData}
 
 pub talks_nothing : (t : Transaction) → OnlyTalks t t
 talks_nothing t = record { service = refl; delay = omega arith; said = ([], sym (append-nil t.said)); others = refl }
@@ -36,14 +37,31 @@ talking_stays t u process s = record {
 pub talking_others : (t u : Transaction) → OnlyTalks t u → (u.serving ≡ t.serving) × (u.trail ≡ t.trail) × (u.handle ≡ t.handle) × (u.datums ≡ t.datums)
 talking_others t u s = (ap (λ (x : Transaction). x.serving) s.others, ap (λ (x : Transaction). x.trail) s.others, ap (λ (x : Transaction). x.handle) s.others, ap (λ (x : Transaction). x.datums) s.others)
 
-pub talking_sets : (t u : Transaction) (ledger : PlainLedger) → OnlyTalks t u → Sets t.serving t.datums ledger u.datums ledger
-talking_sets t u ledger s = record {
+pub talking_no_data : (t u : Transaction) → OnlyTalks t u → SetsNoData t u
+talking_no_data t u s = record {
+  stays = λ process. talking_stays t u process s;
+  serving = (talking_others t u s).0;
+  trail = (talking_others t u s).1;
+  datums = (talking_others t u s).3;
+}
+
+pub nothing_set : (t : Transaction) → SetsNoData t t
+nothing_set t = talking_no_data t t (talks_nothing t)
+
+pub no_data_stays : (t u : Transaction) (process : PlainProcess) → SetsNoData t u → Stays (plain_transaction t) (plain_transaction u) process process
+no_data_stays t u process s = s.stays process
+
+pub no_data_sets : (t u : Transaction) (ledger : PlainLedger) → SetsNoData t u → Sets t.serving t.datums ledger u.datums ledger
+no_data_sets t u ledger s = record {
   added = [];
   births = sym (append-nil ledger.births);
   each = tt;
-  list = ap (λ (x : Transaction). x.datums) s.others;
+  list = s.datums;
   filed = refl;
 }
+
+pub talking_sets : (t u : Transaction) (ledger : PlainLedger) → OnlyTalks t u → Sets t.serving t.datums ledger u.datums ledger
+talking_sets t u ledger s = no_data_sets t u ledger (talking_no_data t u s)
 
 -- what was shown was said
 pub spoken : (t u : Transaction) → (more : List Message) × (u.said ≡ t.said ++ more) → u ≡ record t { said = u.said; put_off = u.put_off } → OnlyTalks t u

@@ -4,5 +4,6 @@ pub use Rattle.account_files.specs.pam_room
 pub mod Returns
 pub mod Steps
 pub mod OnlyTalks
+pub mod SetsNoData
 pub mod Uncheck
 pub mod Seen

@@ -1,5 +1,7 @@
-ghost use Rattle.std.specs.Prelude.{◌≡◌, ℕ, List};
+ghost use Rattle.std.specs.Prelude.{◌≡◌, ℕ, List, Result};
 ghost use Rattle.pam_base.specs.declared.code.Code.{Code};
+ghost use Rattle.pam_base.specs.declared.fault.ConvErr.{ConvErr};
+ghost use Rattle.pam_base.specs.declared.fault.Refuse.{Refuse};
 ghost use Rattle.account_files.specs.data_cleanup.specs.Ledger.{PlainLedger};
 ghost use Rattle.account_files.specs.data_cleanup.specs.Sets.{Sets};
 ghost use Rattle.pam_outside.specs.Time.{Time, time_of};
@@ -9,9 +11,11 @@ ghost use Rattle.account_files.specs.pam_room.specs.Plain.{plain_transaction};
 ghost use Rattle.account_files.specs.pam_room.specs.State.{PlainProcess, Scene};
 ghost use Rattle.account_files.specs.pam_room.specs.Stays.{Stays};
 ghost use Rattle.account_files.specs.Accounts.{Known};
-ghost use Rattle.account_files.specs.Act.{Act, Acts};
+ghost use Rattle.account_files.specs.Act.{Act, Acts, answers};
+ghost use Rattle.module_acts.specs.Returns.{Finishes, Returns};
 ghost use Rattle.module_acts.specs.Steps.{sees_caller, sees_clock, sees_data};
 ghost use Rattle.module_acts.specs.OnlyTalks.{OnlyTalks};
+ghost use Rattle.module_acts.specs.SetsNoData.{SetsNoData};
 
 /// The laws of the steps that see something and make no call.
 pub fn acting()
@@ -26,6 +30,13 @@ pub fn acting()
         Acts (act s.process.caller) known s code new → Acts (sees_caller act) known s code new }
 {}
 
+/// What a step that gives the module's code returns is what the whole returns.
+pub fn codes_finish()
+    ensures { (step : (Code → Act) → Act) (result : Result Code (Refuse ConvErr))
+        (old new : Scene) → Returns result step old new →
+        Finishes result (step answers) old new }
+{}
+
 /// What holds for a module that talks, with real objects too.
 pub fn talking()
     ensures none { (t : Transaction) → OnlyTalks t t }
@@ -35,5 +46,15 @@ pub fn talking()
     ensures others { (t u : Transaction) → OnlyTalks t u → (u.serving ≡ t.serving) ×
         (u.trail ≡ t.trail) × (u.handle ≡ t.handle) × (u.datums ≡ t.datums) }
     ensures sets { (t u : Transaction) (ledger : PlainLedger) → OnlyTalks t u →
+        Sets t.serving t.datums ledger u.datums ledger }
+    ensures no_data { (t u : Transaction) → OnlyTalks t u → SetsNoData t u }
+{}
+
+/// What holds for a module that sets no data, with real objects too.
+pub(crate) fn no_data_are_set()
+    ensures none { (t : Transaction) → SetsNoData t t }
+    ensures stays { (t u : Transaction) (process : PlainProcess) → SetsNoData t u →
+        Stays (plain_transaction t) (plain_transaction u) process process }
+    ensures sets { (t u : Transaction) (ledger : PlainLedger) → SetsNoData t u →
         Sets t.serving t.datums ledger u.datums ledger }
 {}

@@ -4,6 +4,7 @@
 //! `asking.rt`.
 #![tactic(auto)]
 
+mod asked;
 mod asking;
 mod changing;
 mod check;
@@ -13,14 +14,22 @@ pub mod laws;
 mod seen;
 mod speech;
 mod uncheck;
+mod work;
+mod work_module;
 
 pub use account_files;
 pub use account_files::{data_cleanup, pam_room};
+pub use asked::Asked;
 pub use asking::{exchange, require_token, require_user};
 pub use changing::{answer_and_keep, request_delay, set_token};
 pub use check::Check;
-pub use check_module::CheckModule;
+pub use check_module::CheckWork;
 pub use ending::ended;
 pub use seen::{Seen, account_of};
 pub use speech::{show, user_of};
 pub use uncheck::code_unchecked;
+pub use work::Work;
+pub use work_module::WorkModule;
+
+/// The module of a check. It has no state.
+pub type CheckModule<T> = WorkModule<CheckWork<T>>;

@@ -1,7 +1,7 @@
 use Rattle.account_files.specs.pam_room.specs.Plain.{plain_call}
 use Rattle.account_files.specs.Tells.{clock_of, conv_of, vault_of}
 use Rattle.module_acts.proofs.Deciding.{decided}
-use Rattle.module_acts.proofs.check_module.CheckModuleModule.serve.Goals as goal
+use Rattle.module_acts.proofs.work_module.WorkModuleModule.serve.Goals as goal
 
 pub returns-in-Some-clause-told : goal.returns-in-Some-clause-told
 returns-in-Some-clause-told g c = λ told.
@@ -14,4 +14,7 @@ returns-in-None-clause-told g c = λ told.
     let vault_tells = (goal.Vault-dyn g vault).vault_tells vault.1 in
     let clock_tells = (goal.Clock-dyn g clock).clock_tells clock.1 in
     decided _ (plain_call c.args.call.now) _ _ _ _ c.ended.result c.in-None.ensures (c.plays_so.ensures _ _ _)
-    (c.ended.ensures.finished _ _ _ (c.ask_and_decide-answer.ensures.told (conv_of _ vault_tells clock_tells told) (vault_of _ vault_tells clock_tells told) (clock_of _ vault_tells clock_tells told)))
+    (c.ended.ensures.finished _ _ _ (c.work-answer.ensures.told (conv_of _ vault_tells clock_tells told) (vault_of _ vault_tells clock_tells told) (clock_of _ vault_tells clock_tells told)))
+
+pub returns-in-None-clause-stays : goal.returns-in-None-clause-stays
+returns-in-None-clause-stays g c = c.work-answer.ensures.sets.stays _

@@ -1,7 +1,7 @@
 use Rattle.std.proofs.Common.{Err, rules, ◌≡◌}
 use Rattle.account_files.specs.Act.{asks_user}
 use Rattle.module_acts.specs.Returns.{finished_early}
-use Rattle.module_acts.proofs.check_module.ask_and_decide.Goals as goal
+use Rattle.module_acts.proofs.check_module.CheckWorkWork.work.Goals as goal
 
 pub returns-in_err-require_user-clause-told : goal.returns-in_err-require_user-clause-told
 returns-in_err-require_user-clause-told g c = λ talks tells ticks.
