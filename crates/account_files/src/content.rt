@@ -10,6 +10,9 @@ use pam_room::pam_outside::{
 };
 use std::alloc::Global;
 
+/// The most bytes of a file that a module shows, or sets variables by.
+pub const SMALL_FILE_LIMIT: u32 = 65536;
+
 /// What a module finds when it looks for a file.
 #[derive(Debug, Drop)]
 pub enum Content {

@@ -8,8 +8,8 @@ mod arguments;
 mod content;
 pub mod laws;
 
-pub use accounts::{Account, Accounts, read_shells};
+pub use accounts::{ACCOUNT_LIMIT, Account, Accounts, read_shells};
 pub use arguments::has_argument;
-pub use content::{Content, hold_named, is_rooted, read_named, replace_named};
+pub use content::{Content, SMALL_FILE_LIMIT, hold_named, is_rooted, read_named, replace_named};
 pub use pam_room;
 pub use pam_room::data_cleanup;
