@@ -3,8 +3,6 @@ use Rattle.std.proofs.Common.{◌≡◌, ℕ, List, [], refl, sym, ap, ◌∙◌
 use Rattle.std.proofs.lemmas.List.{append-nil}
 use Rattle.pam_base.specs.declared.code.Code.{Code}
 use Rattle.conv_port.specs.Conv.{ConvState}
-use Rattle.data_cleanup.specs.Ledger.{PlainLedger}
-use Rattle.data_cleanup.specs.Sets.{Sets}
 use Rattle.env_list.specs.Environment.{Variable}
 use Rattle.pam_outside.specs.Files.{VaultState}
 use Rattle.pam_outside.specs.Time.{ClockState}
@@ -16,6 +14,7 @@ use Rattle.account_files.specs.pam_room.specs.Stays.{Stays}
 use Rattle.account_files.specs.pam_room.specs.Module.{Played, with_played}
 use Rattle.account_files.specs.Accounts.{Known}
 use Rattle.account_files.specs.Act.{Act, Acts, stage_of, scene_at}
+use Rattle.module_acts.specs.SetsNoData.{SetsNoData}
 use Rattle.mod_env.specs.Env.{put_in, puts_env, sees_env}
 use Rattle.mod_env.specs.Puts.{Puts}
 use Rattle.account_files.proofs.Acting.{carried}
@@ -54,7 +53,7 @@ puts_nothing t = record { others = refl }
 pub puts_more : (t u v : Transaction) → Puts t u → Puts u v → Puts t v
 puts_more t u v s r = record { others = r.others ∙ ap (λ (x : Transaction). record x { env = v.env }) s.others }
 
-pub putting_stays : (t u : Transaction) (process : PlainProcess) → Puts t u → Stays (plain_transaction t) (plain_transaction u) process process
+putting_stays : (t u : Transaction) (process : PlainProcess) → Puts t u → Stays (plain_transaction t) (plain_transaction u) process process
 putting_stays t u process s = record {
   handle = ap (λ (x : Transaction). x.handle) s.others;
   data_handle = ap (λ (x : Transaction). x.datums.handle) s.others;
@@ -65,14 +64,10 @@ putting_stays t u process s = record {
   caller = refl;
 }
 
-pub putting_others : (t u : Transaction) → Puts t u → (u.serving ≡ t.serving) × (u.trail ≡ t.trail)
-putting_others t u s = (ap (λ (x : Transaction). x.serving) s.others, ap (λ (x : Transaction). x.trail) s.others)
-
-pub putting_sets : (t u : Transaction) (ledger : PlainLedger) → Puts t u → Sets t.serving t.datums ledger u.datums ledger
-putting_sets t u ledger s = record {
-  added = [];
-  births = sym (append-nil ledger.births);
-  each = tt;
-  list = ap (λ (x : Transaction). x.datums) s.others;
-  filed = refl;
+pub putting_no_data : (t u : Transaction) → Puts t u → SetsNoData t u
+putting_no_data t u s = record {
+  stays = λ process. putting_stays t u process s;
+  serving = ap (λ (x : Transaction). x.serving) s.others;
+  trail = ap (λ (x : Transaction). x.trail) s.others;
+  datums = ap (λ (x : Transaction). x.datums) s.others;
 }

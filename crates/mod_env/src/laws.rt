@@ -1,14 +1,11 @@
 ghost use Rattle.std.specs.Prelude.{◌≡◌, ℕ, List, Some};
 ghost use Rattle.pam_base.specs.declared.code.Code.{Code};
-ghost use Rattle.data_cleanup.specs.Ledger.{PlainLedger};
-ghost use Rattle.data_cleanup.specs.Sets.{Sets};
 ghost use Rattle.env_list.specs.Environment.{Variable};
 ghost use Rattle.account_files.specs.pam_room.specs.declared.transaction.Transaction.{Transaction};
-ghost use Rattle.account_files.specs.pam_room.specs.Plain.{plain_transaction};
-ghost use Rattle.account_files.specs.pam_room.specs.State.{PlainProcess, Scene};
-ghost use Rattle.account_files.specs.pam_room.specs.Stays.{Stays};
+ghost use Rattle.account_files.specs.pam_room.specs.State.{Scene};
 ghost use Rattle.account_files.specs.Accounts.{Known};
 ghost use Rattle.account_files.specs.Act.{Act, Acts};
+ghost use Rattle.module_acts.specs.SetsNoData.{SetsNoData};
 ghost use Rattle.mod_env.specs.declared.conf.EnvLine.{EnvLine};
 ghost use Rattle.mod_env.specs.Conf.{conf_of};
 ghost use Rattle.mod_env.specs.Env.{sees_env};
@@ -37,10 +34,5 @@ pub(crate) fn env_steps()
 pub(crate) fn puts_alone()
     ensures none { (t : Transaction) → Puts t t }
     ensures again { (t u v : Transaction) → Puts t u → Puts u v → Puts t v }
-    ensures stays { (t u : Transaction) (process : PlainProcess) → Puts t u →
-        Stays (plain_transaction t) (plain_transaction u) process process }
-    ensures others { (t u : Transaction) → Puts t u →
-        (u.serving ≡ t.serving) × (u.trail ≡ t.trail) }
-    ensures sets { (t u : Transaction) (ledger : PlainLedger) → Puts t u →
-        Sets t.serving t.datums ledger u.datums ledger }
+    ensures no_data { (t u : Transaction) → Puts t u → SetsNoData t u }
 {}

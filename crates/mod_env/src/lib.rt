@@ -13,5 +13,11 @@ mod value;
 
 pub use conf::{Entries, EnvLine, Key, Values, conf_of};
 pub use env_file::assignments_of;
-pub use pam_env::Env;
+use module_acts::WorkModule;
+use pam_env::EnvWork;
 pub use value::{Piece, Pieces};
+
+/// `pam_env(8)`: setcred and open_session set variables by `/etc/security/pam_env.conf`, or the
+/// file of `conffile=`, and then by `/etc/environment`, or the file of `envfile=`, unless
+/// `readenv=0` is given.
+pub type Env = WorkModule<EnvWork>;

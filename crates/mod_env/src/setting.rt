@@ -12,21 +12,21 @@ ghost use Rattle.mod_env.specs.Puts.{Puts};
 use crate::conf::{Entries, EnvLine};
 use crate::expand::{Expansion, Sources, asks_account, expansion_of};
 use account_db::Passwd;
-use account_files::pam_room::{Process, Transaction, get_item};
+use account_files::pam_room::{Transaction, get_item};
 use account_files::{Account, Accounts, laws};
 use env_list::EnvList;
 use item_store::Items;
+use module_acts::Asked;
 use pam_base::{ItemName, NoMemory, Refuse, Texts};
 use pam_outside::Vault;
 use std::alloc::Global;
 
 /// Sets the variables in order; false if a value is too long: those before it are set.
 pub(crate) fn set_all(
-    alloc: Global,
+    asked: &Asked,
     entries: &Entries,
     transaction: &mut Transaction,
     accounts: &mut Accounts,
-    process: &Process,
     vault: &mut dyn Vault,
 ) -> Result<bool, NoMemory>
     ensures tells { vault_tells vault.new ≡ vault_tells vault.old }
@@ -35,14 +35,14 @@ pub(crate) fn set_all(
     ensures told { IsTrue (vault_tells vault.old) →
         (conv : ConvState) (clock : ClockState) →
         IfOk result (λ fits. YieldsWith fits (sets_all entries.now) accounts.old
-        (scene_at transaction.old conv (vault_holds vault.old) clock process.now) accounts.new
-        (scene_at transaction.new conv (vault_holds vault.new) clock process.now)) }
+        (scene_at transaction.old conv (vault_holds vault.old) clock asked.now.process.now) accounts.new
+        (scene_at transaction.new conv (vault_holds vault.new) clock asked.now.process.now)) }
     ensures puts { Puts transaction.old transaction.new }
 {
     crate::laws::puts_alone();
     let mut rest = entries.items();
     while let [entry, after @ ..] = rest {
-        if !set_variable(alloc, entry, transaction, accounts, process, vault)? {
+        if !set_variable(asked, entry, transaction, accounts, vault)? {
             return Ok(false);
         }
         rest = after;
@@ -52,11 +52,10 @@ pub(crate) fn set_all(
 
 // Sets a variable; false if a value is too long.
 fn set_variable(
-    alloc: Global,
+    asked: &Asked,
     entry: &EnvLine,
     transaction: &mut Transaction,
     accounts: &mut Accounts,
-    process: &Process,
     vault: &mut dyn Vault,
 ) -> Result<bool, NoMemory>
     ensures tells { vault_tells vault.new ≡ vault_tells vault.old }
@@ -65,25 +64,24 @@ fn set_variable(
     ensures told { IsTrue (vault_tells vault.old) →
         (conv : ConvState) (clock : ClockState) →
         IfOk result (λ fits. YieldsWith fits (sets_variable entry.now) accounts.old
-        (scene_at transaction.old conv (vault_holds vault.old) clock process.now) accounts.new
-        (scene_at transaction.new conv (vault_holds vault.new) clock process.now)) }
+        (scene_at transaction.old conv (vault_holds vault.old) clock asked.now.process.now) accounts.new
+        (scene_at transaction.new conv (vault_holds vault.new) clock asked.now.process.now)) }
     ensures puts { Puts transaction.old transaction.new }
 {
     crate::laws::puts_alone();
     let asks = asks_account(entry);
-    look(alloc, asks, transaction, accounts, process, vault)?;
-    let account = found_entry(alloc, asks, &transaction.items, accounts)?;
-    let fits = set_by(alloc, entry, account.as_ref(), transaction)?;
+    look(asked, asks, transaction, accounts, vault)?;
+    let account = found_entry(asked.alloc, asks, &transaction.items, accounts)?;
+    let fits = set_by(asked.alloc, entry, account.as_ref(), transaction)?;
     Ok(fits)
 }
 
 // Looks the user's account up, if it is needed and USER is set.
 fn look(
-    alloc: Global,
+    asked: &Asked,
     asks: bool,
     transaction: &Transaction,
     accounts: &mut Accounts,
-    process: &Process,
     vault: &mut dyn Vault,
 ) -> Result<(), NoMemory>
     ensures tells { vault_tells vault.new ≡ vault_tells vault.old }
@@ -93,13 +91,13 @@ fn look(
         (conv : ConvState) (clock : ClockState) →
         OnOk result (YieldsWith (entry_seen asks transaction.now.items.user accounts.new)
         (looks_if asks) accounts.old
-        (scene_at transaction.now conv (vault_holds vault.old) clock process.now) accounts.new
-        (scene_at transaction.now conv (vault_holds vault.new) clock process.now)) }
+        (scene_at transaction.now conv (vault_holds vault.old) clock asked.now.process.now) accounts.new
+        (scene_at transaction.now conv (vault_holds vault.new) clock asked.now.process.now)) }
     ensures read { OnOk result (asks ≡ true → transaction.now.items.user ≢ None →
         accounts.new.passwds ≢ None) }
 {
     if asks {
-        look_user(alloc, transaction, accounts, process, vault)
+        look_user(asked, transaction, accounts, vault)
     } else {
         Ok(())
     }
@@ -107,10 +105,9 @@ fn look(
 
 // Looks the user's account up, if USER is set.
 fn look_user(
-    alloc: Global,
+    asked: &Asked,
     transaction: &Transaction,
     accounts: &mut Accounts,
-    process: &Process,
     vault: &mut dyn Vault,
 ) -> Result<(), NoMemory>
     ensures tells { vault_tells vault.new ≡ vault_tells vault.old }
@@ -120,14 +117,14 @@ fn look_user(
         (conv : ConvState) (clock : ClockState) →
         OnOk result (YieldsWith (entry_known transaction.now.items.user accounts.new)
         (λ act. sees_items (λ items. by_user items.user act)) accounts.old
-        (scene_at transaction.now conv (vault_holds vault.old) clock process.now) accounts.new
-        (scene_at transaction.now conv (vault_holds vault.new) clock process.now)) }
+        (scene_at transaction.now conv (vault_holds vault.old) clock asked.now.process.now) accounts.new
+        (scene_at transaction.now conv (vault_holds vault.new) clock asked.now.process.now)) }
     ensures read { OnOk result (transaction.now.items.user ≢ None → accounts.new.passwds ≢ None) }
 {
     laws::act_steps();
     match get_item(&transaction.items, ItemName::User) {
         Some(_user) => {
-            accounts.read_passwds(alloc, vault, process)?;
+            accounts.read_passwds(asked.alloc, vault, asked.process)?;
             Ok(())
         }
         None => Ok(()),

@@ -14,8 +14,8 @@ invariant-loop-rest g l = record {
   files : IsTrue ((goal.Vault-dyn g l.fn.vault.now).vault_tells l.fn.vault.now.1) →
       ((goal.Vault-dyn g l.vault.now).vault_holds l.vault.now.1).files ≡ ((goal.Vault-dyn g l.fn.vault.now).vault_holds l.fn.vault.now.1).files;
   told : IsTrue ((goal.Vault-dyn g l.fn.vault.now).vault_tells l.fn.vault.now.1) → (conv : ConvState) (clock : ClockState) (act : Bool → Act) (code : Code) (end : Scene) →
-      Acts (sets_all l.rest act) l.accounts (scene_at l.transaction conv ((goal.Vault-dyn g l.vault.now).vault_holds l.vault.now.1) clock l.process) code end →
-      Acts (sets_all l.entries act) l.fn.accounts (scene_at l.fn.transaction conv ((goal.Vault-dyn g l.fn.vault.now).vault_holds l.fn.vault.now.1) clock l.process) code end;
+      Acts (sets_all l.rest act) l.accounts (scene_at l.transaction conv ((goal.Vault-dyn g l.vault.now).vault_holds l.vault.now.1) clock l.asked.process.now) code end →
+      Acts (sets_all l.entries act) l.fn.accounts (scene_at l.fn.transaction conv ((goal.Vault-dyn g l.fn.vault.now).vault_holds l.fn.vault.now.1) clock l.asked.process.now) code end;
   puts : Puts l.fn.transaction l.transaction;
 }
 
