@@ -19,6 +19,14 @@ use pam_outside::{Clock, Vault};
 /// What `Faillock` decides.
 pub struct FaillockCheck;
 
+/// What is done for a user: what the module sees, the task and the arguments.
+#[derive(Clone, Copy)]
+pub struct Job<'a> {
+    pub seen: &'a Seen<'a>,
+    pub task: Task,
+    pub settings: TallySettings<'a>,
+}
+
 impl Check for FaillockCheck {
     ghost label = { codes "pam_faillock" };
 
@@ -42,7 +50,12 @@ impl Check for FaillockCheck {
         match task_of(seen.call.func, task_among(seen.call.args)) {
             Ok(task) => {
                 let settings = settings_of(seen.call);
-                check_user(seen, task, &settings, vault, clock)
+                let job = Job {
+                    seen,
+                    task,
+                    settings,
+                };
+                check_user(&job, vault, clock)
             }
             Err(code) => Ok(code),
         }
@@ -77,38 +90,32 @@ fn refused(task: Result<Task, Code>) -> Option<Code>
 }
 
 // Looks the user's account up.
-fn check_user(
-    seen: &Seen,
-    task: Task,
-    settings: &TallySettings<'_>,
-    vault: &mut dyn Vault,
-    clock: &dyn Clock,
-) -> Result<Code, NoMemory>
-    requires { seen.now.transaction.now.items.user ≢ None }
+fn check_user(job: &Job, vault: &mut dyn Vault, clock: &dyn Clock) -> Result<Code, NoMemory>
+    requires { job.now.seen.now.transaction.now.items.user ≢ None }
     ensures tells { vault_tells vault.new ≡ vault_tells vault.old }
     ensures err { IsTrue (vault_tells vault.old) →
         OnErr result ((vault_holds vault.new).files ≡ (vault_holds vault.old).files) }
     ensures told { IsTrue (vault_tells vault.old) → IsTrue (clock_tells clock.now) →
         (conv : ConvState) →
-        IfOk result (λ code. Follows (by_name (is_no_file (user_seen seen.now)) task
-        (plain_settings settings.now) (user_seen seen.now))
-        (scene_seen seen.now conv (vault_holds vault.old) (clock_holds clock.now)) code
-        (scene_seen seen.now conv (vault_holds vault.new) (clock_holds clock.now))) }
+        IfOk result (λ code. Follows (by_name (is_no_file (user_seen job.now.seen.now)) job.now.task
+        (plain_settings job.now.settings) (user_seen job.now.seen.now))
+        (scene_seen job.now.seen.now conv (vault_holds vault.old) (clock_holds clock.now)) code
+        (scene_seen job.now.seen.now conv (vault_holds vault.new) (clock_holds clock.now))) }
 {
     laws::act_steps();
-    if is_no_file(user_of(seen.transaction)) {
+    if is_no_file(user_of(job.seen.transaction)) {
         return Ok(Code::UserUnknown);
     }
     let mut accounts = Accounts::new();
-    let account = account_of(seen, &mut accounts, vault)?;
+    let account = account_of(job.seen, &mut accounts, vault)?;
     match account {
         Account::Unreadable => Ok(Code::ServiceErr),
         Account::Missing => Ok(Code::Ignore),
         Account::Found(entry) => {
-            if is_spared(entry.uid, settings.locks_root) {
-                return Ok(spared_answer(task));
+            if is_spared(entry.uid, job.settings.locks_root) {
+                return Ok(spared_answer(job.task));
             }
-            let code = hold_file(seen, task, settings, vault, clock)?;
+            let code = hold_file(job, vault, clock)?;
             Ok(code)
         }
     }
@@ -131,28 +138,28 @@ fn spared_answer(task: Task) -> Code
 }
 
 // Holds the user's file until the end.
-fn hold_file(
-    seen: &Seen,
-    task: Task,
-    settings: &TallySettings<'_>,
-    vault: &mut dyn Vault,
-    clock: &dyn Clock,
-) -> Result<Code, NoMemory>
-    requires { seen.now.transaction.now.items.user ≢ None }
+fn hold_file(job: &Job, vault: &mut dyn Vault, clock: &dyn Clock) -> Result<Code, NoMemory>
+    requires { job.now.seen.now.transaction.now.items.user ≢ None }
     ensures tells { vault_tells vault.new ≡ vault_tells vault.old }
     ensures err { IsTrue (vault_tells vault.old) →
         OnErr result ((vault_holds vault.new).files ≡ (vault_holds vault.old).files) }
     ensures told { IsTrue (vault_tells vault.old) → IsTrue (clock_tells clock.now) →
         (conv : ConvState) (known : Known) →
-        IfOk result (λ code. Acts (by_spared false task (plain_settings settings.now)
-        (user_seen seen.now)) known
-        (scene_seen seen.now conv (vault_holds vault.old) (clock_holds clock.now)) code
-        (scene_seen seen.now conv (vault_holds vault.new) (clock_holds clock.now))) }
+        IfOk result (λ code. Acts (by_spared false job.now.task (plain_settings job.now.settings)
+        (user_seen job.now.seen.now)) known
+        (scene_seen job.now.seen.now conv (vault_holds vault.old) (clock_holds clock.now)) code
+        (scene_seen job.now.seen.now conv (vault_holds vault.new) (clock_holds clock.now))) }
 {
     laws::act_steps();
-    match hold_tallies(seen.alloc, task, seen.process, vault, settings.folder)? {
+    match hold_tallies(
+        job.seen.alloc,
+        job.task,
+        job.seen.process,
+        vault,
+        job.settings.folder,
+    )? {
         Some(_held) => {
-            let code = by_file(seen, task, settings, vault, clock)?;
+            let code = by_file(job, vault, clock)?;
             Ok(code)
         }
         None => Ok(Code::ServiceErr),
@@ -160,31 +167,25 @@ fn hold_file(
 }
 
 // Reads the user's file.
-fn by_file(
-    seen: &Seen,
-    task: Task,
-    settings: &TallySettings<'_>,
-    vault: &mut dyn Vault,
-    clock: &dyn Clock,
-) -> Result<Code, NoMemory>
-    requires { seen.now.transaction.now.items.user ≢ None }
+fn by_file(job: &Job, vault: &mut dyn Vault, clock: &dyn Clock) -> Result<Code, NoMemory>
+    requires { job.now.seen.now.transaction.now.items.user ≢ None }
     ensures tells { vault_tells vault.new ≡ vault_tells vault.old }
     ensures err { IsTrue (vault_tells vault.old) →
         OnErr result ((vault_holds vault.new).files ≡ (vault_holds vault.old).files) }
     ensures told { IsTrue (vault_tells vault.old) → IsTrue (clock_tells clock.now) →
         (conv : ConvState) (known : Known) →
-        IfOk result (λ code. Acts (by_spared false task (plain_settings settings.now)
-        (user_seen seen.now)) known
-        (scene_seen seen.now conv (vault_holds vault.old) (clock_holds clock.now)) code
-        (scene_seen seen.now conv (vault_holds vault.new) (clock_holds clock.now))) }
+        IfOk result (λ code. Acts (by_spared false job.now.task (plain_settings job.now.settings)
+        (user_seen job.now.seen.now)) known
+        (scene_seen job.now.seen.now conv (vault_holds vault.old) (clock_holds clock.now)) code
+        (scene_seen job.now.seen.now conv (vault_holds vault.new) (clock_holds clock.now))) }
 {
     laws::act_steps();
-    let alloc = seen.alloc;
-    let process = seen.process;
-    let name = tally_name(alloc, settings.folder, user_of(seen.transaction))?;
+    let alloc = job.seen.alloc;
+    let process = job.seen.process;
+    let name = tally_name(alloc, job.settings.folder, user_of(job.seen.transaction))?;
     match read_tally(alloc, process, vault, name.bytes())? {
         Some(failures) => {
-            let code = by_task(seen, task, settings, name.bytes(), failures, vault, clock)?;
+            let code = by_task(job, name.bytes(), failures, vault, clock)?;
             Ok(code)
         }
         None => Ok(Code::ServiceErr),

@@ -37,15 +37,12 @@ pub enum Version {
 pub fn failures(alloc: Global, text: &[u8]) -> Result<Failures, Refuse<Damaged>>
     ensures { ReadsTally result text.now }
 {
-    match read_failures(alloc, text)? {
-        Some(failures) => Ok(failures),
-        None => Err(Refuse::Named(Damaged)),
-    }
+    read_failures(alloc, text)?.ok_or(Refuse::Named(Damaged))
 }
 
 #[tactic(auto, unfolding(crate::specs::Tally::failures_of))]
-// The same; None if the text is damaged.
-fn read_failures(alloc: Global, text: &[u8]) -> Result<Option<Failures>, NoMemory>
+/// The same; None if the text is damaged.
+pub(crate) fn read_failures(alloc: Global, text: &[u8]) -> Result<Option<Failures>, NoMemory>
     ensures { IfOk result (λ found. found ≡ failures_of text.now) }
 {
     if !text.ends_with(b"\n") {

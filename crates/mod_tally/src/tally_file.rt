@@ -10,11 +10,11 @@ ghost use Rattle.module_acts.specs.account_files.specs.Act.{Acts, StepsTo};
 ghost use Rattle.mod_tally.specs.Faillock.{failures_in, is_no_file, reads_tally, sets_text, tally_limit, tally_name};
 
 use crate::settings::Task;
-use crate::tally::{Failures, failures};
+use crate::tally::{Failures, read_failures};
 use module_acts::Seen;
 use module_acts::account_files::{Content, hold_named, is_rooted, laws, read_named, replace_named};
 use module_acts::pam_room::Process;
-use pam_base::{Code, NoMemory, Refuse, Text};
+use pam_base::{Code, NoMemory, Text};
 use pam_outside::{Held, LockKind, Vault};
 use std::alloc::Global;
 
@@ -102,11 +102,7 @@ fn failures_in(alloc: Global, content: Content) -> Result<Option<Failures>, NoMe
     match content {
         Content::Absent => Ok(Some(Failures::new(alloc))),
         Content::Unreadable => Ok(None),
-        Content::Holds(text) => match failures(alloc, text.bytes()) {
-            Ok(found) => Ok(Some(found)),
-            Err(Refuse::NoMemory) => Err(NoMemory),
-            Err(Refuse::Named(_)) => Ok(None),
-        },
+        Content::Holds(text) => read_failures(alloc, text.bytes()),
     }
 }
 

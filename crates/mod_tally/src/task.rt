@@ -12,7 +12,8 @@ ghost use Rattle.mod_tally.specs.Faillock.{by_task, clears, new_failure, writes_
 
 use crate::counted::{counting_text, is_locked};
 use crate::failure::new_failure;
-use crate::settings::{TallySettings, Task};
+use crate::pam_faillock::Job;
+use crate::settings::Task;
 use crate::tally::{Failure, Failures};
 use crate::tally_file::set_text;
 use module_acts::Seen;
@@ -23,9 +24,7 @@ use std::alloc::Global;
 
 /// Does what is to be done with the failures in the file.
 pub(crate) fn by_task(
-    seen: &Seen,
-    task: Task,
-    settings: &TallySettings<'_>,
+    job: &Job,
     name: &[u8],
     failures: Failures,
     vault: &mut dyn Vault,
@@ -36,23 +35,23 @@ pub(crate) fn by_task(
         OnErr result ((vault_holds vault.new).files ≡ (vault_holds vault.old).files) }
     ensures told { IsTrue (vault_tells vault.old) → IsTrue (clock_tells clock.now) →
         (conv : ConvState) (known : Known) →
-        IfOk result (λ code. Acts (by_task task (plain_settings settings.now) name.now failures)
-        known
-        (scene_seen seen.now conv (vault_holds vault.old) (clock_holds clock.now)) code
-        (scene_seen seen.now conv (vault_holds vault.new) (clock_holds clock.now))) }
+        IfOk result (λ code. Acts (by_task job.now.task (plain_settings job.now.settings) name.now
+        failures) known
+        (scene_seen job.now.seen.now conv (vault_holds vault.old) (clock_holds clock.now)) code
+        (scene_seen job.now.seen.now conv (vault_holds vault.new) (clock_holds clock.now))) }
 {
     laws::act_steps();
     let moment = current_moment(clock);
     let locked = is_locked(
-        settings.deny,
-        settings.interval,
-        settings.unlock,
+        job.settings.deny,
+        job.settings.interval,
+        job.settings.unlock,
         moment,
         failures.items(),
     );
-    match task {
+    match job.task {
         Task::Clear => {
-            let code = clear(seen, name, failures.items(), vault)?;
+            let code = clear(job.seen, name, failures.items(), vault)?;
             Ok(code)
         }
         Task::Preauth => {
@@ -65,14 +64,15 @@ pub(crate) fn by_task(
             if locked {
                 return Ok(Code::AuthErr);
             }
-            let code = clear(seen, name, failures.items(), vault)?;
+            let code = clear(job.seen, name, failures.items(), vault)?;
             Ok(code)
         }
         Task::AuthFail => {
             if locked {
                 return Ok(Code::AuthErr);
             }
-            let code = record_failure(seen, settings.interval, moment, name, failures, vault)?;
+            let interval = job.settings.interval;
+            let code = record_failure(job.seen, interval, moment, name, failures, vault)?;
             Ok(code)
         }
     }
