@@ -5,3 +5,4 @@ pub mod Peeling
 pub mod Serving
 pub mod Walking
 pub mod Finishing
+pub mod Calling

@@ -1,12 +1,16 @@
-ghost use Rattle.std.specs.Prelude.{◌≡◌, ◌≤◌, ◌-◌, IfOk, None, Some, [], false, drop, length};
-ghost use Rattle.dispatch_core.specs.Calls.{change, check, following, goes, one_pass, passes, update, went};
+ghost use Rattle.std.specs.Prelude.{◌≡◌, ◌≤◌, ◌-◌, IfOk, List, None, Option, drop, false, length};
+ghost use Rattle.control_words.specs.Stack.{lines_in, stack_of};
+ghost use Rattle.dispatch_core.specs.Calls as calls;
+ghost use Rattle.dispatch_core.specs.Calls.{change, check, following, goes, held_behind, one_pass, passes, update, went};
 ghost use Rattle.dispatch_core.specs.Pending.{first_in, past_in, pending_after};
 ghost use Rattle.dispatch_core.specs.service_load.specs.Load.{AreBounded};
-ghost use Rattle.stack_walk.specs.Retell.{telling};
+ghost use Rattle.stack_walk.specs.Retell.{Telling, telling};
+ghost use Rattle.stack_walk.specs.declared.seen.Seen.{Seen};
 ghost use Rattle.pass_replay.specs.Held.{held_of, pending_of};
 ghost use Rattle.pass_replay.specs.Kept.{kept_answers};
 ghost use Rattle.pass_replay.specs.Replay.{as_told};
-ghost use Rattle.pass_replay.specs.Retold.{stacks_in, went_of};
+ghost use Rattle.pass_replay.specs.Passed.{passed_of};
+ghost use Rattle.pass_replay.specs.Retold.{cached_for, held_after, kind_of, stack_for, stacks_in, went_of};
 ghost use Rattle.pass_replay.specs.Told.{lines_before, telling_from, visits_in};
 
 use crate::answers::Answers;
@@ -15,6 +19,7 @@ use crate::pass::pass;
 use crate::passed::Passed;
 use crate::retold::Retold;
 use crate::told::first_left;
+use control_words::Nodes;
 use dispatch_core::service_load::Trees;
 use pam_base::{Code, Func, NoMemory, Sequence};
 use stack_walk::{PassKind, Seen};
@@ -42,38 +47,36 @@ pub fn retell(
         told.now) }
     ensures within { IfOk result (λ retold. retold.next ≤ length told.now) }
 {
-    let mut retold = call(alloc, trees, func, held, told)?;
+    let source = Source { alloc, trees, told };
+    let mut retold = call(&source, func, held)?;
     retold.next = first_left(told, retold.next);
     Ok(retold)
 }
 
-// The same, except that `next` is the line after the last recorded line that was taken.
-fn call(
+// What a replay reads: the stacks and the recorded lines; and where it allocates.
+#[derive(Clone, Copy)]
+struct Source<'a> {
     alloc: Global,
-    trees: &Trees,
-    func: Func,
-    held: Held,
-    told: &[Option<Seen>],
-) -> Result<Retold, NoMemory>
-    requires bounded { AreBounded trees.now }
-    ensures { IfOk result (λ retold. went_of told.now retold
-        ≡ goes as_told (stacks_in trees.now) func (held_of held) (telling (visits_in told.now))) }
+    trees: &'a Trees,
+    told: &'a [Option<Seen>],
+}
+
+// The same, except that `next` is the line after the last recorded line that was taken.
+fn call(source: &Source, func: Func, held: Held) -> Result<Retold, NoMemory>
+    requires bounded { AreBounded source.now.trees.now }
+    ensures { IfOk result (λ retold. went_of source.now.told.now retold
+        ≡ goes as_told (stacks_in source.now.trees.now) func (held_of held)
+        (telling (visits_in source.now.told.now))) }
 {
     let mut held = held;
-    let (past, first) = resumed_from(alloc, held.pending.take());
+    let (past, first) = resumed_from(source.alloc, held.pending.take());
     match func {
-        Func::Authenticate => auth_call(alloc, trees, func, PassKind::Keep, &past, held, told),
-        Func::SetCred => {
-            let kind = following(&held.authenticated);
-            auth_call(alloc, trees, func, kind, &past, held, told)
-        }
-        Func::AcctMgmt => account_call(alloc, trees, &past, held, told),
-        Func::OpenSession => session_call(alloc, trees, func, PassKind::Keep, &past, held, told),
-        Func::CloseSession => {
-            let kind = following(&held.opened);
-            session_call(alloc, trees, func, kind, &past, held, told)
-        }
-        Func::ChAuthTok => change(alloc, trees, &past, first, held, told),
+        Func::ChAuthTok => change(source, &past, first, held),
+        Func::Authenticate
+        | Func::SetCred
+        | Func::AcctMgmt
+        | Func::OpenSession
+        | Func::CloseSession => one_pass(source, func, &past, held),
     }
 }
 
@@ -85,6 +88,18 @@ fn resumed_from(alloc: Global, pending: Option<Pending>) -> (Sequence<Code>, Opt
     match pending {
         Some(pending) => (pending.past, pending.first),
         None => (Sequence::new(alloc), None),
+    }
+}
+
+// The kind of a call's first pass: setcred and close_session follow cached codes, if any are held.
+fn kind_of(func: Func, kept: &Option<Answers>) -> PassKind
+    ensures { result ≡ kind_of func (kept_answers kept.now) }
+{
+    match func {
+        Func::SetCred | Func::CloseSession => following(kept),
+        Func::Authenticate | Func::AcctMgmt | Func::OpenSession | Func::ChAuthTok => {
+            PassKind::Keep
+        }
     }
 }
 
@@ -112,185 +127,141 @@ fn pending_after(
     }
 }
 
-// A call of one pass over the auth stack.
-fn auth_call(
-    alloc: Global,
-    trees: &Trees,
-    func: Func,
-    kind: PassKind,
-    past: &Sequence<Code>,
-    held: Held,
-    told: &[Option<Seen>],
-) -> Result<Retold, NoMemory>
+// The stack that a call runs.
+fn stack_for(func: Func, trees: &Trees) -> &Nodes
     requires bounded { AreBounded trees.now }
-    ensures { IfOk result (λ retold.
-        let p = passes as_told (stacks_in trees.now) func false kind
-        (kept_answers held.authenticated) (stacks_in trees.now).auth past.now
-        (telling (visits_in told.now)) in
-        went_of told.now retold ≡ went p.code
-        (record {
-          authenticated = p.kept;
-          opened = kept_answers held.opened;
-          pending = pending_after func None p.paused;
-        }) p.state) }
+    ensures stack { stack_of result.now.vec.items ≡ stack_for func (stacks_in trees.now) }
+    ensures few { lines_in (stack_of result.now.vec.items) ≤ 4096 }
 {
-    let Held {
-        authenticated,
-        opened,
-        ..
-    } = held;
-    let nodes = &trees.auth;
-    let passed = pass(
-        alloc,
+    match func {
+        Func::Authenticate | Func::SetCred => &trees.auth,
+        Func::AcctMgmt => &trees.account,
+        Func::OpenSession | Func::CloseSession => &trees.session,
+        Func::ChAuthTok => &trees.password,
+    }
+}
+
+// Takes out what is cached for a call: authenticate and setcred share it, and so do open_session
+// and close_session.
+fn take_cached(func: Func, held: &mut Held) -> Option<Answers>
+    ensures taken { kept_answers result ≡ cached_for func (held_of held.old) }
+    ensures rest { (p : calls.Passed Telling) →
+        held_behind func None p (held_of held.new) ≡ held_behind func None p (held_of held.old) }
+{
+    match func {
+        Func::Authenticate | Func::SetCred => held.authenticated.take(),
+        Func::OpenSession | Func::CloseSession => held.opened.take(),
+        Func::AcctMgmt | Func::ChAuthTok => None,
+    }
+}
+
+// The first pass of a call, after the codes of its earlier calls, by what is cached for it.
+fn first_pass(
+    source: &Source,
+    func: Func,
+    past: &Sequence<Code>,
+    cached: Option<Answers>,
+) -> Result<Passed, NoMemory>
+    requires bounded { AreBounded source.now.trees.now }
+    ensures { IfOk result (λ passed. passed_of source.now.told.now passed
+        ≡ passes as_told (stacks_in source.now.trees.now) func false
+        (kind_of func (kept_answers cached)) (kept_answers cached)
+        (stack_for func (stacks_in source.now.trees.now)) past.now
+        (telling (visits_in source.now.told.now))) }
+{
+    let nodes = stack_for(func, source.trees);
+    let kind = kind_of(func, &cached);
+    pass(
+        source.alloc,
         nodes,
         kind,
-        authenticated,
+        cached,
         past.items(),
-        told,
+        source.told,
         0,
         false,
-    )?;
-    let pending = pending_after(func, None, passed.paused);
-    Ok(Retold {
-        code: passed.code,
-        held: Held {
-            authenticated: passed.kept,
-            opened,
-            pending,
-        },
-        next: passed.next,
-        astray: passed.astray,
-    })
+    )
 }
 
-// A call of one pass over the session stack.
-fn session_call(
-    alloc: Global,
-    trees: &Trees,
+// The result of a call whose last pass is its first: what the call caches is put in its place.
+fn ended(func: Func, passed: Passed, held: Held) -> Retold
+    ensures { (told : List (Option Seen)) → went_of told result ≡ went passed.code
+        (held_behind func None (passed_of told passed) (held_of held))
+        (telling_from told passed.next passed.astray) }
+{
+    let pending = pending_after(func, None, passed.paused);
+    Retold {
+        code: passed.code,
+        held: held_after(func, passed.kept, pending, held),
+        next: passed.next,
+        astray: passed.astray,
+    }
+}
+
+fn held_after(func: Func, kept: Option<Answers>, pending: Option<Pending>, held: Held) -> Held
+    ensures { held_of result ≡ held_after func (kept_answers kept) (pending_of pending)
+        (held_of held) }
+{
+    match func {
+        Func::Authenticate | Func::SetCred => Held {
+            authenticated: kept,
+            pending,
+            ..held
+        },
+        Func::OpenSession | Func::CloseSession => Held {
+            opened: kept,
+            pending,
+            ..held
+        },
+        Func::AcctMgmt | Func::ChAuthTok => Held { pending, ..held },
+    }
+}
+
+// A call of one pass.
+fn one_pass(
+    source: &Source,
     func: Func,
-    kind: PassKind,
     past: &Sequence<Code>,
     held: Held,
-    told: &[Option<Seen>],
 ) -> Result<Retold, NoMemory>
-    requires bounded { AreBounded trees.now }
-    ensures { IfOk result (λ retold.
-        let p = passes as_told (stacks_in trees.now) func false kind
-        (kept_answers held.opened) (stacks_in trees.now).session past.now
-        (telling (visits_in told.now)) in
-        went_of told.now retold ≡ went p.code
-        (record {
-          authenticated = kept_answers held.authenticated;
-          opened = p.kept;
-          pending = pending_after func None p.paused;
-        }) p.state) }
+    requires bounded { AreBounded source.now.trees.now }
+    ensures { IfOk result (λ retold. went_of source.now.told.now retold
+        ≡ one_pass as_told (stacks_in source.now.trees.now) func past.now (held_of held)
+        (telling (visits_in source.now.told.now))) }
 {
-    let Held {
-        authenticated,
-        opened,
-        ..
-    } = held;
-    let nodes = &trees.session;
-    let passed = pass(alloc, nodes, kind, opened, past.items(), told, 0, false)?;
-    let pending = pending_after(func, None, passed.paused);
-    Ok(Retold {
-        code: passed.code,
-        held: Held {
-            authenticated,
-            opened: passed.kept,
-            pending,
-        },
-        next: passed.next,
-        astray: passed.astray,
-    })
-}
-
-fn account_call(
-    alloc: Global,
-    trees: &Trees,
-    past: &Sequence<Code>,
-    held: Held,
-    told: &[Option<Seen>],
-) -> Result<Retold, NoMemory>
-    requires bounded { AreBounded trees.now }
-    ensures { IfOk result (λ retold. went_of told.now retold
-        ≡ one_pass as_told (stacks_in trees.now) Func.AcctMgmt past.now (held_of held)
-        (telling (visits_in told.now))) }
-{
-    let nodes = &trees.account;
-    let passed = pass(
-        alloc,
-        nodes,
-        PassKind::Keep,
-        None,
-        past.items(),
-        told,
-        0,
-        false,
-    )?;
-    let pending = pending_after(Func::AcctMgmt, None, passed.paused);
-    Ok(Retold {
-        code: passed.code,
-        held: Held { pending, ..held },
-        next: passed.next,
-        astray: passed.astray,
-    })
+    let mut held = held;
+    let cached = take_cached(func, &mut held);
+    let passed = first_pass(source, func, past, cached)?;
+    Ok(ended(func, passed, held))
 }
 
 // The passes of chauthtok that are left: both, or the second one if the codes of the first are
 // held.
 fn change(
-    alloc: Global,
-    trees: &Trees,
+    source: &Source,
     past: &Sequence<Code>,
     first: Option<Answers>,
     held: Held,
-    told: &[Option<Seen>],
 ) -> Result<Retold, NoMemory>
-    requires bounded { AreBounded trees.now }
-    ensures { IfOk result (λ retold. went_of told.now retold
-        ≡ change as_told (stacks_in trees.now) past.now (kept_answers first) (held_of held)
-        (telling (visits_in told.now))) }
+    requires bounded { AreBounded source.now.trees.now }
+    ensures { IfOk result (λ retold. went_of source.now.told.now retold
+        ≡ change as_told (stacks_in source.now.trees.now) past.now (kept_answers first)
+        (held_of held) (telling (visits_in source.now.told.now))) }
 {
     match first {
-        Some(first) => update(
-            alloc,
-            trees,
-            Some(first),
-            past.items(),
-            held,
-            told,
-            0,
-            false,
-        ),
-        None => check(alloc, trees, past, held, told),
+        Some(first) => update(source, Some(first), past.items(), held, 0, false),
+        None => check(source, past, held),
     }
 }
 
 // The first pass of chauthtok, and if that returned SUCCESS the second.
-fn check(
-    alloc: Global,
-    trees: &Trees,
-    past: &Sequence<Code>,
-    held: Held,
-    told: &[Option<Seen>],
-) -> Result<Retold, NoMemory>
-    requires bounded { AreBounded trees.now }
-    ensures { IfOk result (λ retold. went_of told.now retold
-        ≡ check as_told (stacks_in trees.now) past.now (held_of held)
-        (telling (visits_in told.now))) }
+fn check(source: &Source, past: &Sequence<Code>, held: Held) -> Result<Retold, NoMemory>
+    requires bounded { AreBounded source.now.trees.now }
+    ensures { IfOk result (λ retold. went_of source.now.told.now retold
+        ≡ check as_told (stacks_in source.now.trees.now) past.now (held_of held)
+        (telling (visits_in source.now.told.now))) }
 {
-    let nodes = &trees.password;
-    let passed = pass(
-        alloc,
-        nodes,
-        PassKind::Keep,
-        None,
-        past.items(),
-        told,
-        0,
-        false,
-    )?;
+    let passed = first_pass(source, Func::ChAuthTok, past, None)?;
     if passed.code == Code::Success {
         let Passed {
             kept,
@@ -298,41 +269,33 @@ fn check(
             astray,
             ..
         } = passed;
-        return update(alloc, trees, kept, &[], held, told, next, astray);
+        return update(source, kept, &[], held, next, astray);
     }
-    let pending = pending_after(Func::ChAuthTok, None, passed.paused);
-    Ok(Retold {
-        code: passed.code,
-        held: Held { pending, ..held },
-        next: passed.next,
-        astray: passed.astray,
-    })
+    Ok(ended(Func::ChAuthTok, passed, held))
 }
 
 // The second pass of chauthtok, by the codes that the first cached, from a recorded line on.
 fn update(
-    alloc: Global,
-    trees: &Trees,
+    source: &Source,
     first: Option<Answers>,
     past: &[Code],
     held: Held,
-    told: &[Option<Seen>],
     next: usize,
     astray: bool,
 ) -> Result<Retold, NoMemory>
-    requires bounded { AreBounded trees.now }
-    ensures { IfOk result (λ retold. went_of told.now retold
-        ≡ update as_told (stacks_in trees.now) (kept_answers first) past.now (held_of held)
-        (telling_from told.now next astray)) }
+    requires bounded { AreBounded source.now.trees.now }
+    ensures { IfOk result (λ retold. went_of source.now.told.now retold
+        ≡ update as_told (stacks_in source.now.trees.now) (kept_answers first) past.now
+        (held_of held) (telling_from source.now.told.now next astray)) }
 {
-    let nodes = &trees.password;
+    let nodes = &source.trees.password;
     let passed = pass(
-        alloc,
+        source.alloc,
         nodes,
         PassKind::Follow,
         first,
         past,
-        told,
+        source.told,
         next,
         astray,
     )?;
