@@ -12,19 +12,16 @@ use crate::refusal::{is_refused, refuse_token, unset_token};
 use crate::renewal::renewed_text;
 use account_files::{hold_named, read_named};
 use conv_port::Conv;
-use mod_unix::module_acts::{laws, require_user, user_of};
+use mod_unix::module_acts::{Asked, laws, require_user, user_of};
 use mod_unix::{KnownPassword, look_up, take_token};
 use pam_base::{Code, ConvErr, NoMemory, Refuse, Text, number_in};
 use pam_outside::{Held, LockKind, Vault};
-use pam_room::{Call, Process, Transaction};
-use std::alloc::Global;
+use pam_room::{Call, Transaction};
 
 /// Takes a new token, unless the user has it or had it, and remembers the hash of the present one.
 pub(crate) fn check_token(
-    alloc: Global,
-    call: &Call,
+    asked: &Asked,
     transaction: &mut Transaction,
-    process: &Process,
     conv: &mut dyn Conv,
     vault: &mut dyn Vault,
 ) -> Result<Code, Refuse<ConvErr>>
@@ -34,37 +31,26 @@ pub(crate) fn check_token(
         OnErr result ((vault_holds vault.new).files ≡ (vault_holds vault.old).files) }
     ensures told { IsTrue (conv_tells conv.old) → IsTrue (vault_tells vault.old) →
         (clock : ClockState) →
-        Returns result (checks_token (plain_call call.now))
+        Returns result (checks_token (plain_call asked.now.call.now))
         (scene_of_parts transaction.old (conv_holds conv.old) (vault_holds vault.old) clock
-        (plain_process process.now))
+        (plain_process asked.now.process.now))
         (scene_of_parts transaction.new (conv_holds conv.new) (vault_holds vault.new) clock
-        (plain_process process.now)) }
+        (plain_process asked.now.process.now)) }
     ensures talks { OnlyTalks transaction.old transaction.new }
 {
     laws::talking();
-    require_user(alloc, transaction, conv)?;
-    let user = Text::from_bytes(alloc, user_of(transaction))?;
-    let look = look_up(alloc, vault, process, user.bytes())?;
-    renew_if_known(
-        alloc,
-        call,
-        user.bytes(),
-        &look,
-        transaction,
-        process,
-        conv,
-        vault,
-    )
+    require_user(asked.alloc, transaction, conv)?;
+    let user = Text::from_bytes(asked.alloc, user_of(transaction))?;
+    let look = look_up(asked.alloc, vault, asked.process, user.bytes())?;
+    renew_if_known(asked, user.bytes(), &look, transaction, conv, vault)
 }
 
 // Goes on by what is known of the user's password.
 fn renew_if_known(
-    alloc: Global,
-    call: &Call,
+    asked: &Asked,
     user: &[u8],
     look: &KnownPassword,
     transaction: &mut Transaction,
-    process: &Process,
     conv: &mut dyn Conv,
     vault: &mut dyn Vault,
 ) -> Result<Code, Refuse<ConvErr>>
@@ -74,34 +60,23 @@ fn renew_if_known(
         OnErr result ((vault_holds vault.new).files ≡ (vault_holds vault.old).files) }
     ensures told { IsTrue (conv_tells conv.old) → IsTrue (vault_tells vault.old) →
         (clock : ClockState) →
-        Returns result (renew_if_known (plain_call call.now) user.now look.now)
+        Returns result (renew_if_known (plain_call asked.now.call.now) user.now look.now)
         (scene_of_parts transaction.old (conv_holds conv.old) (vault_holds vault.old) clock
-        (plain_process process.now))
+        (plain_process asked.now.process.now))
         (scene_of_parts transaction.new (conv_holds conv.new) (vault_holds vault.new) clock
-        (plain_process process.now)) }
+        (plain_process asked.now.process.now)) }
     ensures talks { OnlyTalks transaction.old transaction.new }
 {
     laws::talking();
     match look {
         KnownPassword::Unknown => Ok(Code::UserUnknown),
         KnownPassword::Unavailable => Ok(Code::AuthtokErr),
-        KnownPassword::Plain(hash) => renew(
-            alloc,
-            call,
-            user,
-            hash.bytes(),
-            transaction,
-            process,
-            conv,
-            vault,
-        ),
+        KnownPassword::Plain(hash) => renew(asked, user, hash.bytes(), transaction, conv, vault),
         KnownPassword::Shadowed(entry) => renew(
-            alloc,
-            call,
+            asked,
             user,
             entry.hash.bytes(),
             transaction,
-            process,
             conv,
             vault,
         ),
@@ -110,12 +85,10 @@ fn renew_if_known(
 
 // Takes the new token, and remembers the hash of the present one.
 fn renew(
-    alloc: Global,
-    call: &Call,
+    asked: &Asked,
     user: &[u8],
     hash: &[u8],
     transaction: &mut Transaction,
-    process: &Process,
     conv: &mut dyn Conv,
     vault: &mut dyn Vault,
 ) -> Result<Code, Refuse<ConvErr>>
@@ -125,39 +98,27 @@ fn renew(
         OnErr result ((vault_holds vault.new).files ≡ (vault_holds vault.old).files) }
     ensures told { IsTrue (conv_tells conv.old) → IsTrue (vault_tells vault.old) →
         (clock : ClockState) →
-        Returns result (renews (plain_call call.now) user.now hash.now)
+        Returns result (renews (plain_call asked.now.call.now) user.now hash.now)
         (scene_of_parts transaction.old (conv_holds conv.old) (vault_holds vault.old) clock
-        (plain_process process.now))
+        (plain_process asked.now.process.now))
         (scene_of_parts transaction.new (conv_holds conv.new) (vault_holds vault.new) clock
-        (plain_process process.now)) }
+        (plain_process asked.now.process.now)) }
     ensures talks { OnlyTalks transaction.old transaction.new }
 {
     laws::talking();
-    let token = take_token(alloc, call, transaction, conv)?;
-    let code = remember(
-        alloc,
-        call,
-        user,
-        hash,
-        token,
-        transaction,
-        process,
-        conv,
-        vault,
-    )?;
+    let token = take_token(asked.alloc, asked.call, transaction, conv)?;
+    let code = remember(asked, user, hash, token, transaction, conv, vault)?;
     Ok(code)
 }
 
 // Remembers the hash of the present token, if there is a new one that the user neither has nor had.
 // The account files are locked from the read to the replacement, as lckpwdf(3) locks them.
 fn remember(
-    alloc: Global,
-    call: &Call,
+    asked: &Asked,
     user: &[u8],
     hash: &[u8],
     token: Option<Text>,
     transaction: &mut Transaction,
-    process: &Process,
     conv: &mut dyn Conv,
     vault: &mut dyn Vault,
 ) -> Result<Code, NoMemory>
@@ -168,11 +129,12 @@ fn remember(
         OnErr result ((vault_holds vault.new).files ≡ (vault_holds vault.old).files) }
     ensures told { IsTrue (conv_tells conv.old) → IsTrue (vault_tells vault.old) →
         (clock : ClockState) →
-        IfOk result (λ code. Yields code (remembers (plain_call call.now) user.now hash.now token)
+        IfOk result (λ code. Yields code (remembers (plain_call asked.now.call.now) user.now
+        hash.now token)
         (scene_of_parts transaction.old (conv_holds conv.old) (vault_holds vault.old) clock
-        (plain_process process.now))
+        (plain_process asked.now.process.now))
         (scene_of_parts transaction.new (conv_holds conv.new) (vault_holds vault.new) clock
-        (plain_process process.now))) }
+        (plain_process asked.now.process.now))) }
     ensures talks { OnlyTalks transaction.old transaction.new }
 {
     laws::talking();
@@ -180,10 +142,16 @@ fn remember(
         Some(token) => token,
         None => return Ok(Code::AuthtokErr),
     };
-    if remember_of(call) == 0 {
+    if remember_of(asked.call) == 0 {
         return Ok(Code::Success);
     }
-    let held = match hold_named(alloc, vault, process, b"/etc/.pwd.lock", LockKind::Record)? {
+    let held = match hold_named(
+        asked.alloc,
+        vault,
+        asked.process,
+        b"/etc/.pwd.lock",
+        LockKind::Record,
+    )? {
         Some(held) => held,
         None => {
             // Otherwise a later module would set a token that wasn't looked up.
@@ -191,18 +159,22 @@ fn remember(
             return Ok(Code::AuthtokErr);
         }
     };
-    let content = read_named(alloc, vault, process, HISTORY_NAME, HISTORY_LIMIT)?;
-    let history = history_in(alloc, content)?;
+    let content = read_named(
+        asked.alloc,
+        vault,
+        asked.process,
+        HISTORY_NAME,
+        HISTORY_LIMIT,
+    )?;
+    let history = history_in(asked.alloc, content)?;
     let code = remember_in_history(
-        alloc,
-        call,
+        asked,
         user,
         hash,
         token.bytes(),
         history,
         held,
         transaction,
-        process,
         conv,
         vault,
     )?;
@@ -212,32 +184,30 @@ fn remember(
 // Goes on by the history, unless it can't be read. The lock is released before the user gets any
 // message, so that nobody's terminal keeps others out.
 fn remember_in_history(
-    alloc: Global,
-    call: &Call,
+    asked: &Asked,
     user: &[u8],
     hash: &[u8],
     token: &[u8],
     history: Option<History>,
     held: Held,
     transaction: &mut Transaction,
-    process: &Process,
     conv: &mut dyn Conv,
     vault: &mut dyn Vault,
 ) -> Result<Code, NoMemory>
     requires short { length token.now ≤ 512 }
-    requires remembers { 0 < remember_of call.now.args.now }
+    requires remembers { 0 < remember_of asked.now.call.now.args.now }
     ensures conv_tells { conv_tells conv.new ≡ conv_tells conv.old }
     ensures vault_tells { vault_tells vault.new ≡ vault_tells vault.old }
     ensures err { IsTrue (vault_tells vault.old) →
         OnErr result ((vault_holds vault.new).files ≡ (vault_holds vault.old).files) }
     ensures told { IsTrue (conv_tells conv.old) → IsTrue (vault_tells vault.old) →
         (clock : ClockState) →
-        IfOk result (λ code. Yields code (remember_in_history (plain_call call.now)
-        (remember_of call.now.args.now) user.now hash.now token.now history)
+        IfOk result (λ code. Yields code (remember_in_history (plain_call asked.now.call.now)
+        (remember_of asked.now.call.now.args.now) user.now hash.now token.now history)
         (scene_of_parts transaction.old (conv_holds conv.old) (vault_holds vault.old) clock
-        (plain_process process.now))
+        (plain_process asked.now.process.now))
         (scene_of_parts transaction.new (conv_holds conv.new) (vault_holds vault.new) clock
-        (plain_process process.now))) }
+        (plain_process asked.now.process.now))) }
     ensures talks { OnlyTalks transaction.old transaction.new }
 {
     laws::acting();
@@ -247,14 +217,21 @@ fn remember_in_history(
         None => return Ok(Code::AuthtokErr),
     };
     let hashes = hashes_of(user, &history);
-    let refused = is_refused(alloc, call, process.caller, token, hash, hashes)?;
+    let refused = is_refused(
+        asked.alloc,
+        asked.call,
+        asked.process.caller,
+        token,
+        hash,
+        hashes,
+    )?;
     if refused {
         drop(held);
-        refuse_token(alloc, transaction, conv)?;
+        refuse_token(asked.alloc, transaction, conv)?;
         return Ok(Code::AuthtokErr);
     }
-    let text = renewed_text(alloc, remember_of(call), user, hash, &history)?;
-    let code = store_text(alloc, process, vault, text.bytes())?;
+    let text = renewed_text(asked.alloc, remember_of(asked.call), user, hash, &history)?;
+    let code = store_text(asked.alloc, asked.process, vault, text.bytes())?;
     Ok(code)
 }
 

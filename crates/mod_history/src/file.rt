@@ -2,10 +2,10 @@ ghost use Rattle.std.specs.Prelude.{◌≡◌, IsTrue, IfOk, OnErr};
 ghost use Rattle.account_files.specs.Act.{StepsTo};
 ghost use Rattle.mod_history.specs.Pwhistory.{history_in, stores_text};
 
-use crate::history::{History, read_history};
+use crate::history::{History, history_of};
 use account_files::{Content, replace_named};
 use mod_unix::write_result;
-use pam_base::{Code, NoMemory, Refuse};
+use pam_base::{Code, NoMemory};
 use pam_outside::Vault;
 use pam_room::Process;
 use std::alloc::Global;
@@ -23,11 +23,7 @@ pub(crate) fn history_in(alloc: Global, content: Content) -> Result<Option<Histo
     match content {
         Content::Absent => Ok(Some(History::new(alloc))),
         Content::Unreadable => Ok(None),
-        Content::Holds(text) => match read_history(alloc, text.bytes()) {
-            Ok(history) => Ok(Some(history)),
-            Err(Refuse::NoMemory) => Err(NoMemory),
-            Err(Refuse::Named(_)) => Ok(None),
-        },
+        Content::Holds(text) => history_of(alloc, text.bytes()),
     }
 }
 

@@ -24,15 +24,12 @@ pub type History = Sequence<Remembered>;
 pub fn read_history(alloc: Global, text: &[u8]) -> Result<History, Refuse<Damaged>>
     ensures { ReadsHistory result text.now }
 {
-    match history_of(alloc, text)? {
-        Some(history) => Ok(history),
-        None => Err(Refuse::Named(Damaged)),
-    }
+    history_of(alloc, text)?.ok_or(Refuse::Named(Damaged))
 }
 
-// The same; None if the text is damaged.
+/// The same; None if the text is damaged.
 #[tactic(auto, unfolding(crate::specs::History::history_of))]
-fn history_of(alloc: Global, text: &[u8]) -> Result<Option<History>, NoMemory>
+pub(crate) fn history_of(alloc: Global, text: &[u8]) -> Result<Option<History>, NoMemory>
     ensures { IfOk result (λ found. found ≡ history_of text.now) }
 {
     let mut lines = Lines::new(text);

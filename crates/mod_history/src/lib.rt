@@ -15,8 +15,8 @@ mod renewal;
 
 pub use history::{Damaged, History, Remembered, read_history};
 pub use mod_unix;
-use mod_unix::module_acts::CheckModule;
-pub use pam_pwhistory::Pwhistory;
+use mod_unix::module_acts::{CheckModule, WorkModule};
+use pam_pwhistory::PwhistoryWork;
 use pam_securetty::SecurettyCheck;
 use pam_wheel::WheelCheck;
 
@@ -27,3 +27,7 @@ pub type Securetty = CheckModule<SecurettyCheck>;
 /// `pam_wheel(8)`: PERM_DENIED unless the calling process belongs to a user in the group wheel, or
 /// with `deny` if it does. Otherwise IGNORE, or SUCCESS with `trust`.
 pub type Wheel = CheckModule<WheelCheck>;
+
+/// `pam_pwhistory(8)`: a new password that the user has or had is refused; otherwise the hash of
+/// the present one is remembered in `/etc/security/pamsess_history`.
+pub type Pwhistory = WorkModule<PwhistoryWork>;

@@ -1,68 +1,49 @@
-ghost use Rattle.std.specs.Prelude.{◌≡◌, IfOk, codes};
-ghost use Rattle.pam_room.specs.Module.{keeps_files, length_note};
+ghost use Rattle.std.specs.Prelude.{◌≡◌, codes};
 ghost use Rattle.pam_room.specs.Plain.{plain_call};
-ghost use Rattle.pam_room.specs.State.{Scene};
-ghost use Rattle.mod_unix.specs.module_acts.specs.Returns.{Returns, Follows};
-ghost use Rattle.mod_history.specs.Pwhistory.{at_once, pwhistory_plays};
+ghost use Rattle.account_files.specs.Act.{answers};
+ghost use Rattle.mod_history.specs.Pwhistory.{at_once, checks_token, pwhistory_plays};
 
 use crate::change::check_token;
 use conv_port::Conv;
-use data_cleanup::{Datum, Receipt};
-use mod_unix::module_acts::{ended, laws};
-use pam_base::{Code, Func, NoMemory, PRELIM_CHECK};
+use mod_unix::module_acts::{Asked, Work, laws};
+use pam_base::{Code, ConvErr, Func, PRELIM_CHECK, Refuse};
 use pam_outside::{Clock, Vault};
-use pam_room::{Call, Module, Process, Transaction, spend_by_length};
-use std::alloc::Global;
+use pam_room::{Call, Transaction};
 
-/// `pam_pwhistory(8)`: a new password that the user has or had is refused; otherwise the hash of
-/// the present one is remembered in `/etc/security/pamsess_history`.
-#[derive(Drop)]
-pub struct Pwhistory;
+/// The work of `Pwhistory`.
+pub struct PwhistoryWork;
 
-impl Pwhistory {
-    /// Creates the module, which has no state.
-    pub fn new() -> Self {
-        Pwhistory
-    }
-}
+impl Work for PwhistoryWork {
+    ghost label = { codes "pam_pwhistory" };
 
-impl Module for Pwhistory {
-    ghost label = { λ _. codes "pam_pwhistory" };
+    ghost plays = { pwhistory_plays };
 
-    ghost plays = { λ _. pwhistory_plays };
+    ghost at_once = { λ call. at_once call.func call.flags };
 
-    ghost note = { λ _. length_note };
+    ghost does = { λ call caller. checks_token call answers };
 
-    ghost breaks = { λ _. keeps_files };
-
-    fn name(&self) -> &[u8] {
+    fn name() -> &'static [u8] {
         b"pam_pwhistory"
     }
 
-    fn serve(
-        &self,
-        alloc: Global,
-        call: &Call,
-        transaction: &mut Transaction,
-        process: &mut Process,
-        conv: &mut dyn Conv,
-        vault: &mut dyn Vault,
-        _clock: &mut dyn Clock,
-    ) -> Result<Code, NoMemory> {
-        account_files::laws::act_steps();
-        laws::talking();
-        pam_room::laws::files_stay();
-        match at_once(call) {
-            Some(code) => Ok(code),
-            None => {
-                let answer = check_token(alloc, call, transaction, process, conv, vault);
-                ended(answer)
-            }
-        }
+    fn at_once(call: &Call) -> Option<Code> {
+        at_once(call)
     }
 
-    fn tidy(&self, datum: Datum, status: u32) -> Receipt {
-        spend_by_length(datum, status)
+    fn work(
+        asked: &Asked,
+        transaction: &mut Transaction,
+        conv: &mut dyn Conv,
+        vault: &mut dyn Vault,
+        _clock: &dyn Clock,
+    ) -> Result<Code, Refuse<ConvErr>> {
+        laws::talking();
+        laws::codes_finish();
+        check_token(asked, transaction, conv, vault)
+    }
+
+    fn plays_so() {
+        account_files::laws::act_steps();
     }
 }
 

@@ -6,15 +6,15 @@ use Rattle.mod_history.proofs.Changing.{no_token, not_remembered, remembered}
 use Rattle.mod_history.proofs.change.remember.Goals as goal
 
 pub returns-in-None-clause-told : goal.returns-in-None-clause-told
-returns-in-None-clause-told g c = λ talks tells clock. no_token (plain_call c.args.call.now) c.args.user.now c.args.hash.now c.args.token _ c.in-None.is
+returns-in-None-clause-told g c = λ talks tells clock. no_token (plain_call c.args.asked.now.call.now) c.args.user.now c.args.hash.now c.args.token _ c.in-None.is
 
 pub returns-then-remember_of-eq0-clause-told : goal.returns-then-remember_of-eq0-clause-told
 returns-then-remember_of-eq0-clause-told g c = λ talks tells clock.
-    let none : (remember_of c.args.call.now.args.now == 0) ≡ true = grind (arith, nat_tests) in
-    not_remembered (plain_call c.args.call.now) c.args.user.now c.args.hash.now c.args.token _ c.in-Some.token c.in-Some.is none
+    let none : (remember_of c.args.asked.now.call.now.args.now == 0) ≡ true = grind (arith, nat_tests) in
+    not_remembered (plain_call c.args.asked.now.call.now) c.args.user.now c.args.hash.now c.args.token _ c.in-Some.token c.in-Some.is none
 
 pub returns-clause-told : goal.returns-clause-told
 returns-clause-told g c = λ talks tells clock.
-    let some : (remember_of c.args.call.now.args.now == 0) ≡ false = grind (arith, nat_tests) in
-    rw (← c.in_ok-held.ensures.told tells) (remembered (plain_call c.args.call.now) c.args.user.now c.args.hash.now c.args.token _ c.in-Some.token c.in-Some.is c.in_ok-content.content c.in_ok-history.history c.in_ok-code.code _ _ some
+    let some : (remember_of c.args.asked.now.call.now.args.now == 0) ≡ false = grind (arith, nat_tests) in
+    rw (← c.in_ok-held.ensures.told tells) (remembered (plain_call c.args.asked.now.call.now) c.args.user.now c.args.hash.now c.args.token _ c.in-Some.token c.in-Some.is c.in_ok-content.content c.in_ok-history.history c.in_ok-code.code _ _ some
     (λ act. c.in_ok-content.ensures.told (c.in_ok-held.ensures.tells ∙ tells) _ clock act) c.in_ok-history.ensures (rw c.bytes.ensures at (c.in_ok-code.ensures.told talks (c.in_ok-content.ensures.tells ∙ c.in_ok-held.ensures.tells ∙ tells) clock)))

@@ -8,15 +8,15 @@ use Rattle.mod_history.proofs.change.remember_in_history.Goals as goal
 
 pub returns-in-None-clause-told : goal.returns-in-None-clause-told
 returns-in-None-clause-told g c = λ talks tells clock.
-    no_history c.acting.ensures.caller (plain_call c.args.call.now) (remember_of c.args.call.now.args.now) c.args.user.now c.args.hash.now c.args.token.now c.args.history _ c.in-None.is
+    no_history c.acting.ensures.caller (plain_call c.args.asked.now.call.now) (remember_of c.args.asked.now.call.now.args.now) c.args.user.now c.args.hash.now c.args.token.now c.args.history _ c.in-None.is
 
 pub returns-then-refused-clause-told : goal.returns-then-refused-clause-told
 returns-then-refused-clause-told g c = λ talks tells clock.
-    used c.acting.ensures.caller (plain_call c.args.call.now) (remember_of c.args.call.now.args.now) c.args.user.now c.args.hash.now c.args.token.now c.args.history _ c.in-Some.history c.in-Some.is _
+    used c.acting.ensures.caller (plain_call c.args.asked.now.call.now) (remember_of c.args.asked.now.call.now.args.now) c.args.user.now c.args.hash.now c.args.token.now c.args.history _ c.in-Some.history c.in-Some.is _
     (sym c.if-refused.true ∙ rw c.hashes_of-hashes.ensures at c.in_ok-refused.ensures) (c.in_ok-refuse_token.ensures.told talks _ clock _)
 
 pub returns-clause-told : goal.returns-clause-told
 returns-clause-told g c = λ talks tells clock.
     let stored = λ (room : PlainRoom) (ticks : ClockState). rw c.bytes.ensures at (c.in_ok-code.ensures.told tells room ticks) in
-    not_used c.acting.ensures.caller (plain_call c.args.call.now) (remember_of c.args.call.now.args.now) c.args.user.now c.args.hash.now c.args.token.now c.args.history _ c.in-Some.history c.in-Some.is
+    not_used c.acting.ensures.caller (plain_call c.args.asked.now.call.now) (remember_of c.args.asked.now.call.now.args.now) c.args.user.now c.args.hash.now c.args.token.now c.args.history _ c.in-Some.history c.in-Some.is
     c.in_ok-code.code c.in_ok-text.text _ (sym c.if-refused.false ∙ rw c.hashes_of-hashes.ensures at c.in_ok-refused.ensures) (rw c.remember_of.ensures at c.in_ok-text.ensures) (stored _ clock)
