@@ -84,7 +84,7 @@ module _ {State : Type 0} (step : LineStep State) where
   last-stays d n [] more ended k e q = absurd cc
   last-stays d n (x ∷ xs) more ended k e q = last_by d n x xs more ended k _ refl e q
 
-  -- what is refused among some bytes is refused, whatever stands after them, and with the same text before it
+  -- what is refused among some bytes is refused, whatever follows them, and with the same text before it
   pub run-stays : (n : ℕ) (c : State) (taken more : List ℕ) (ended : Bool) (k : ScriptKind) → (run_of step n c taken false).refused ≡ Some k
       → run_of step n c (taken ++ more) ended ≡ run_of step n c taken false
   unfolding run_of_items looked

@@ -206,7 +206,7 @@ module _ (texts : List ℕ → Option (List ℕ)) (seed lines : ℕ) (most : lin
       let r = all (record { calls = calls; openings = 0; lines = 0 }) (omega (arith, most)) in
       (r.0, r.1)
 
--- ---- the files that are stored where there is none
+-- ---- the files that are stored if there is no file yet
 
 module _ (seed lines : ℕ) (most : lines ≤ 4096) (calls : ℕ) where
   abbrev vault : VaultState

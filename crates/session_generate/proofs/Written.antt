@@ -1,4 +1,4 @@
--- Generated files that are stored where there is none load, and the result of the authentication is written.
+-- Generated files load if there was no file before, and the result of the authentication is written.
 use Rattle.std.proofs.Common.{◌≡◌, ℕ, ◌≤◌, List, [], ◌∷◌, codes, Option, Some, None, Result, Ok, refl, sym, ap, ◌∙◌, subst}
 use Rattle.pam_outside.specs.Files.{File, VaultState}
 use Rattle.drawn_files.specs.Files.{drawn_files}

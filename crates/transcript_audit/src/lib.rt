@@ -1,8 +1,8 @@
-//! The command `audit`: whether a transcript, read from a source, fits the stacks of a service.
+//! The command `audit`: whether the report of a run, read from a source, fits the stacks of a service.
 //!
 //! It uses nothing that runs a transaction: whoever audits a report doesn't trust the program that printed it.
 //!
-//! Begin at auditing.rt; transcript.rt reads the transcript, and finding.rt compares it with the stacks.
+//! Begin at auditing.rt; transcript.rt reads the report, and finding.rt compares it with the stacks.
 #![tactic(auto)]
 
 mod auditing;
