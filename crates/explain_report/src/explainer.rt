@@ -12,9 +12,9 @@ ghost use Rattle.explain_report.specs.Report.{Takes, block_text, called_text};
 
 use explain_calls::{write_call, write_refused};
 use explain_lines::Sources;
-use pam_base::{Code, Func, NoMemory};
+use pam_base::{CallName, Code, Func, NoMemory};
 use pass_replay::held::Held;
-use report_reader::{Form, ReportedAnswer, ReportedOutcome, Spoken, read_line};
+use report_reader::{Form, ReportedAnswer, ReportedOutcome, read_line};
 use service_load::Trees;
 use session_audit::{SlotLog, is_refused_change, judge_at};
 use stack_walk::Seen;
@@ -129,7 +129,7 @@ fn write_at(
 {
     match place {
         SlotLog::Open(held) => match outcome {
-            ReportedOutcome::Answered(Spoken::Run(func), ReportedAnswer::Code(code)) => {
+            ReportedOutcome::Answered(CallName::Run(func), ReportedAnswer::Code(code)) => {
                 write_called(alloc, trees, sources, text, held, number, func, code, told)
             }
             _ => Ok(()),

@@ -2,15 +2,14 @@
 use Rattle.std.specs.Prelude.{◌≡◌, IfOk, List, [], ◌∷◌, Option, Some, None, Result}
 use Rattle.std.specs.Option.{option_map}
 use Rattle.pam_base.specs.declared.code.Code.TheVariants as codes
-use Rattle.pam_base.specs.declared.call.Func.TheVariants as funcs
+use Rattle.pam_base.specs.declared.call.CallName.{CallName}
+use Rattle.pam_base.specs.declared.call.CallName.TheVariants as names
 use Rattle.pam_base.specs.declared.fault.FaultKind.TheVariants.{OpenBracket}
 use Rattle.pam_base.specs.declared.fault.NoMemory.{NoMemory}
 use Rattle.report_lines.specs.service_load.specs.FirstFault.{fault_at}
 use Rattle.stack_walk.specs.declared.seen.Seen.{Seen}
 use Rattle.stack_walk.specs.Seen.{seen_of}
 use Rattle.report_lines.specs.Line as lines
-use Rattle.report_reader.specs.declared.form.Spoken.{Spoken}
-use Rattle.report_reader.specs.declared.form.Spoken.TheVariants as spoken
 use Rattle.report_reader.specs.declared.form.ReportedAnswer.{ReportedAnswer}
 use Rattle.report_reader.specs.declared.form.ReportedAnswer.TheVariants as answers
 use Rattle.report_reader.specs.declared.form.ReportedOutcome.{ReportedOutcome}
@@ -19,24 +18,18 @@ use Rattle.report_reader.specs.declared.form.Form.{Form}
 use Rattle.report_reader.specs.declared.form.Form.TheVariants as forms
 use Rattle.report_reader.specs.Says.{Says, tells, results, lasts, bare}
 
-abbrev pub command_of : Spoken → lines.Command
-command_of spoken.Start = lines.starts
-command_of spoken.End = lines.ends
-command_of (spoken.Run func) = lines.runs func
-command_of spoken.SetItem = lines.sets_item
-command_of spoken.GetItem = lines.gets_item
-command_of spoken.PutEnv = lines.puts_env
-command_of spoken.GetEnv = lines.gets_env
-command_of spoken.EnvList = lines.lists_env
-command_of spoken.FailDelay = lines.asks_delay
-command_of spoken.DelayFn = lines.switches_delay
-command_of spoken.Reply = lines.replies
-
-abbrev pub all_spoken : List Spoken
-all_spoken = spoken.Start ∷ spoken.End ∷ spoken.Run funcs.Authenticate ∷ spoken.Run funcs.SetCred
-    ∷ spoken.Run funcs.AcctMgmt ∷ spoken.Run funcs.OpenSession ∷ spoken.Run funcs.CloseSession
-    ∷ spoken.Run funcs.ChAuthTok ∷ spoken.SetItem ∷ spoken.GetItem ∷ spoken.PutEnv ∷ spoken.GetEnv
-    ∷ spoken.EnvList ∷ spoken.FailDelay ∷ spoken.DelayFn ∷ spoken.Reply ∷ []
+abbrev pub command_of : CallName → lines.Command
+command_of names.Start = lines.starts
+command_of names.End = lines.ends
+command_of (names.Run func) = lines.runs func
+command_of names.SetItem = lines.sets_item
+command_of names.GetItem = lines.gets_item
+command_of names.PutEnv = lines.puts_env
+command_of names.GetEnv = lines.gets_env
+command_of names.EnvList = lines.lists_env
+command_of names.FailDelay = lines.asks_delay
+command_of names.DelayFn = lines.switches_delay
+command_of names.Reply = lines.replies
 
 abbrev pub shown_of : ReportedAnswer → lines.Shown
 shown_of (answers.Code code) = lines.shows_code code

@@ -19,14 +19,14 @@ abbrev pub guessed_message : List ℕ → Told
 guessed_message words = told_message (guessed_style (guessed_number (before_space words)))
     (unquoted (after_space words))
 
--- PLACE MODULE NAME NUMBER; the module's name may hold spaces, so what follows it is cut off from the end
+-- RULE MODULE NAME NUMBER; the module's name may hold spaces, so what follows it is cut off from the end
 abbrev pub guessed_seen : List ℕ → Seen
 guessed_seen words =
     let named = before_last (after_space words) in
     seen_at (guessed_number (before_space words)) (unquoted (before_last named))
     (guessed_code (last_word named))
 
--- ID STATUS NOTE MODULE DATUM; if a name has spaces, any of them may separate the two
+-- ID STATUS NOTE MODULE DATA; if a name has spaces, any of them may separate the two
 abbrev pub guessed_cleanup : List ℕ → Cleanup
 guessed_cleanup words =
     let behind_id = after_space words in

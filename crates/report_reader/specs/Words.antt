@@ -15,6 +15,7 @@ use Rattle.pam_base.specs.declared.fault.ScriptKind.{ScriptKind}
 use Rattle.pam_base.specs.declared.fault.ScriptKind.TheVariants as script_kinds
 use Rattle.pam_base.specs.declared.style.Style.{Style}
 use Rattle.pam_base.specs.declared.style.Style.TheVariants.{EchoOff, EchoOn, ErrorMsg, TextInfo}
+use Rattle.pam_base.specs.Call.{all_funcs}
 use Rattle.pam_base.specs.Code.{code_of_word}
 use Rattle.pam_base.specs.Fault.{fault_name, script_fault_name}
 use Rattle.pam_base.specs.Style.{style_number}
@@ -94,10 +95,6 @@ abbrev pub guessed_script_fault : List ℕ → ScriptKind
 guessed_script_fault word =
     unwrap_or (find (λ kind. bytes_eq (script_fault_name kind) word) all_script_faults)
     script_kinds.BadWord
-
-abbrev pub all_funcs : List Func
-all_funcs = funcs.Authenticate ∷ funcs.SetCred ∷ funcs.AcctMgmt ∷ funcs.OpenSession
-    ∷ funcs.CloseSession ∷ funcs.ChAuthTok ∷ []
 
 abbrev pub guessed_func : List ℕ → Func
 guessed_func word =

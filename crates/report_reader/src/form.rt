@@ -1,21 +1,5 @@
-use pam_base::{Code, Func};
+use pam_base::{CallName, Code, Func};
 use stack_walk::Seen;
-
-/// A command on a transaction.
-#[derive(Clone, Copy, Debug, PartialEq, Eq)]
-pub enum Spoken {
-    Start,
-    End,
-    Run(Func),
-    SetItem,
-    GetItem,
-    PutEnv,
-    GetEnv,
-    EnvList,
-    FailDelay,
-    DelayFn,
-    Reply,
-}
 
 /// The result of a command. What is only checked for its format is left out: why a start was
 /// refused, the value, the count.
@@ -34,7 +18,7 @@ pub enum ReportedAnswer {
 /// The result of a command, or of a transaction that the program ended.
 #[derive(Clone, Copy, Debug, PartialEq, Eq)]
 pub enum ReportedOutcome {
-    Answered(Spoken, ReportedAnswer),
+    Answered(CallName, ReportedAnswer),
     Closed,
 }
 

@@ -14,5 +14,5 @@ mod shown;
 mod told;
 mod words;
 
-pub use form::{Form, ReportedAnswer, ReportedOutcome, Spoken};
+pub use form::{Form, ReportedAnswer, ReportedOutcome};
 pub use line::read_line;

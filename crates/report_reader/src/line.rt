@@ -1,6 +1,6 @@
 ghost use Rattle.std.specs.Prelude.{◌≡◌};
 ghost use Rattle.report_reader.specs.Form.{Reads};
-ghost use Rattle.report_reader.specs.Guess.{guessed_result, guessed_told, read_line, read_numbered, told_or};
+ghost use Rattle.report_reader.specs.Guess.{read_line, read_numbered};
 
 use crate::form::Form;
 use crate::last::read_last;
@@ -29,6 +29,7 @@ pub fn read_line(alloc: Global, line: &[u8]) -> Result<Option<Form>, NoMemory>
     )
 }
 
+// Reads a line that begins with a number, by the word after it.
 fn read_numbered(
     alloc: Global,
     line: &[u8],
@@ -41,21 +42,7 @@ fn read_numbered(
     if number > u64::from(u32::MAX) {
         return Ok(None);
     }
-    read_words(alloc, line, number as u32, word, words)
-}
-
-// Reads a line of a transaction, by its word.
-fn read_words(
-    alloc: Global,
-    line: &[u8],
-    number: u32,
-    word: &[u8],
-    words: &[u8],
-) -> Result<Option<Form>, NoMemory>
-    ensures { Reads result
-        (told_or line.now number (guessed_told word.now words.now)
-        (guessed_result word.now words.now)) }
-{
+    let number = number as u32;
     match guess_told(alloc, word, words)? {
         Some(guess) => read_told(alloc, line, number, guess),
         None => read_result(alloc, line, number, word, words),

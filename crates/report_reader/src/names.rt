@@ -1,15 +1,12 @@
 ghost use Rattle.std.specs.Prelude.{◌≡◌};
-ghost use Rattle.std.specs.List.{find};
-ghost use Rattle.std.specs.Str.{bytes_eq};
-ghost use Rattle.pam_base.specs.Fault.{fault_name, script_fault_name};
-ghost use Rattle.script_lang.specs.Command.{word_of_func};
 ghost use Rattle.report_lines.specs.Line.{command_word};
-ghost use Rattle.report_reader.specs.Form.{all_spoken, command_of};
-ghost use Rattle.report_reader.specs.Words.{all_faults, all_funcs, all_script_faults, guessed_code, guessed_command, guessed_fault, guessed_func, guessed_script_fault, guessed_style};
+ghost use Rattle.report_reader.specs.Form.{command_of};
+ghost use Rattle.report_reader.specs.Words.{guessed_code, guessed_command, guessed_fault, guessed_func, guessed_script_fault, guessed_style};
 
-use crate::form::Spoken;
-use pam_base::{Code, FaultKind, Func, ScriptKind, Style, code_named};
-use script_lang::{Command, func_word};
+use pam_base::{
+    ALL_CALLS, ALL_FUNCS, CallName, Code, FaultKind, Func, ScriptKind, Style, Word, code_named,
+    find_word,
+};
 
 const ALL_STYLES: [Style; 4] = [
     Style::EchoOff,
@@ -44,34 +41,6 @@ const ALL_SCRIPT_FAULTS: [ScriptKind; 4] = [
     ScriptKind::TooManyLines,
 ];
 
-const ALL_FUNCS: [Func; 6] = [
-    Func::Authenticate,
-    Func::SetCred,
-    Func::AcctMgmt,
-    Func::OpenSession,
-    Func::CloseSession,
-    Func::ChAuthTok,
-];
-
-const ALL_SPOKEN: [Spoken; 16] = [
-    Spoken::Start,
-    Spoken::End,
-    Spoken::Run(Func::Authenticate),
-    Spoken::Run(Func::SetCred),
-    Spoken::Run(Func::AcctMgmt),
-    Spoken::Run(Func::OpenSession),
-    Spoken::Run(Func::CloseSession),
-    Spoken::Run(Func::ChAuthTok),
-    Spoken::SetItem,
-    Spoken::GetItem,
-    Spoken::PutEnv,
-    Spoken::GetEnv,
-    Spoken::EnvList,
-    Spoken::FailDelay,
-    Spoken::DelayFn,
-    Spoken::Reply,
-];
-
 /// The code that a word may name.
 pub fn code_in(word: &[u8]) -> Code
     ensures { result ≡ guessed_code word.now }
@@ -94,103 +63,33 @@ pub fn style_in(number: u64) -> Style
 pub fn fault_in(word: &[u8]) -> FaultKind
     ensures { result ≡ guessed_fault word.now }
 {
-    fault_named(word).unwrap_or(FaultKind::ReadFailed)
-}
-
-fn fault_named(word: &[u8]) -> Option<FaultKind>
-    ensures { result ≡ find (λ kind. bytes_eq (fault_name kind) word.now) all_faults }
-{
-    ALL_FAULTS
-        .iter()
-        .copied()
-        .find(|kind| is_fault(*kind, word))
-}
-
-fn is_fault(kind: FaultKind, word: &[u8]) -> bool
-    ensures { result ≡ bytes_eq (fault_name kind) word.now }
-{
-    kind.name().as_bytes() == word
+    find_word(&ALL_FAULTS, word).unwrap_or(FaultKind::ReadFailed)
 }
 
 /// The fault of a script that a word may name.
 pub fn script_fault_in(word: &[u8]) -> ScriptKind
     ensures { result ≡ guessed_script_fault word.now }
 {
-    script_fault_named(word).unwrap_or(ScriptKind::BadWord)
-}
-
-fn script_fault_named(word: &[u8]) -> Option<ScriptKind>
-    ensures { result ≡ find (λ kind. bytes_eq (script_fault_name kind) word.now) all_script_faults }
-{
-    ALL_SCRIPT_FAULTS
-        .iter()
-        .copied()
-        .find(|kind| is_script_fault(*kind, word))
-}
-
-fn is_script_fault(kind: ScriptKind, word: &[u8]) -> bool
-    ensures { result ≡ bytes_eq (script_fault_name kind) word.now }
-{
-    kind.name().as_bytes() == word
+    find_word(&ALL_SCRIPT_FAULTS, word).unwrap_or(ScriptKind::BadWord)
 }
 
 /// The function of the modules that a word may name.
 pub fn func_in(word: &[u8]) -> Func
     ensures { result ≡ guessed_func word.now }
 {
-    func_named(word).unwrap_or(Func::Authenticate)
-}
-
-fn func_named(word: &[u8]) -> Option<Func>
-    ensures { result ≡ find (λ kind. bytes_eq (word_of_func kind) word.now) all_funcs }
-{
-    ALL_FUNCS.iter().copied().find(|func| is_func(*func, word))
-}
-
-fn is_func(func: Func, word: &[u8]) -> bool
-    ensures { result ≡ bytes_eq (word_of_func func) word.now }
-{
-    func_word(func).as_bytes() == word
+    find_word(&ALL_FUNCS, word).unwrap_or(Func::Authenticate)
 }
 
 /// The command that a word may name.
-pub fn command_in(word: &[u8]) -> Spoken
+pub fn command_in(word: &[u8]) -> CallName
     ensures { command_of result ≡ guessed_command word.now }
 {
-    spoken_named(word).unwrap_or(Spoken::Start)
-}
-
-fn spoken_named(word: &[u8]) -> Option<Spoken>
-    ensures { result ≡ find (λ command. bytes_eq (command_word (command_of command)) word.now)
-        all_spoken }
-{
-    ALL_SPOKEN
-        .iter()
-        .copied()
-        .find(|command| is_spoken(*command, word))
-}
-
-fn is_spoken(command: Spoken, word: &[u8]) -> bool
-    ensures { result ≡ bytes_eq (command_word (command_of command)) word.now }
-{
-    command_word(command).as_bytes() == word
+    find_word(&ALL_CALLS, word).unwrap_or(CallName::Start)
 }
 
 /// The word of a command.
-pub fn command_word(command: Spoken) -> &'static str
+pub fn command_word(command: CallName) -> &'static str
     ensures { result.now ≡ command_word (command_of command) }
 {
-    match command {
-        Spoken::Start => Command::Start.word(),
-        Spoken::End => Command::End.word(),
-        Spoken::Run(func) => func_word(func),
-        Spoken::SetItem => Command::SetItem.word(),
-        Spoken::GetItem => Command::GetItem.word(),
-        Spoken::PutEnv => Command::PutEnv.word(),
-        Spoken::GetEnv => Command::GetEnv.word(),
-        Spoken::EnvList => Command::EnvList.word(),
-        Spoken::FailDelay => Command::FailDelay.word(),
-        Spoken::DelayFn => Command::DelayFn.word(),
-        Spoken::Reply => Command::Reply.word(),
-    }
+    command.word()
 }

@@ -5,19 +5,19 @@ ghost use Rattle.report_reader.specs.Guess.{guessed_result, if_printed};
 ghost use Rattle.report_reader.specs.Guesses.{result_in};
 ghost use Rattle.report_reader.specs.Says.{bare_result, results};
 
-use crate::form::{Form, ReportedOutcome, Spoken};
+use crate::form::{Form, ReportedOutcome};
 use crate::names::{code_in, command_in, command_word};
 use crate::printed::if_printed;
 use crate::shown::{ShownGuess, guess_shown};
 use crate::words::before_space;
-use pam_base::{Code, NoMemory};
+use pam_base::{CallName, Code, NoMemory};
 use report_lines::write_code_result;
 use std::alloc::Global;
 
 /// What the line of a result may say.
 #[derive(Debug, Drop)]
 pub enum ResultGuess {
-    Answered(Spoken, ShownGuess),
+    Answered(CallName, ShownGuess),
     /// The program ended the transaction.
     Closed(Code),
 }

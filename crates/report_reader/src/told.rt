@@ -73,7 +73,7 @@ fn guess_message(alloc: Global, words: &[u8]) -> Result<Option<ToldGuess>, NoMem
     }))
 }
 
-// A rule that was run: `PLACE MODULE NAME NUMBER`.
+// A rule that was run: `RULE MODULE NAME NUMBER`.
 fn guess_visit(alloc: Global, words: &[u8]) -> Result<Option<ToldGuess>, NoMemory>
     ensures { IsToldGuess result (Some (told_visit (guessed_seen words.now))) }
 {
@@ -85,7 +85,7 @@ fn guess_visit(alloc: Global, words: &[u8]) -> Result<Option<ToldGuess>, NoMemor
     })))
 }
 
-// Module data that was cleaned up: `ID STATUS NOTE MODULE DATUM`.
+// Module data that was cleaned up: `ID STATUS NOTE MODULE DATA`.
 fn guess_cleanup(alloc: Global, words: &[u8]) -> Result<Option<ToldGuess>, NoMemory>
     ensures { IsToldGuess result (Some (told_cleanup (guessed_cleanup words.now))) }
 {

@@ -12,9 +12,9 @@ ghost use Rattle.session_audit.specs.Differs.{lines_before};
 ghost use Rattle.session_audit.specs.Fits.{is_refused_change, running, same_code, visits_told, without_visits};
 
 use crate::place::{SlotLog, behind_quiet};
-use pam_base::{Code, Func, NoMemory};
+use pam_base::{CallName, Code, Func, NoMemory};
 use pass_replay::{Held, Retold, first_visit, retell};
-use report_reader::{ReportedAnswer, ReportedOutcome, Spoken};
+use report_reader::{ReportedAnswer, ReportedOutcome};
 use service_load::Trees;
 use stack_walk::Seen;
 use std::alloc::Global;
@@ -60,10 +60,9 @@ fn stack_call(outcome: ReportedOutcome) -> Option<StackCall>
     ensures { IsCall result (result_of outcome) }
 {
     match outcome {
-        ReportedOutcome::Answered(Spoken::Run(func), ReportedAnswer::Code(code)) => Some(StackCall {
-            func,
-            code,
-        }),
+        ReportedOutcome::Answered(CallName::Run(func), ReportedAnswer::Code(code)) => Some(
+            StackCall { func, code },
+        ),
         _ => None,
     }
 }

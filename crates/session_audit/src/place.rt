@@ -6,9 +6,9 @@ ghost use Rattle.report_reader.specs.Form.{command_of, result_of, shown_of};
 ghost use Rattle.session_audit.specs.Checked.{at_quiet, behind_quiet, place_of};
 ghost use Rattle.session_audit.specs.Fits.{aborted_by, at_running, at_shut, only_if, running, same_code};
 
-use pam_base::{Code, Func};
+use pam_base::{CallName, Code, Func};
 use pass_replay::Held;
-use report_reader::{ReportedAnswer, ReportedOutcome, Spoken};
+use report_reader::{ReportedAnswer, ReportedOutcome};
 
 /// What is known of a transaction.
 #[derive(Debug, Drop)]
@@ -34,16 +34,16 @@ pub fn behind_quiet(place: SlotLog, outcome: ReportedOutcome) -> Option<SlotLog>
     }
 }
 
-fn at_closed(command: Spoken, answer: ReportedAnswer) -> Option<SlotLog>
+fn at_closed(command: CallName, answer: ReportedAnswer) -> Option<SlotLog>
     ensures { option_map place_of result ≡ at_shut (command_of command) (shown_of answer) }
 {
     match command {
-        Spoken::Start => match answer {
+        CallName::Start => match answer {
             ReportedAnswer::Code(Code::Success) => Some(SlotLog::Open(Held::nothing())),
             ReportedAnswer::Fault => Some(SlotLog::Closed),
             _ => None,
         },
-        Spoken::Reply => None,
+        CallName::Reply => None,
         _ => {
             if answer == ReportedAnswer::NotOpen {
                 Some(SlotLog::Closed)
@@ -54,22 +54,25 @@ fn at_closed(command: Spoken, answer: ReportedAnswer) -> Option<SlotLog>
     }
 }
 
-fn at_open(held: Held, command: Spoken, answer: ReportedAnswer) -> Option<SlotLog>
+fn at_open(held: Held, command: CallName, answer: ReportedAnswer) -> Option<SlotLog>
     ensures { option_map place_of result
         ≡ at_quiet (held_of held) (command_of command) (shown_of answer) }
 {
     match answer {
         ReportedAnswer::Code(code) => after_code(held, command, code),
         ReportedAnswer::Pending(other) => match command {
-            Spoken::Run(func) => {
+            CallName::Run(func) => {
                 let aborted = is_aborted(&held, func, other);
                 open_if(aborted, held)
             }
             _ => None,
         },
-        ReportedAnswer::Value => open_if(matches!(command, Spoken::GetItem | Spoken::GetEnv), held),
-        ReportedAnswer::Count => open_if(command == Spoken::EnvList, held),
-        ReportedAnswer::AlreadyOpen => open_if(command == Spoken::Start, held),
+        ReportedAnswer::Value => open_if(
+            matches!(command, CallName::GetItem | CallName::GetEnv),
+            held,
+        ),
+        ReportedAnswer::Count => open_if(command == CallName::EnvList, held),
+        ReportedAnswer::AlreadyOpen => open_if(command == CallName::Start, held),
         ReportedAnswer::Fault | ReportedAnswer::NotOpen | ReportedAnswer::BadNumber => None,
     }
 }
@@ -95,21 +98,21 @@ fn is_aborted(held: &Held, func: Func, other: Func) -> bool
 }
 
 // What is known after a code of a call that runs no stack.
-fn after_code(held: Held, command: Spoken, code: Code) -> Option<SlotLog>
+fn after_code(held: Held, command: CallName, code: Code) -> Option<SlotLog>
     ensures { option_map place_of result
         ≡ at_running (held_of held) (command_of command) (shows_code code) }
 {
     match command {
-        Spoken::End => {
+        CallName::End => {
             if code == Code::Success {
                 Some(SlotLog::Closed)
             } else {
                 None
             }
         }
-        Spoken::SetItem | Spoken::PutEnv => open_if(is_success_or_bad_item(code), held),
-        Spoken::GetItem => open_if(code == Code::BadItem, held),
-        Spoken::FailDelay | Spoken::DelayFn => open_if(code == Code::Success, held),
+        CallName::SetItem | CallName::PutEnv => open_if(is_success_or_bad_item(code), held),
+        CallName::GetItem => open_if(code == Code::BadItem, held),
+        CallName::FailDelay | CallName::DelayFn => open_if(code == Code::Success, held),
         _ => None,
     }
 }
