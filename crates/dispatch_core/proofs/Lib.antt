@@ -9,6 +9,7 @@ pub mod Progress
 pub mod Ending
 pub mod Pathing
 pub mod Lining
+pub mod Asking
 pub mod Sounding
 pub mod Telling
 pub mod Tracing

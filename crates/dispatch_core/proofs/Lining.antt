@@ -91,14 +91,6 @@ module _ {M : Type 0} (label : M → List ℕ) (plays : M → Plays) (note : M �
       subst (λ (a : List (List ℕ)). room.AnswersAs (serve_line players (module_of (names_of players) (rule_at stack i)) (i + 1) (rule_at stack i).path (record { func = func; flags = flags; args = a }) s) code later) given third in
       record { answer_is = fourth.answer_is; state_is = fourth.state_is }
 
-  -- whatever it returned
-  pub line_asked : {E : Type 0} (result : Result Code E) (names : List (List ℕ)) (number : Option ℕ) (place : ℕ) (path : List ℕ) (args : List (List ℕ)) (s later : State)
-      → i < lines_in stack → names ≡ map label mods → number ≡ module_at stack names i → place ≡ i + 1 → path ≡ (rule_at stack i).path → args ≡ (rule_at stack i).args
-      → IfOk result (λ code. room.AnswersAs (serve_line (map (player_of label plays note breaks) mods) number place path (record { func = func; flags = flags; args = args }) s) code later)
-      → IfOk result (λ code. AnswersAs (answers_by (map (player_of label plays note breaks) mods) func flags (rule_at stack i) (i + 1) s) code later)
-  line_asked (Ok code) names number place path args s later within is found at its given answers = line_answered names number place path args s later code within is found at its given answers
-  line_asked (Err e) names number place path args s later within is found at its given answers = tt
-
   -- what a line's module left when an allocation failed is what the module of the line may leave
   pub line_broken : {E : Type 0} (result : Result Code E) (names : List (List ℕ)) (number : Option ℕ) (args : List (List ℕ)) (s later : State)
       → i < lines_in stack → names ≡ map label mods → number ≡ module_at stack names i → args ≡ (rule_at stack i).args

@@ -12,7 +12,7 @@ ghost use Rattle.dispatch_core.specs.Index.{GoesOn, Stands};
 ghost use Rattle.dispatch_core.specs.Paths.{HasPaths};
 ghost use Rattle.dispatch_core.specs.Passes.{by_place};
 
-use crate::line::ask_line;
+use crate::line::take_line;
 use crate::pass_memory::PassMemory;
 use crate::request::PassRequest;
 use crate::walker::Walker;
@@ -20,13 +20,14 @@ use frozen_chain::Kept;
 use handler_chain::Chain;
 use pam_base::{Code, NoMemory};
 use pam_room::data_cleanup::laws;
-use pam_room::{Both, Module, Room, RoomTold, Told, World, WorldTold};
+use pam_room::{Both, Call, Module, Room, RoomTold, Told, World, WorldTold, serve_line};
 use stack_walk::PassKind;
 use std::alloc::Global;
 
 /// Whether a code leaves the pass incomplete.
 pub fn puts_off(answer: Code) -> bool
-    ensures { result ≡ is_incomplete answer }
+    ensures incomplete { result ≡ is_incomplete answer }
+    ensures is { result ≡ true → answer ≡ Code.Incomplete }
 {
     answer == Code::Incomplete
 }
@@ -42,8 +43,9 @@ pub fn decide(kind: PassKind, kept: &Kept, i: usize, answer: Code) -> Code
     }
 }
 
-/// The next code of an earlier call, or if none is left that of line i, which is run. None if it
-/// leaves the pass incomplete.
+/// The next code of an earlier call, or if none is left that of line i, which is run: the module
+/// that its path names serves the call. None if it leaves the pass incomplete. Only the module may
+/// allocate.
 pub fn next_answer(
     alloc: Global,
     chain: &Chain,
@@ -79,16 +81,13 @@ pub fn next_answer(
     if let Some(answer) = memory.answers.next() {
         return Ok(Some(answer));
     }
-    let answer = ask_line(
-        alloc,
-        chain,
-        mods,
-        request,
-        i,
-        &mut memory.paths,
-        room,
-        world,
-    )?;
+    let line = take_line(chain, i, &mut memory.paths);
+    let call = Call {
+        func: request.func,
+        flags: request.flags,
+        args: chain.args(i),
+    };
+    let answer = serve_line(alloc, mods, line, &call, room, world)?;
     if puts_off(answer) {
         return Ok(None);
     }

@@ -15,7 +15,7 @@ walk-ended-requires-clause-cells g c = λ there.
 pub returns-clause-done : goal.returns-clause-done
 returns-clause-done g c =
     let held : c.args.request.kind ≡ Keep → is_some c.walk-ended.new.keeps ≡ true = λ keep.
-        c.walk-ended.ensures.held ∙ ap is_some c.in-Ok.ensures.cells ∙ first_cells-held c.args.request.kind (lines_in c.args.chain.now.nodes) keep in
+    c.walk-ended.ensures.held ∙ ap is_some c.in-Ok.ensures.cells ∙ first_cells-held c.args.request.kind (lines_in c.args.chain.now.nodes) keep in
     record {
       told = λ told.
           pass_leaves c.args.request.kind c.walk-ended.new.keeps c.args.kept.now c.end_pass.new.kept c.walk-ended.new.memory.answers c.end_pass.new.paused held _ _ c.walk-ended.result c.end_pass.result
