@@ -12,7 +12,6 @@ use account_files::Accounts;
 use module_acts::{Seen, user_of};
 use pam_base::NoMemory;
 use pam_outside::Vault;
-use std::alloc::Global;
 
 /// Whether a list applies to the user, as far as that can be read.
 #[derive(Clone, Copy, Debug)]
@@ -49,7 +48,7 @@ pub(crate) fn list_applies(
                 Some(_) => {}
             }
             accounts.read_groups(seen.alloc, vault, seen.process)?;
-            let applies = by_groups(seen.alloc, name, user, accounts)?;
+            let applies = by_groups(seen, name, accounts)?;
             Ok(applies)
         }
     }
@@ -68,18 +67,15 @@ fn yes_or_no(holds: bool) -> Applies
 }
 
 // Whether the user is in the group, by files that have been read.
-fn by_groups(
-    alloc: Global,
-    name: &[u8],
-    user: &[u8],
-    accounts: &Accounts,
-) -> Result<Applies, NoMemory>
+fn by_groups(seen: &Seen, name: &[u8], accounts: &Accounts) -> Result<Applies, NoMemory>
+    requires user { seen.now.transaction.now.items.user ≢ None }
     requires passwds { accounts.now.passwds ≢ None }
     requires groups { accounts.now.groups ≢ None }
-    ensures { IfOk result (λ applies. applies ≡ by_groups name.now user.now
-        (entry_known user.now (known_passwds accounts.now)) (known_groups accounts.now)) }
+    ensures { IfOk result (λ applies. applies ≡ by_groups name.now (user_seen seen.now)
+        (entry_known (user_seen seen.now) (known_passwds accounts.now)) (known_groups accounts.now)) }
 {
-    let entry = accounts.entry(alloc, user)?;
+    let user = user_of(seen.transaction);
+    let entry = accounts.entry(seen.alloc, user)?;
     match accounts.groups() {
         Some(groups) => Ok(yes_or_no(is_in_group(name, user, entry.as_ref(), groups))),
         None => Ok(Applies::Unknown),

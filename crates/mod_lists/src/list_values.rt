@@ -1,9 +1,13 @@
-ghost use Rattle.std.specs.Prelude.{◌≡◌, ◌≢◌, [], ◌∷◌, None, IsTrue, IfOk};
+ghost use Rattle.std.specs.Prelude.{◌≡◌, ◌≢◌, [], ◌∷◌, None, false, IsTrue, IfOk};
 ghost use Rattle.std.specs.Option.{option_copied};
+ghost use Rattle.item_store.specs.Access.{is_refused};
+ghost use Rattle.item_store.specs.Items.{text_of};
+ghost use Rattle.item_store.specs.declared.access.Access.TheVariants.{ModuleGets};
 ghost use Rattle.conv_port.specs.Conv.{ConvState};
+ghost use Rattle.pam_outside.specs.Files.{VaultState};
 ghost use Rattle.pam_outside.specs.Time.{ClockState};
-ghost use Rattle.account_files.specs.Accounts.{account_in, known_groups, known_passwds};
-ghost use Rattle.account_files.specs.Act.{LooksTo};
+ghost use Rattle.account_files.specs.Accounts.{Known, account_in, known_groups, known_passwds};
+ghost use Rattle.account_files.specs.Act.{LooksTo, sees_items};
 ghost use Rattle.account_files.specs.Found.{plain_account};
 ghost use Rattle.account_files.specs.YieldsWith.{YieldsWith};
 ghost use Rattle.module_acts.specs.Seen.{scene_seen, user_seen};
@@ -46,24 +50,11 @@ pub(crate) fn values_of(
         accounts.new (scene_seen seen.now conv (vault_holds vault.new) clock)) }
 {
     laws::act_steps();
-    let texts = &seen.transaction.items;
     match item {
-        ListItem::Tty => {
-            let tty = text_values(seen.alloc, item, get_item(texts, ItemName::Tty))?;
-            Ok(tty)
-        }
-        ListItem::User => {
-            let user = text_values(seen.alloc, item, get_item(texts, ItemName::User))?;
-            Ok(user)
-        }
-        ListItem::Rhost => {
-            let rhost = text_values(seen.alloc, item, get_item(texts, ItemName::Rhost))?;
-            Ok(rhost)
-        }
-        ListItem::Ruser => {
-            let ruser = text_values(seen.alloc, item, get_item(texts, ItemName::Ruser))?;
-            Ok(ruser)
-        }
+        ListItem::Tty => item_values(seen, item, ItemName::Tty),
+        ListItem::User => item_values(seen, item, ItemName::User),
+        ListItem::Rhost => item_values(seen, item, ItemName::Rhost),
+        ListItem::Ruser => item_values(seen, item, ItemName::Ruser),
         ListItem::Shell => {
             let account = account_of(seen, accounts, vault)?;
             let shell = shell_values(seen.alloc, account)?;
@@ -76,7 +67,20 @@ pub(crate) fn values_of(
     }
 }
 
-// The value of an item, if it has one.
+// The value of this item of the transaction, if it has one.
+fn item_values(seen: &Seen, item: ListItem, name: ItemName) -> Result<Values, NoMemory>
+    requires { is_refused ModuleGets name ≡ false }
+    ensures told { (conv : ConvState) (vault : VaultState) (clock : ClockState) (known : Known) →
+        IfOk result (λ values. YieldsWith values
+        (λ act. sees_items (λ texts. act (text_values item (text_of texts name)))) known
+        (scene_seen seen.now conv vault clock) known (scene_seen seen.now conv vault clock)) }
+{
+    laws::act_steps();
+    let values = text_values(seen.alloc, item, get_item(&seen.transaction.items, name))?;
+    Ok(values)
+}
+
+// The value of an item, by its text.
 fn text_values(alloc: Global, item: ListItem, text: Option<&[u8]>) -> Result<Values, NoMemory>
     ensures { IfOk result (λ values. values ≡ text_values item (option_copied text.entry)) }
 {

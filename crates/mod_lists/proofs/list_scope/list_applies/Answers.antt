@@ -16,7 +16,7 @@ pub returns-in_ok-applies-in-Members-clause-told : goal.returns-in_ok-applies-in
 returns-in_ok-applies-in-Members-clause-told g c = λ tells room clock act code end rest.
     let passwds = c.in_ok-read_passwds-in-Members.ensures in
     let groups = c.in_ok-read_groups-in-Members.ensures in
-    let found = rw c.user_of-user.ensures at c.in_ok-applies-in-Members.ensures in
+    let found = c.in_ok-applies-in-Members.ensures in
     let value = groups_by_entries c.in-Members.name.now _ c.read_passwds.new.self c.read_groups.new.self c.in-Some.field-0.now _ _ groups.passwds c.in-Some.ensures found in
     rw c.in-Members.is (passwds.told tells _ clock _ _ _
     (rw (← c.in-Some.ensures) (groups.told (passwds.tells ∙ tells) _ clock _ _ _ (rw value at rest))))

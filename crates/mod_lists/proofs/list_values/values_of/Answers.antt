@@ -3,21 +3,17 @@ use Rattle.pam_room.specs.State.{room_of}
 use Rattle.mod_lists.specs.Listfile.{shell_values}
 use Rattle.mod_lists.proofs.list_values.values_of.Goals as goal
 
-pub returns-in_ok-tty-in-Tty-clause-told : goal.returns-in_ok-tty-in-Tty-clause-told
-returns-in_ok-tty-in-Tty-clause-told g c = λ tells conv clock act code end rest.
-    rw c.in-Tty.is (c.act_steps.ensures.seeing _ _ _ _ _ (rw (c.in_ok-tty-in-Tty.ensures, c.get_item.ensures, c.in-Tty.is) at rest))
+pub returns-in-Tty-clause-told : goal.returns-in-Tty-clause-told
+returns-in-Tty-clause-told g c = λ tells conv clock. rw c.in-Tty.is ((rw c.in-Tty.is at c.item_values.ensures.told) conv _ clock _)
 
-pub returns-in_ok-user-in-User-clause-told : goal.returns-in_ok-user-in-User-clause-told
-returns-in_ok-user-in-User-clause-told g c = λ tells conv clock act code end rest.
-    rw c.in-User.is (c.act_steps.ensures.seeing _ _ _ _ _ (rw (c.in_ok-user-in-User.ensures, c.get_item-in-User.ensures, c.in-User.is) at rest))
+pub returns-in-User-clause-told : goal.returns-in-User-clause-told
+returns-in-User-clause-told g c = λ tells conv clock. rw c.in-User.is ((rw c.in-User.is at c.item_values-in-User.ensures.told) conv _ clock _)
 
-pub returns-in_ok-rhost-in-Rhost-clause-told : goal.returns-in_ok-rhost-in-Rhost-clause-told
-returns-in_ok-rhost-in-Rhost-clause-told g c = λ tells conv clock act code end rest.
-    rw c.in-Rhost.is (c.act_steps.ensures.seeing _ _ _ _ _ (rw (c.in_ok-rhost-in-Rhost.ensures, c.get_item-in-Rhost.ensures, c.in-Rhost.is) at rest))
+pub returns-in-Rhost-clause-told : goal.returns-in-Rhost-clause-told
+returns-in-Rhost-clause-told g c = λ tells conv clock. rw c.in-Rhost.is ((rw c.in-Rhost.is at c.item_values-in-Rhost.ensures.told) conv _ clock _)
 
-pub returns-in_ok-ruser-in-Ruser-clause-told : goal.returns-in_ok-ruser-in-Ruser-clause-told
-returns-in_ok-ruser-in-Ruser-clause-told g c = λ tells conv clock act code end rest.
-    rw c.in-Ruser.is (c.act_steps.ensures.seeing _ _ _ _ _ (rw (c.in_ok-ruser-in-Ruser.ensures, c.get_item-in-Ruser.ensures, c.in-Ruser.is) at rest))
+pub returns-in-Ruser-clause-told : goal.returns-in-Ruser-clause-told
+returns-in-Ruser-clause-told g c = λ tells conv clock. rw c.in-Ruser.is ((rw c.in-Ruser.is at c.item_values-in-Ruser.ensures.told) conv _ clock _)
 
 pub returns-in_ok-shell-in-Shell-clause-told : goal.returns-in_ok-shell-in-Shell-clause-told
 returns-in_ok-shell-in-Shell-clause-told g c = λ tells conv clock act code end rest.
