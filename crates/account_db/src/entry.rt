@@ -1,14 +1,15 @@
 ghost use Rattle.std.specs.Prelude.{◌≡◌, ◌≤◌, ℕ, List, Option, Some, IfOk, is_some, length};
-ghost use Rattle.account_db.specs.Entries.{Checks, entry_if_named, entry_named, is_faulty, is_line_of, is_passed_over, kept};
+ghost use Rattle.account_db.specs.Entries.{Checks, entries_of, entry_if_named, entry_named, first_named, is_faulty, is_line_of, is_passed_over, kept};
 ghost use Rattle.account_db.specs.Parts.{field};
 
 use crate::fault::DbFault;
 use crate::parts::name_in;
-use pam_base::{Lines, NoMemory, Sequence};
+use pam_base::{Lines, NoMemory, Sequence, Text};
 use std::alloc::Global;
+use std::marker::{Model, PhantomData};
 
 /// An entry of an account file, on a line of its own.
-pub(crate) trait AccountEntry: Drop {
+pub trait AccountEntry: Drop {
     /// The entry of a line that has the form of one.
     ghost form: { List ℕ → Option Self };
 
@@ -26,6 +27,57 @@ pub(crate) trait AccountEntry: Drop {
     // The name is the first field of the line.
     ghost named: { (line : List ℕ) (entry : Self) → form line ≡ Some entry →
         name entry ≡ field 0 line };
+}
+
+/// The entries of the file, in order. They are stored as its text, and an entry is read when it is looked up.
+#[derive(Drop)]
+pub struct EntryFile<E: AccountEntry> {
+    text: Text,
+    form: PhantomData<E>,
+}
+
+impl<E: AccountEntry> Model for EntryFile<E> {
+    ghost use Rattle.std.specs.Prelude.{List};
+    ghost use Rattle.account_db.specs.Entries.{kept};
+
+    ghost Value = { List E };
+
+    ghost view = { λ f. kept E.AccountEntry.form f.text };
+}
+
+impl<E: AccountEntry> EntryFile<E> {
+    /// The text of the file.
+    pub(crate) fn text(&self) -> &[u8]
+        ensures { kept E.form result.now ≡ self.now }
+    {
+        self.text.bytes()
+    }
+}
+
+/// The entries of a file with this text, or the first line that doesn't have the form of one. The text has at most
+/// 1,048,576 bytes. Allocates nothing.
+pub(crate) fn file_of<E: AccountEntry>(text: Text) -> Result<EntryFile<E>, DbFault>
+    requires { length text ≤ 1048576 }
+    ensures { result ≡ entries_of E.form text }
+{
+    match check_lines::<E>(text.bytes()) {
+        Ok(()) => Ok(EntryFile {
+            text,
+            form: PhantomData,
+        }),
+        Err(fault) => Err(fault),
+    }
+}
+
+/// A user's entry: the first with that name.
+pub fn entry_of<E: AccountEntry>(
+    alloc: Global,
+    user: &[u8],
+    entries: &EntryFile<E>,
+) -> Result<Option<E>, NoMemory>
+    ensures { IfOk result (λ entry. entry ≡ first_named E.name user.now entries.now) }
+{
+    entry_named(alloc, user, entries.text())
 }
 
 /// Whether each line of a text that isn't skipped has the form; else the first that doesn't.

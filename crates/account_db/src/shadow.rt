@@ -1,13 +1,12 @@
-ghost use Rattle.std.specs.Prelude.{◌≡◌, ◌≤◌, length, IfOk};
-ghost use Rattle.account_db.specs.Shadow.{are_days, is_days, shadow_in, shadow_named, shadow_of, shadows_of};
+ghost use Rattle.std.specs.Prelude.{◌≡◌, ◌≤◌, length};
+ghost use Rattle.account_db.specs.Shadow.{are_days, is_days, shadow_in, shadow_named, shadows_of};
 ghost use Rattle.account_db.specs.Parts.{fields_of};
 
-use crate::entry::{AccountEntry, check_lines, entry_named};
+use crate::entry::{AccountEntry, EntryFile, file_of};
 use crate::fault::DbFault;
 use crate::parts::{field, has_fields};
 use pam_base::{NoMemory, Text, are_digits, number_in};
 use std::alloc::Global;
-use std::marker::Model;
 
 /// An entry of `shadow(5)`. The numbers are days; an empty field has none.
 #[derive(Debug, Drop)]
@@ -21,23 +20,6 @@ pub struct Shadow {
     pub inactive: Option<u32>,
     pub expire: Option<u32>,
     pub reserved: Text,
-}
-
-/// The entries of the file, in order. They are stored as its text, and an entry is read when it is looked up.
-#[derive(Debug, Drop)]
-pub struct ShadowFile {
-    text: Text,
-}
-
-impl Model for ShadowFile {
-    ghost use Rattle.std.specs.Prelude.{List};
-    ghost use Rattle.account_db.specs.declared.shadow.Shadow.{Shadow};
-    ghost use Rattle.account_db.specs.Entries.{kept};
-    ghost use Rattle.account_db.specs.Shadow.{shadow_in};
-
-    ghost Value = { List Shadow };
-
-    ghost view = { λ s. kept shadow_in s.text };
 }
 
 impl AccountEntry for Shadow {
@@ -90,23 +72,9 @@ fn is_days(word: &[u8]) -> bool
 
 /// The entries of a shadow file (`shadow(5)`) with this text, or the first line that doesn't have the form of one, as
 /// `passwds` does. Allocates nothing.
-pub fn shadows(text: Text) -> Result<ShadowFile, DbFault>
+pub fn shadows(text: Text) -> Result<EntryFile<Shadow>, DbFault>
     requires { length text ≤ 1048576 }
     ensures { result ≡ shadows_of text }
 {
-    match check_lines::<Shadow>(text.bytes()) {
-        Ok(()) => Ok(ShadowFile { text }),
-        Err(fault) => Err(fault),
-    }
-}
-
-/// A user's entry: the first with that name.
-pub fn shadow_of(
-    alloc: Global,
-    user: &[u8],
-    entries: &ShadowFile,
-) -> Result<Option<Shadow>, NoMemory>
-    ensures { IfOk result (λ entry. entry ≡ shadow_of user.now entries.now) }
-{
-    entry_named(alloc, user, entries.text.bytes())
+    file_of(text)
 }

@@ -4,7 +4,7 @@ ghost use Rattle.account_files.specs.Content.{IsWithin};
 ghost use Rattle.account_files.specs.Act.{StepsTo};
 ghost use Rattle.mod_unix.specs.Look.{field_in, is_x, looks, shadow_in};
 
-use account_db::{Shadow, entry_of, passwds, shadow_of, shadows};
+use account_db::{Shadow, entry_of, passwds, shadows};
 use account_files::{Content, read_named};
 use pam_base::{NoMemory, Text};
 use pam_outside::Vault;
@@ -98,7 +98,7 @@ fn shadow_in(alloc: Global, user: &[u8], content: Content) -> Result<KnownPasswo
         Content::Holds(text) => text,
     };
     match shadows(text) {
-        Ok(entries) => match shadow_of(alloc, user, &entries)? {
+        Ok(entries) => match entry_of(alloc, user, &entries)? {
             Some(entry) => Ok(KnownPassword::Shadowed(entry)),
             None => Ok(KnownPassword::Unavailable),
         },

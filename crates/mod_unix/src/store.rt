@@ -10,7 +10,7 @@ ghost use Rattle.mod_unix.specs.Change.{write_result, changed_shadow, changes_sh
 
 use crate::look::ACCOUNT_LIMIT;
 use crate::new_hash::hashed_token;
-use account_db::{replace_hash, shadow_of, shadows};
+use account_db::{entry_of, replace_hash, shadows};
 use account_files::{Content, hold_named, laws as act_laws, read_named, replace_named};
 use module_acts::laws;
 use pam_base::{Code, NoMemory, Refuse, Text};
@@ -140,7 +140,7 @@ fn changed_shadow(
         },
     };
     match shadows(text) {
-        Ok(entries) => match shadow_of(alloc, user, &entries)? {
+        Ok(entries) => match entry_of(alloc, user, &entries)? {
             Some(_) => Ok(Some(changed)),
             None => Ok(None),
         },
