@@ -5,7 +5,7 @@ ghost use Rattle.pam_room.specs.Plain.{plain_call, plain_process};
 ghost use Rattle.pam_room.specs.State.{PlainProcess};
 ghost use Rattle.module_acts.specs.Returns.{Returns, scene_of_parts};
 ghost use Rattle.module_acts.specs.OnlyTalks.{OnlyTalks};
-ghost use Rattle.mod_unix.specs.Authenticate.{asks_password, authenticates, judge_account, has_empty_hash, is_open, is_success, verifies_token};
+ghost use Rattle.mod_unix.specs.Authenticate.{asks_password, authenticates, has_empty_hash, is_open, is_success, verifies_token};
 
 use crate::look::{KnownPassword, look_up};
 use crate::verify::verify;
@@ -50,34 +50,14 @@ pub(crate) fn authenticate(
     laws::talking();
     require_user(alloc, transaction, conv)?;
     let look = look_up(alloc, vault, process, user_of(transaction))?;
-    judge_account(alloc, call, &look, transaction, conv)
-}
-
-// Decides by what is known of the user's password.
-fn judge_account(
-    alloc: Global,
-    call: &Call,
-    look: &KnownPassword,
-    transaction: &mut Transaction,
-    conv: &mut dyn Conv,
-) -> Result<Authenticated, Refuse<ConvErr>>
-    ensures tells { conv_tells conv.new ≡ conv_tells conv.old }
-    ensures told { IsTrue (conv_tells conv.old) →
-        (vault : VaultState) (clock : ClockState) (process : PlainProcess) →
-        Returns result (judge_account (plain_call call.now) look.now)
-        (scene_of_parts transaction.old (conv_holds conv.old) vault clock process)
-        (scene_of_parts transaction.new (conv_holds conv.new) vault clock process) }
-    ensures talks { OnlyTalks transaction.old transaction.new }
-{
-    laws::talking();
-    if is_open(call, look) {
+    if is_open(call, &look) {
         return Ok(Authenticated::Kept(Code::Success));
     }
     if has_argument(b"nodelay", call.args) {
-        return verify_token(alloc, call, look, transaction, conv);
+        return verify_token(alloc, call, &look, transaction, conv);
     }
     request_delay(transaction, 2_000_000);
-    verify_token(alloc, call, look, transaction, conv)
+    verify_token(alloc, call, &look, transaction, conv)
 }
 
 // Whether a user without a password is let in.

@@ -54,7 +54,8 @@ pub(crate) fn store_token(
     Ok(code)
 }
 
-// Changes shadow; meanwhile the account files are locked as lckpwdf(3) locks them.
+// Changes shadow: it is read again, and replaced by one with the user's new hash. Meanwhile the
+// account files are locked as lckpwdf(3) locks them.
 fn change_shadow(
     alloc: Global,
     today: u64,
@@ -70,31 +71,10 @@ fn change_shadow(
         IfOk result (λ code. StepsTo (changes_shadow user.now hash.now today) code process.now
         (vault_holds vault.old) (vault_holds vault.new)) }
 {
-    match hold_named(alloc, vault, process, b"/etc/.pwd.lock", LockKind::Record)? {
-        Some(_held) => {
-            let code = change_held(alloc, today, user, hash, process, vault)?;
-            Ok(code)
-        }
-        None => Ok(Code::AuthtokErr),
-    }
-}
-
-// Reads shadow again, and replaces it with the user's new hash in it.
-fn change_held(
-    alloc: Global,
-    today: u64,
-    user: &[u8],
-    hash: &[u8],
-    process: &Process,
-    vault: &mut dyn Vault,
-) -> Result<Code, NoMemory>
-    ensures tells { vault_tells vault.new ≡ vault_tells vault.old }
-    ensures err { IsTrue (vault_tells vault.old) →
-        OnErr result ((vault_holds vault.new).files ≡ (vault_holds vault.old).files) }
-    ensures told { IsTrue (vault_tells vault.old) →
-        IfOk result (λ code. StepsTo (changes_shadow user.now hash.now today) code process.now
-        (vault_holds vault.old) (vault_holds vault.new)) }
-{
+    let _held = match hold_named(alloc, vault, process, b"/etc/.pwd.lock", LockKind::Record)? {
+        Some(held) => held,
+        None => return Ok(Code::AuthtokErr),
+    };
     let content = read_named(alloc, vault, process, b"/etc/shadow", ACCOUNT_LIMIT)?;
     let text = match changed_shadow(alloc, today, user, hash, content)? {
         Some(text) => text,
