@@ -1,10 +1,9 @@
 -- What the checker finds for a block is the block's result.
-use Rattle.std.proofs.Common.{◌≡◌, ℕ, zero, suc, ◌+◌, ◌-◌, ◌≤◌, ◌<◌, Bool, true, false, not, ◌&&◌, eqb, eq-eqb, if◌then◌else◌, List, [], ◌∷◌, length, drop, Option, Some, None, refl, sym, ◌∙◌, ap, subst, arith, ne_eqb}
+use Rattle.std.proofs.Common.{◌≡◌, ℕ, zero, suc, ◌+◌, ◌-◌, ◌≤◌, ◌<◌, Bool, true, false, not, ◌&&◌, eqb, eq-eqb, if◌then◌else◌, List, [], ◌∷◌, length, drop, Option, Some, None, refl, sym, ◌∙◌, ap, arith, ne_eqb}
 use Rattle.pam_base.specs.declared.code.Code.{Code}
 use Rattle.pam_base.specs.declared.call.Func.{Func}
 use Rattle.pam_base.specs.declared.call.Func.TheVariants as funcs
 use Rattle.pam_base.specs.declared.code.Code.TheVariants as codes
-use Rattle.pam_base.specs.declared.fault.NoMemory.{NoMemory}
 use Rattle.stack_walk.specs.declared.seen.Seen.{Seen}
 use Rattle.stack_walk.specs.Seen.{seen_of}
 use Rattle.stack_walk.specs.Retell as retell
@@ -17,14 +16,11 @@ use Rattle.pass_replay.specs.Held.{held_of}
 use Rattle.pass_replay.specs.Replay.{as_told}
 use Rattle.pass_replay.specs.Retold.{went_of}
 use Rattle.pass_replay.specs.Told.{visits_in, lines_before}
-use Rattle.std.specs.Prelude.{IfOk}
-use Rattle.std.specs.Prelude as answers
 use Rattle.report_lines.specs.Line.{Command, starts, ends, runs, sets_item, gets_item, puts_env, gets_env, lists_env, asks_delay, switches_delay, replies, Shown, shows_code, shows_fault, shows_value, shows_count, shows_not_open, shows_already_open, shows_bad_number, shows_pending, Result, answered, closed_by_program}
 use Rattle.session_audit.specs.Fits.{SlotLog, shut, running, visits_told, is_none, only_if, same_code, is_refused_change, without_visits, behind_call, at_call, behind_result}
 use Rattle.session_audit.specs.Differs as told_lines
 use Rattle.session_audit.specs.Differs.{visits_good}
-use Rattle.session_audit.specs.Checked.{told_in, behind_quiet, IsCall, IsJudged}
-use Rattle.session_audit.specs.declared.judge.Judged.{Judged}
+use Rattle.session_audit.specs.Checked.{told_in, behind_quiet, IsCall}
 
 -- ---- lines run among recorded lines
 
@@ -124,10 +120,6 @@ both_are true b vs is none = ap is_none none ∙ is
 both_are false b vs is none = is
 
 -- ---- stack calls
-
-pub judged_as : (r : answers.Result Judged NoMemory) (x y : Option SlotLog) (m n : ℕ) → x ≡ y → m ≡ n → IfOk r (λ j. IsJudged j x m) → IfOk r (λ j. IsJudged j y n)
-judged_as r x y m n is line h =
-    subst (λ (k : ℕ). IfOk r (λ j. IsJudged j y k)) line (subst (λ (p : Option SlotLog). IfOk r (λ j. IsJudged j p m)) is h)
 
 if_true : {A : Type 0} → (b : Bool) (x y : A) → b ≡ true → (if b then x else y) ≡ x
 if_true true x y is = refl

@@ -1,11 +1,10 @@
 -- What the checker holds while it reads a report, in the words of places and blocks (this project's own).
-use Rattle.std.specs.Prelude.{◌≡◌, ◌≤◌, ℕ, ◌+◌, ◌-◌, Bool, true, false, ◌&&◌, List, ◌∷◌, map, length, Option, Some, None}
+use Rattle.std.specs.Prelude.{◌≡◌, ◌≤◌, ℕ, ◌+◌, Bool, true, false, ◌&&◌, List, ◌∷◌, map, length, Option, Some, None}
 use Rattle.std.specs.Option.{option_map}
 use Rattle.pam_base.specs.declared.code.Code.{Code}
 use Rattle.pam_base.specs.declared.call.Func.{Func}
 use Rattle.service_load.specs.Stacks.{Stacks}
-use Rattle.stack_walk.specs.Retell.{Telling}
-use Rattle.pass_replay.specs.dispatch_core.specs.Calls.{Held, Went}
+use Rattle.pass_replay.specs.dispatch_core.specs.Calls.{Held}
 use Rattle.pass_replay.specs.Held.{held_of}
 use Rattle.stack_walk.specs.declared.seen.Seen.{Seen}
 use Rattle.report_lines.specs.Line.{Told, Command, runs, Shown, shows_code, shows_pending, Result, answered, closed_by_program, Block}
@@ -21,7 +20,7 @@ use Rattle.session_audit.specs.declared.judge.Judged.{Judged}
 use Rattle.session_audit.specs.declared.judge.Judged.TheVariants as judged
 use Rattle.session_audit.specs.declared.verdict.Verdict.{Verdict}
 use Rattle.session_audit.specs.declared.verdict.Verdict.TheVariants as verdicts
-use Rattle.session_audit.specs.Fits.{SlotLog, shut, running, place_at, visits_told, is_none, is_bad_number, only_if, aborted_by, at_shut, at_running, behind_call, behind_result, behind_block}
+use Rattle.session_audit.specs.Fits.{SlotLog, shut, running, place_at, visits_told, is_none, is_bad_number, only_if, aborted_by, at_shut, at_running, behind_result, behind_block}
 use Rattle.session_audit.specs.Differs.{Gathered, nothing_yet, gathered, lines_before, visits_good, bad_line, differs_from}
 use Rattle.session_audit.specs.Whole.{lines_read}
 
@@ -67,12 +66,6 @@ abbrev pub Judges : Stacks → SlotLog → List Told → Result → Judged → T
 Judges stacks place told result j =
     IsJudged j (behind_result stacks place (visits_told told) result)
     (lines_before (visits_good stacks (Some place) (visits_told told) result) told)
-
--- and that of a stack call, by its result when it is replayed
-abbrev pub JudgesCall : Code → Went Telling → List Told → Judged → Type 0
-JudgesCall code w told j =
-    IsJudged j (behind_call code w)
-    (lines_before (length (visits_told told) - length w.state.left) told)
 
 -- and so for all transactions; a line is named if it doesn't fit
 abbrev pub IsPlaced : Stacks → List held.SlotLog → Block → Option ℕ → List held.SlotLog → Type 0

@@ -1,13 +1,10 @@
 ghost use Rattle.std.specs.Prelude.{◌≡◌, ◌&&◌, [], not, nat_eq, IfOk};
 ghost use Rattle.service_load.specs.Load.{AreBounded};
-ghost use Rattle.stack_walk.specs.Retell.{telling};
-ghost use Rattle.pass_replay.specs.dispatch_core.specs.Calls.{goes};
 ghost use Rattle.pass_replay.specs.Held.{held_of};
-ghost use Rattle.pass_replay.specs.Replay.{as_told};
 ghost use Rattle.pass_replay.specs.Retold.{stacks_in};
 ghost use Rattle.report_lines.specs.Line.{answered, runs, shows_code};
 ghost use Rattle.report_reader.specs.Form.{result_of};
-ghost use Rattle.session_audit.specs.Checked.{IsCall, IsJudged, Judges, JudgesCall, behind_quiet, place_of, told_in};
+ghost use Rattle.session_audit.specs.Checked.{IsCall, IsJudged, Judges, behind_quiet, place_of, told_in};
 ghost use Rattle.session_audit.specs.Differs.{lines_before};
 ghost use Rattle.session_audit.specs.Fits.{is_refused_change, running, same_code, visits_told, without_visits};
 
@@ -102,7 +99,12 @@ fn judge_call(
     if held.is_other_pending(func) {
         return Ok(Judged::Differs(first_visit(told)));
     }
-    judge_retold(alloc, trees, held, func, code, told)
+    let retold = retell(alloc, trees, func, held, told)?;
+    if is_retold(code, &retold, told.len()) {
+        Ok(Judged::Fits(SlotLog::Open(retold.held)))
+    } else {
+        Ok(Judged::Differs(retold.next))
+    }
 }
 
 /// Whether it is a chauthtok whose flags were refused: then no line is run, and nothing changes.
@@ -119,27 +121,6 @@ fn is_change_fault(func: Func, code: Code) -> bool
     ensures { result ≡ is_refused_change func code [] }
 {
     func == Func::ChAuthTok && code == Code::SystemErr
-}
-
-fn judge_retold(
-    alloc: Global,
-    trees: &Trees,
-    held: Held,
-    func: Func,
-    code: Code,
-    told: &[Option<Seen>],
-) -> Result<Judged, NoMemory>
-    requires { AreBounded trees.now }
-    ensures { IfOk result (λ judged. JudgesCall code
-        (goes as_told (stacks_in trees.now) func (held_of held)
-        (telling (visits_told (told_in told.now)))) (told_in told.now) judged) }
-{
-    let retold = retell(alloc, trees, func, held, told)?;
-    if is_retold(code, &retold, told.len()) {
-        Ok(Judged::Fits(SlotLog::Open(retold.held)))
-    } else {
-        Ok(Judged::Differs(retold.next))
-    }
 }
 
 // Whether a call took all of n recorded lines, ran no other line, and returned this code.

@@ -1,13 +1,13 @@
-use Rattle.std.proofs.Common.{◌≡◌, false, ℕ, ◌-◌, length, sym, ◌∙◌, ap}
+use Rattle.std.proofs.Common.{◌≡◌, ◌&&◌, not, eqb, false, ℕ, ◌-◌, List, length, sym, ◌∙◌, ap}
 use Rattle.pass_replay.specs.dispatch_core.specs.Calls.{goes}
 use Rattle.pass_replay.specs.Held.{held_of}
 use Rattle.pass_replay.specs.Replay.{as_told}
-use Rattle.pass_replay.specs.Retold.{stacks_in}
-use Rattle.stack_walk.specs.Retell.{telling}
+use Rattle.pass_replay.specs.Retold.{stacks_in, went_of}
+use Rattle.stack_walk.specs.Retell.{Seen, telling}
 use Rattle.session_audit.specs.Checked.{told_in}
 use Rattle.session_audit.specs.Differs.{lines_before}
-use Rattle.session_audit.specs.Fits.{visits_told, is_refused_change}
-use Rattle.session_audit.proofs.Checking.{told_first, judged_as, call_refused, call_aborted, call_goes, line_aborted, line_goes}
+use Rattle.session_audit.specs.Fits.{visits_told, is_refused_change, running, same_code}
+use Rattle.session_audit.proofs.Checking.{told_first, call_refused, call_aborted, call_goes, line_aborted, line_goes, visits_are, as_retold, retold_line, only_true, only_false}
 use Rattle.session_audit.proofs.judge.judge_call.Goals as goal
 
 pub returns-then-is_refused_change : goal.returns-then-is_refused_change
@@ -29,15 +29,36 @@ returns-then-is_other_pending c =
           (sym (line_aborted stacks c.args.func vs h (length vs - length (goes as_told stacks c.args.func h (telling vs)).state.left) other)),
     )
 
-pub returns : goal.returns
-returns c =
+pub returns-then-is_retold : goal.returns-then-is_retold
+returns-then-is_retold c =
     let told = c.args.told.now in
     let vs = visits_told (told_in told) in
     let h = held_of c.args.held in
     let stacks = stacks_in c.args.trees.now in
     let refused : is_refused_change c.args.func c.args.code vs ≡ false = sym c.is_refused_change.ensures ∙ c.if-is_refused_change.false in
     let other = sym c.is_other_pending.ensures ∙ c.if-is_other_pending.false in
-    judged_as c.judge_retold.result _ _ _ _ (call_goes stacks c.args.func c.args.code vs h refused other)
-    (ap (λ (n : ℕ). lines_before n (told_in told))
-    (line_goes stacks c.args.func vs h (length vs - length (goes as_told stacks c.args.func h (telling vs)).state.left) other))
-    c.judge_retold.ensures
+    let r = c.in_ok-retold.retold in
+    let w = goes as_told stacks c.args.func h (telling vs) in
+    let is : went_of told r ≡ w = c.in_ok-retold.ensures.goes
+        ∙ ap (λ (seen : List Seen). goes as_told stacks c.args.func h (telling seen)) (sym (visits_are told)) in
+    let goes_on = sym (call_goes stacks c.args.func c.args.code vs h refused other) in
+    goes_on ∙ only_true (not r.astray && (eqb r.next (length told) && same_code c.args.code r.code)) (running (held_of r.held)) _
+        (as_retold told r c.args.code w is c.in_ok-retold.ensures.next) (sym c.is_retold.ensures ∙ c.if-is_retold.true)
+
+pub returns-else-is_retold : goal.returns-else-is_retold
+returns-else-is_retold c =
+    let told = c.args.told.now in
+    let vs = visits_told (told_in told) in
+    let h = held_of c.args.held in
+    let stacks = stacks_in c.args.trees.now in
+    let refused : is_refused_change c.args.func c.args.code vs ≡ false = sym c.is_refused_change.ensures ∙ c.if-is_refused_change.false in
+    let other = sym c.is_other_pending.ensures ∙ c.if-is_other_pending.false in
+    let r = c.in_ok-retold.retold in
+    let w = goes as_told stacks c.args.func h (telling vs) in
+    let is : went_of told r ≡ w = c.in_ok-retold.ensures.goes
+        ∙ ap (λ (seen : List Seen). goes as_told stacks c.args.func h (telling seen)) (sym (visits_are told)) in
+    let goes_on = sym (call_goes stacks c.args.func c.args.code vs h refused other) in
+    (goes_on ∙ only_false (not r.astray && (eqb r.next (length told) && same_code c.args.code r.code)) (running (held_of r.held)) _
+        (as_retold told r c.args.code w is c.in_ok-retold.ensures.next) (sym c.is_retold.ensures ∙ c.if-is_retold.false),
+      retold_line told r w is c.in_ok-retold.ensures.next ∙ ap (λ (n : ℕ). lines_before n (told_in told))
+          (line_goes stacks c.args.func vs h (length vs - length w.state.left) other))
