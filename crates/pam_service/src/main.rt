@@ -172,7 +172,7 @@ fn has_own_ids(user: &Option<Ids>, group: &Option<Ids>) -> bool {
 }
 
 // The arguments for the program: `wire /`, or `wire ROOT` if one argument names a root and the process has no rights
-// but its caller's. Otherwise none, which is no command.
+// but its caller's. Otherwise none; then only the usage line is written.
 fn words_for(alloc: Global, words: &[String], has_own_ids: bool) -> io::Result<Vec<String>>
     ensures request { IfOk result (λ asked. command_of asked.items
         ≡ service_request has_own_ids words.now) }
