@@ -6,7 +6,7 @@ ghost use Rattle.explain_lines.specs.Text.{action_words, deciding_words, fate_wo
 use crate::origin::Origin;
 use crate::row::{Fate, Row};
 use control_words::{Action, module_name};
-use pam_base::{Code, NoMemory, code_name, push_quoted};
+use pam_base::{Code, NoMemory, Word, code_name, push_quoted};
 use stack_walk::{Impression, Opinion};
 
 /// Adds the lines of rows.

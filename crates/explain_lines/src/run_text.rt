@@ -4,8 +4,7 @@ ghost use Rattle.explain_lines.specs.Text.{decided_text, decider, decider_words,
 use crate::origin::Origin;
 use crate::row::{Fate, Row};
 use crate::row_text::{is_same, write_rows};
-use pam_base::{Func, NoMemory, code_name};
-use script_lang::func_word;
+use pam_base::{Func, NoMemory, Word, code_name};
 use service_load::RuleType;
 use stack_walk::{Impression, Opinion, PassKind};
 
@@ -39,7 +38,7 @@ fn write_head(
         ++ head_text number func rule_type kind) }
 {
     write!(text, "{number} ")?;
-    text.push_str(func_word(func))?;
+    text.push_str(func.word())?;
     write_stack(text, func, rule_type, kind)
 }
 

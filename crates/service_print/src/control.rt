@@ -6,7 +6,7 @@ ghost use Rattle.service_print.specs.Controls.{action_word, control_text, entrie
 ghost use Rattle.service_print.specs.Tokens.{spaced};
 
 use control_words::{ALL_KEYWORDS, Action, Control, Keyword, control_named};
-use pam_base::{ALL_CODES, Code, NoMemory, code_word};
+use pam_base::{ALL_CODES, Code, NoMemory, Word, code_word};
 use std::alloc::Global;
 
 /// Adds a control: the keyword that is short for it, or its entries in brackets.

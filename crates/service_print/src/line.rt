@@ -4,7 +4,7 @@ ghost use Rattle.service_print.specs.Printed.{numbered, rule_line, substack_line
 use crate::control::add_control;
 use crate::token::add_token;
 use control_words::Rule;
-use pam_base::NoMemory;
+use pam_base::{NoMemory, Word};
 use service_load::RuleType;
 use std::alloc::Global;
 
