@@ -1,11 +1,13 @@
 -- The conditions of pam_succeed_if(8): three words each, a field, a test, and a value to test for.
-use Rattle.std.specs.Prelude.{ℕ, Bool, true, false, not, ◌==◌, ◌&&◌, ◌||◌, nat_lt, nat_le, if◌then◌else◌, decimal, List, length, Option, Some, None, option_map, codes}
+use Rattle.std.specs.Prelude.{ℕ, Bool, true, false, not, ◌==◌, ◌&&◌, ◌||◌, nat_lt, nat_le, if◌then◌else◌, decimal, List, [], ◌∷◌, length, Option, Some, None, option_map, codes}
 use Rattle.std.specs.Char.{is_ascii_digit}
-use Rattle.std.specs.List.{list_all, list_any}
+use Rattle.std.specs.List.{find, list_all, list_any}
 use Rattle.std.specs.Str.{bytes_eq}
 use Rattle.pam_base.specs.Number.{value_of_digits}
 use Rattle.pam_base.specs.Parts.{parts_of}
+use Rattle.mod_lists.specs.declared.condition.AccountField.{AccountField}
 use Rattle.mod_lists.specs.declared.condition.AccountField.TheVariants.{Uid, Gid, Shell, Home}
+use Rattle.mod_lists.specs.declared.condition.ItemField.{ItemField}
 use Rattle.mod_lists.specs.declared.condition.ItemField.TheVariants as items
 use Rattle.mod_lists.specs.declared.condition.Field.{Field}
 use Rattle.mod_lists.specs.declared.condition.Field.TheVariants.{Item, Account}
@@ -20,18 +22,30 @@ use Rattle.mod_lists.specs.declared.truth.Truth.TheVariants.{Holds, Fails, Fault
 
 -- ---- fields
 
+abbrev pub item_word : ItemField → List ℕ
+item_word items.User = codes "user"
+item_word items.Tty = codes "tty"
+item_word items.Rhost = codes "rhost"
+item_word items.Ruser = codes "ruser"
+item_word items.Service = codes "service"
+
+abbrev pub account_word : AccountField → List ℕ
+account_word Uid = codes "uid"
+account_word Gid = codes "gid"
+account_word Shell = codes "shell"
+account_word Home = codes "home"
+
+abbrev pub item_or_account : Option ItemField → Option AccountField → Option Field
+item_or_account (Some item) account = Some (Item item)
+item_or_account None account = option_map Account account
+
+-- the field that a word names
 abbrev pub field_of : List ℕ → Option Field
 field_of word =
-    if bytes_eq word (codes "user") then Some (Item items.User)
-    else if bytes_eq word (codes "tty") then Some (Item items.Tty)
-    else if bytes_eq word (codes "rhost") then Some (Item items.Rhost)
-    else if bytes_eq word (codes "ruser") then Some (Item items.Ruser)
-    else if bytes_eq word (codes "service") then Some (Item items.Service)
-    else if bytes_eq word (codes "uid") then Some (Account Uid)
-    else if bytes_eq word (codes "gid") then Some (Account Gid)
-    else if bytes_eq word (codes "shell") then Some (Account Shell)
-    else if bytes_eq word (codes "home") then Some (Account Home)
-    else None
+    item_or_account
+    (find (λ item. bytes_eq (item_word item) word)
+    (items.User ∷ items.Tty ∷ items.Rhost ∷ items.Ruser ∷ items.Service ∷ []))
+    (find (λ field. bytes_eq (account_word field) word) (Uid ∷ Gid ∷ Shell ∷ Home ∷ []))
 
 -- ---- numbers
 

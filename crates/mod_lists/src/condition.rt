@@ -1,9 +1,9 @@
 ghost use Rattle.std.specs.Prelude.{◌≡◌, ◌||◌, option_map, true};
 ghost use Rattle.std.specs.Str.{bytes_eq};
 ghost use Rattle.pam_base.specs.Number.{value_of_digits};
-ghost use Rattle.mod_lists.specs.Condition.{condition_of, count_of, field_of, group_sense, is_count, order_of, plain_condition, plain_test, test_of, text_test};
+ghost use Rattle.mod_lists.specs.Condition.{account_word, condition_of, count_of, field_of, group_sense, is_count, item_word, order_of, plain_condition, plain_test, test_of, text_test};
 
-use pam_base::are_digits;
+use pam_base::{Word, are_digits, find_word};
 
 /// An item of the transaction.
 #[derive(Clone, Copy, Debug, PartialEq, Eq)]
@@ -15,6 +15,28 @@ pub enum ItemField {
     Service,
 }
 
+const ALL_ITEM_FIELDS: [ItemField; 5] = [
+    ItemField::User,
+    ItemField::Tty,
+    ItemField::Rhost,
+    ItemField::Ruser,
+    ItemField::Service,
+];
+
+impl Word for ItemField {
+    ghost spelling = { item_word };
+
+    fn word(self) -> &'static str {
+        match self {
+            ItemField::User => "user",
+            ItemField::Tty => "tty",
+            ItemField::Rhost => "rhost",
+            ItemField::Ruser => "ruser",
+            ItemField::Service => "service",
+        }
+    }
+}
+
 /// A field of the user's account (`passwd(5)`).
 #[derive(Clone, Copy, Debug, PartialEq, Eq)]
 pub enum AccountField {
@@ -22,6 +44,26 @@ pub enum AccountField {
     Gid,
     Shell,
     Home,
+}
+
+const ALL_ACCOUNT_FIELDS: [AccountField; 4] = [
+    AccountField::Uid,
+    AccountField::Gid,
+    AccountField::Shell,
+    AccountField::Home,
+];
+
+impl Word for AccountField {
+    ghost spelling = { account_word };
+
+    fn word(self) -> &'static str {
+        match self {
+            AccountField::Uid => "uid",
+            AccountField::Gid => "gid",
+            AccountField::Shell => "shell",
+            AccountField::Home => "home",
+        }
+    }
 }
 
 /// What a condition tests: an item of the transaction, or a field of the user's account.
@@ -100,26 +142,9 @@ fn group_sense(word: &[u8]) -> Option<bool>
 fn field_of(word: &[u8]) -> Option<Field>
     ensures { result ≡ field_of word.now }
 {
-    if word == b"user".as_slice() {
-        Some(Field::Item(ItemField::User))
-    } else if word == b"tty".as_slice() {
-        Some(Field::Item(ItemField::Tty))
-    } else if word == b"rhost".as_slice() {
-        Some(Field::Item(ItemField::Rhost))
-    } else if word == b"ruser".as_slice() {
-        Some(Field::Item(ItemField::Ruser))
-    } else if word == b"service".as_slice() {
-        Some(Field::Item(ItemField::Service))
-    } else if word == b"uid".as_slice() {
-        Some(Field::Account(AccountField::Uid))
-    } else if word == b"gid".as_slice() {
-        Some(Field::Account(AccountField::Gid))
-    } else if word == b"shell".as_slice() {
-        Some(Field::Account(AccountField::Shell))
-    } else if word == b"home".as_slice() {
-        Some(Field::Account(AccountField::Home))
-    } else {
-        None
+    match find_word(&ALL_ITEM_FIELDS, word) {
+        Some(item) => Some(Field::Item(item)),
+        None => find_word(&ALL_ACCOUNT_FIELDS, word).map(Field::Account),
     }
 }
 
