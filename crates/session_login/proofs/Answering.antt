@@ -4,7 +4,7 @@ use Rattle.pam_base.specs.declared.call.AppCall.{AppCall}
 use Rattle.pam_base.specs.declared.call.Func.{Func}
 use Rattle.pam_base.specs.declared.call.Func.TheVariants as funcs
 use Rattle.pam_base.specs.declared.fault.Failed.{Failed}
-use Rattle.pam_base.specs.Call.{is_fit}
+use Rattle.pam_base.specs.Call.{is_fit, stack_call}
 use Rattle.pam_outside.specs.Streams.{SinkState, WritesWhole}
 use Rattle.session_run.specs.pam_room.specs.State.{PlainWorld}
 use Rattle.session_run.specs.pam_library.specs.Outcome.{PlainOutcome}
@@ -15,11 +15,10 @@ use Rattle.item_stream.specs.declared.ending.Stop.{Stop}
 use Rattle.item_stream.specs.declared.ending.Stop.TheVariants.{NoMemory, WriteFault}
 use Rattle.session_run.specs.State.{Setting, RunState, state_of}
 use Rattle.session_run.specs.Step.{CallFails}
-use Rattle.session_login.specs.Calls.{call_with}
 use Rattle.session_login.specs.Login.{answer_line, lines_of_calls, make, made_line, step_of}
 use Rattle.session_login.specs.Told.{MakesCalls, Makes}
 
-pub fit_call : (func : Func) (flags : ℕ) → is_fit (call_with func flags) ≡ true
+pub fit_call : (func : Func) (flags : ℕ) → is_fit (stack_call func flags) ≡ true
 fit_call funcs.Authenticate flags = refl
 fit_call funcs.SetCred flags = refl
 fit_call funcs.AcctMgmt flags = refl

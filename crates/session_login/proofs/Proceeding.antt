@@ -6,20 +6,21 @@ use Rattle.pam_base.specs.declared.call.AppCall.TheVariants as calls
 use Rattle.pam_base.specs.declared.call.Func.{Func}
 use Rattle.pam_base.specs.declared.call.Func.TheVariants as funcs
 use Rattle.pam_base.specs.declared.call.Step.{Step}
+use Rattle.pam_base.specs.Call.{stack_call}
 use Rattle.pam_base.specs.Code.{number_of}
 use Rattle.item_stream.specs.declared.ending.Stop.{Stop}
 use Rattle.session_run.specs.Ends.{IsEndStep}
 use Rattle.session_login.specs.declared.attempt.Verdict.{Verdict}
 use Rattle.session_login.specs.declared.attempt.Verdict.TheVariants as verdicts
 use Rattle.session_login.specs.declared.calls.LoginCall.{LoginCall}
-use Rattle.session_login.specs.Calls.{call_of, call_with}
+use Rattle.session_login.specs.Calls.{call_of}
 use Rattle.session_login.specs.Ends.{IsDenial, IsEndOfLogin, IsEndWith, IsNoEnd, closing_code}
 use Rattle.session_login.specs.Login.{end_call, end_code, verdict_by}
 
 same_call : (call other : AppCall) (n m : ℕ) → ◌≡◌ {A = Step} (record { number = n; call = call }) (record { number = m; call = other }) → call ≡ other
 same_call call other n m e = ap (λ (s : Step). s.call) e
 
-not_end : (func : Func) (flags status : ℕ) → call_with func flags ≡ calls.End status → ⊥
+not_end : (func : Func) (flags status : ℕ) → stack_call func flags ≡ calls.End status → ⊥
 not_end funcs.Authenticate flags status e = cc
 not_end funcs.SetCred flags status e = cc
 not_end funcs.AcctMgmt flags status e = cc
@@ -28,9 +29,9 @@ not_end funcs.CloseSession flags status e = cc
 not_end funcs.ChAuthTok flags status e = cc
 
 -- a stack call is none
-pub stack_call_ends_none : (func : Func) (flags number status : ℕ) → IsEndStep (record { number = 1; call = call_with func flags }) number status
+pub stack_call_ends_none : (func : Func) (flags number status : ℕ) → IsEndStep (record { number = 1; call = stack_call func flags }) number status
     → IsNoEnd number status
-stack_call_ends_none func flags number status e = not_end func flags status (same_call (call_with func flags) (calls.End status) 1 number e)
+stack_call_ends_none func flags number status e = not_end func flags status (same_call (stack_call func flags) (calls.End status) 1 number e)
 
 -- nor is a start
 pub start_ends_none : (service : List ℕ) (user : Option (List ℕ)) (number status : ℕ)

@@ -4,9 +4,9 @@ use Rattle.std.specs.Prelude.{ℕ, Bool, true, false, List, [], ◌∷◌}
 use Rattle.pam_base.specs.declared.code.Code.{Code}
 use Rattle.pam_base.specs.declared.code.Code.TheVariants as codes
 use Rattle.pam_base.specs.declared.call.AppCall.{AppCall}
-use Rattle.pam_base.specs.declared.call.AppCall.TheVariants as calls
 use Rattle.pam_base.specs.declared.call.Func.{Func}
 use Rattle.pam_base.specs.declared.call.Func.TheVariants as funcs
+use Rattle.pam_base.specs.Call.{stack_call}
 use Rattle.session_run.specs.pam_library.specs.declared.outcome.Answer.{Answer}
 use Rattle.session_run.specs.pam_library.specs.declared.outcome.Answer.TheVariants as answers
 use Rattle.session_login.specs.declared.calls.When.{When}
@@ -50,16 +50,8 @@ login_calls =
     ∷ row funcs.SetCred 4 Always Any
     ∷ []
 
-abbrev pub call_with : Func → ℕ → AppCall
-call_with funcs.Authenticate flags = calls.Authenticate flags
-call_with funcs.SetCred flags = calls.SetCred flags
-call_with funcs.AcctMgmt flags = calls.AcctMgmt flags
-call_with funcs.OpenSession flags = calls.OpenSession flags
-call_with funcs.CloseSession flags = calls.CloseSession flags
-call_with funcs.ChAuthTok flags = calls.ChAuthTok flags
-
 abbrev pub call_of : LoginCall → AppCall
-call_of c = call_with c.func c.flags
+call_of c = stack_call c.func c.flags
 
 -- the code in a result; one that isn't a code counts as ABORT, as the line of a call that waits for another one says
 abbrev pub code_in : Answer → Code

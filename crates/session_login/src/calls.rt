@@ -59,15 +59,7 @@ impl LoginCall {
     pub(crate) fn call(self) -> AppCall
         ensures { result ≡ call_of self }
     {
-        let flags = self.flags;
-        match self.func {
-            Func::Authenticate => AppCall::Authenticate { flags },
-            Func::SetCred => AppCall::SetCred { flags },
-            Func::AcctMgmt => AppCall::AcctMgmt { flags },
-            Func::OpenSession => AppCall::OpenSession { flags },
-            Func::CloseSession => AppCall::CloseSession { flags },
-            Func::ChAuthTok => AppCall::ChAuthTok { flags },
-        }
+        AppCall::stack(self.func, self.flags)
     }
 }
 
