@@ -7,8 +7,8 @@ ghost use Rattle.conv_port.specs.Conv.{Answers, TakesOffer};
 ghost use Rattle.conv_port.specs.Terminal.{Types, TypesLine, all_shown, shown};
 
 use crate::conv::{Conv, ConvFault};
-use crate::message::{Message, Messages, Replies, Reply};
 use crate::input::next_byte;
+use crate::message::{Message, Messages, Replies, Reply};
 use pam_base::{MAX_TEXT, NoMemory, Text};
 use std::alloc::Global;
 use std::io::{Read, Write};

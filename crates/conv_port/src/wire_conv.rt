@@ -62,6 +62,7 @@ impl Conv for WireConv {
 
     // Any text is a reply: there are no marks.
     fn offer(&mut self, alloc: Global, text: &[u8]) -> Result<(), NoMemory> {
-        self.queue.add(Offer::Answer(Text::from_bytes(alloc, text)?))
+        self.queue
+            .add(Offer::Answer(Text::from_bytes(alloc, text)?))
     }
 }

@@ -32,9 +32,9 @@ by_steps o command words said named has means = rw (named, has, means) refl
 pub returns-in_ok-line_made-in-Ok-clause-ok : goal.returns-in_ok-line_made-in-Ok-clause-ok
 returns-in_ok-line_made-in-Ok-clause-ok c =
     let named : command_of_word (first_word c.args.line.now) ≡ Some c.in-Some.command =
-        ap command_of_word (sym c.first_word.ensures) ∙ sym c.command_named.ensures ∙ c.in-Some.is in
+    ap command_of_word (sym c.first_word.ensures) ∙ sym c.command_named.ensures ∙ c.in-Some.is in
     let has : has_its_words (places_of c.in-Some.command) (words_of c.args.line.now) ≡ true = search rules in
     let values : carried_all (Ok c.in-Ok.values) ≡ meanings_at c.places-places.result (words_of c.args.line.now) = rw c.in-Ok.is at c.values_at.ensures in
     let means : meanings_at (places_of c.in-Some.command) (words_of c.args.line.now) ≡ Ok (meanings_of c.in-Ok.values) =
-        sym (rw c.places-places.ensures at values) in
+    sym (rw c.places-places.ensures at values) in
     rw c.in_ok-line_made-in-Ok.ensures (by_steps _ c.in-Some.command _ (meanings_of c.in-Ok.values) named has means)

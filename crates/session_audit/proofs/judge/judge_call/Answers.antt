@@ -40,10 +40,10 @@ returns-then-is_retold c =
     let r = c.in_ok-retold.retold in
     let w = goes as_told stacks c.args.func h (telling vs) in
     let is : went_of told r ≡ w = c.in_ok-retold.ensures.goes
-        ∙ ap (λ (seen : List Seen). goes as_told stacks c.args.func h (telling seen)) (sym (visits_are told)) in
+    ∙ ap (λ (seen : List Seen). goes as_told stacks c.args.func h (telling seen)) (sym (visits_are told)) in
     let goes_on = sym (call_goes stacks c.args.func c.args.code vs h refused other) in
     goes_on ∙ only_true (not r.astray && (eqb r.next (length told) && same_code c.args.code r.code)) (running (held_of r.held)) _
-        (as_retold told r c.args.code w is c.in_ok-retold.ensures.next) (sym c.is_retold.ensures ∙ c.if-is_retold.true)
+    (as_retold told r c.args.code w is c.in_ok-retold.ensures.next) (sym c.is_retold.ensures ∙ c.if-is_retold.true)
 
 pub returns-else-is_retold : goal.returns-else-is_retold
 returns-else-is_retold c =
@@ -56,9 +56,10 @@ returns-else-is_retold c =
     let r = c.in_ok-retold.retold in
     let w = goes as_told stacks c.args.func h (telling vs) in
     let is : went_of told r ≡ w = c.in_ok-retold.ensures.goes
-        ∙ ap (λ (seen : List Seen). goes as_told stacks c.args.func h (telling seen)) (sym (visits_are told)) in
-    let goes_on = sym (call_goes stacks c.args.func c.args.code vs h refused other) in
-    (goes_on ∙ only_false (not r.astray && (eqb r.next (length told) && same_code c.args.code r.code)) (running (held_of r.held)) _
-        (as_retold told r c.args.code w is c.in_ok-retold.ensures.next) (sym c.is_retold.ensures ∙ c.if-is_retold.false),
+    ∙ ap (λ (seen : List Seen). goes as_told stacks c.args.func h (telling seen)) (sym (visits_are told)) in
+    let goes_on = sym (call_goes stacks c.args.func c.args.code vs h refused other) in (
+      goes_on ∙ only_false (not r.astray && (eqb r.next (length told) && same_code c.args.code r.code)) (running (held_of r.held)) _
+          (as_retold told r c.args.code w is c.in_ok-retold.ensures.next) (sym c.is_retold.ensures ∙ c.if-is_retold.false),
       retold_line told r w is c.in_ok-retold.ensures.next ∙ ap (λ (n : ℕ). lines_before n (told_in told))
-          (line_goes stacks c.args.func vs h (length vs - length w.state.left) other))
+          (line_goes stacks c.args.func vs h (length vs - length w.state.left) other),
+    )
