@@ -28,9 +28,6 @@ use std::io;
 use std::process::ExitCode;
 use system_objects::{FolderVault, ReaderSource, RealClock, SleepNap, WriterSink};
 
-#[cfg(test)]
-mod tests;
-
 /// How many transactions may be open at a time, each with a conversation.
 const TRANSACTIONS: usize = 16;
 

@@ -3,10 +3,18 @@
 
 ghost use Rattle.std.specs.Prelude.{◌≡◌, []};
 
-use super::*;
-use pam_outside::{MemSink, MemSource};
+use conv_port::{Conv, QueueConv};
+use data_cleanup::Ledger;
+use mod_basic::{Permit, Probe};
+use pam_base::{Code, Numbers, Text};
+use pam_outside::{FixedClock, MemSink, MemSource, MemVault, NapSum};
+use pam_room::{Module, Process, World};
+use session_program::{Desk, pamsess};
 use std::alloc::Global;
 use std::test::Fail;
+
+/// The user ID of the process: nobody.
+const CALLER: u32 = 65534;
 
 /// A run over the service file `/r/etc/pam.d/t`: the arguments, the script, the numbers of the
 /// calls of `Source`, `Sink` and `Vault` that are to fail, and the expected output and status.
@@ -279,7 +287,11 @@ fn run_over(
         vault: Box::new(alloc, vault)?,
         clock: Box::new(alloc, FixedClock::new(7, 7))?,
         nap: Box::new(alloc, NapSum::new())?,
-        process: process_of_nobody(alloc),
+        process: Process {
+            ledger: Ledger::new(alloc),
+            root: Text::new(alloc),
+            caller: CALLER,
+        },
     };
     let status = run_with(alloc, words, script, out, &mut world)?;
     Ok(Left {
@@ -289,7 +301,7 @@ fn run_over(
     })
 }
 
-// Runs it with the shipped modules and sixteen conversations without replies.
+// Runs it with the modules of the rows and sixteen conversations without replies.
 fn run_with(
     alloc: Global,
     words: &[String],
@@ -302,11 +314,20 @@ fn run_with(
 {
     let term: Box<dyn Conv> = Box::new(alloc, QueueConv::new(alloc))?;
     let mut convs: Vec<Box<dyn Conv>> = Vec::new(alloc);
-    for _ in 0..TRANSACTIONS {
+    for _ in 0..16 {
         convs.push(Box::new(alloc, QueueConv::new(alloc))?)?;
     }
-    let status = serve(alloc, words, convs, term, script, out, world)?;
-    Ok(status)
+    let mut mods: Vec<Box<dyn Module>> = Vec::new(alloc);
+    mods.push(Box::new(alloc, Permit::new())?)?;
+    mods.push(Box::new(alloc, Probe::new())?)?;
+    let delay = |_code: Code, asked: u32| -> u32 { asked.min(3_000_000) };
+    let desk = Desk {
+        mods,
+        convs,
+        term,
+        delay: Box::new(alloc, delay)?,
+    };
+    Ok(pamsess(alloc, words, script, out, world, desk))
 }
 
 #[test]
