@@ -93,14 +93,7 @@ fn is_name(text: &[u8]) -> bool
 fn are_name_bytes(text: &[u8]) -> bool
     ensures { result ≡ list_all is_name_byte text.now }
 {
-    let mut rest = text;
-    while let [byte, after @ ..] = rest {
-        if !is_name_byte(*byte) {
-            return false;
-        }
-        rest = after;
-    }
-    true
+    text.iter().all(|byte| is_name_byte(*byte))
 }
 
 fn is_name_byte(byte: u8) -> bool

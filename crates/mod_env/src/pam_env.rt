@@ -14,15 +14,12 @@ use crate::conf::conf_of;
 use crate::env_file::assignments_of;
 use crate::setting::{put_all, set_all};
 use account_files::pam_room::{Call, Transaction};
-use account_files::{Accounts, Content, laws, read_named};
+use account_files::{Accounts, Content, SMALL_FILE_LIMIT, laws, read_named};
 use conv_port::Conv;
 use module_acts::{Asked, Work};
 use pam_base::{Code, ConvErr, Func, NoMemory, Refuse, Text};
 use pam_outside::{Clock, Vault};
 use std::alloc::Global;
-
-/// The most bytes of either file.
-const ENV_LIMIT: u32 = 65536;
 
 /// The work of `Env`.
 pub struct EnvWork;
@@ -93,7 +90,7 @@ fn read_first(
         asked.call.value(b"conffile="),
         b"/etc/security/pam_env.conf",
     );
-    let content = read_named(asked.alloc, vault, asked.process, name, ENV_LIMIT)?;
+    let content = read_named(asked.alloc, vault, asked.process, name, SMALL_FILE_LIMIT)?;
     match text_in(asked.alloc, content) {
         None => Ok(Code::ServiceErr),
         Some(conf) => {
@@ -125,7 +122,7 @@ fn read_second(
         return set_by_texts(asked, conf, nothing, transaction, vault);
     }
     let name = name_or(asked.call.value(b"envfile="), b"/etc/environment");
-    let content = read_named(asked.alloc, vault, asked.process, name, ENV_LIMIT)?;
+    let content = read_named(asked.alloc, vault, asked.process, name, SMALL_FILE_LIMIT)?;
     let env = text_in(asked.alloc, content);
     let code = set_by_texts(asked, conf, env, transaction, vault)?;
     Ok(code)

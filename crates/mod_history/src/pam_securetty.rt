@@ -9,14 +9,11 @@ ghost use Rattle.mod_unix.specs.module_acts.specs.Uncheck.{code_unchecked};
 ghost use Rattle.mod_history.specs.Securetty.{by_account, by_list, checks_root, is_secure, is_terminal, securetty_plays, terminal_name};
 
 use account_db::without_end;
-use account_files::{Account, Accounts, Content, laws, read_named};
+use account_files::{ACCOUNT_LIMIT, Account, Accounts, Content, laws, read_named};
 use mod_unix::module_acts::{Check, Seen, account_of, code_unchecked};
 use pam_base::{Code, ItemName, Lines, NoMemory};
 use pam_outside::{Clock, Vault};
 use pam_room::{Call, get_item, value_in};
-
-/// The most bytes of the list.
-const LIST_LIMIT: u32 = 1_048_576;
 
 /// What `Securetty` decides.
 pub struct SecurettyCheck;
@@ -79,7 +76,7 @@ fn check_root(seen: &Seen, vault: &mut dyn Vault) -> Result<Code, NoMemory>
                 vault,
                 seen.process,
                 b"/etc/securetty",
-                LIST_LIMIT,
+                ACCOUNT_LIMIT,
             )?;
             Ok(by_list(terminal_name(tty), &list))
         }

@@ -5,14 +5,11 @@ ghost use Rattle.account_files.specs.Act.{StepsTo};
 ghost use Rattle.mod_unix.specs.Look.{field_in, is_x, looks, shadow_in};
 
 use account_db::{Shadow, entry_of, passwds, shadows};
-use account_files::{Content, read_named};
+use account_files::{ACCOUNT_LIMIT, Content, read_named};
 use pam_base::{NoMemory, Text};
 use pam_outside::Vault;
 use pam_room::Process;
 use std::alloc::Global;
-
-/// The most bytes of an account file.
-pub(crate) const ACCOUNT_LIMIT: u32 = 1_048_576;
 
 /// What is known of a user's password.
 #[derive(Drop)]

@@ -8,10 +8,11 @@ ghost use Rattle.account_files.specs.Act.{Yields, StepsTo};
 ghost use Rattle.mod_unix.specs.Aging.{day_of};
 ghost use Rattle.mod_unix.specs.Change.{write_result, changed_shadow, changes_shadow, stores_token};
 
-use crate::look::ACCOUNT_LIMIT;
 use crate::new_hash::hashed_token;
 use account_db::{entry_of, replace_hash, shadows};
-use account_files::{Content, hold_named, laws as act_laws, read_named, replace_named};
+use account_files::{
+    ACCOUNT_LIMIT, Content, hold_named, laws as act_laws, read_named, replace_named,
+};
 use module_acts::laws;
 use pam_base::{Code, NoMemory, Refuse, Text};
 use pam_outside::{Clock, LockKind, Vault, random_word};
