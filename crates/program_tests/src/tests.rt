@@ -16,6 +16,9 @@ use std::test::Fail;
 /// The user ID of the process: nobody.
 const CALLER: u32 = 65534;
 
+/// How many transactions may be open at a time, each with a conversation.
+const TRANSACTIONS: usize = 16;
+
 /// A run over the service file `/r/etc/pam.d/t`: the arguments, the script, the numbers of the
 /// calls of `Source`, `Sink` and `Vault` that are to fail, and the expected output and status.
 #[derive(Clone, Copy)]
@@ -314,7 +317,7 @@ fn run_with(
 {
     let term: Box<dyn Conv> = Box::new(alloc, QueueConv::new(alloc))?;
     let mut convs: Vec<Box<dyn Conv>> = Vec::new(alloc);
-    for _ in 0..16 {
+    for _ in 0..TRANSACTIONS {
         convs.push(Box::new(alloc, QueueConv::new(alloc))?)?;
     }
     let mut mods: Vec<Box<dyn Module>> = Vec::new(alloc);
