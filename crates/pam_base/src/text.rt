@@ -1,4 +1,4 @@
-ghost use Rattle.std.specs.Prelude.{◌≡◌, ◌==◌, [], ◌∷◌, ◌++◌, length, replicate, OnOk, OnErr, IfOk};
+ghost use Rattle.std.specs.Prelude.{◌≡◌, ◌==◌, ◌<◌, [], ◌∷◌, ◌++◌, length, replicate, slice_get, Some, OnOk, OnErr, IfOk};
 
 use crate::fault::NoMemory;
 use std::alloc::Global;
@@ -94,6 +94,14 @@ impl Text {
         ensures { result ≡ (length self.now == 0) }
     {
         self.vec.is_empty()
+    }
+
+    /// The byte at index i, from 0.
+    pub fn at(&self, i: usize) -> &u8
+        requires { i < length self.now }
+        ensures { slice_get self.now i ≡ Some result.now }
+    {
+        &self.vec[i]
     }
 
     pub fn bytes(&self) -> &[u8]
