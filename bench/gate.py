@@ -4,7 +4,8 @@ mutants, and the minutes of all by the clock. It looks at the processes of that 
 out.
 
   bench/gate.py [--anew] [--beyond] [--save FILE]
-      --anew     nothing is taken from earlier runs on this machine; without it only what this run proves and tries is counted
+      --anew     nothing is taken from earlier runs on this machine, also if the toolchain's `rt ci` keeps what it has proved; only what
+                 this run proves and tries is counted
       --beyond   the mutants of audit/edits are tried beside those of CI, in a copy of the checkout, and counted apart
       --save     keeps the figures
   bench/gate.py --watch PROCESS [--save FILE]
@@ -168,6 +169,12 @@ def table(costs):
         yield f"Mutants beyond the gate: {total[BEYOND] / 60:.0f} more."
 
 
+def keeps_proofs():
+    """Whether the toolchain's `rt ci` takes what an earlier run proved, unless it gets --anew."""
+    told = subprocess.run(["rt", "help"], capture_output=True, text=True, check=False)
+    return "--anew" in told.stdout + told.stderr
+
+
 def load(files):
     costs = {}
     for name in files:
@@ -198,7 +205,7 @@ def main(words):
         if begins:
             sys.exit(__doc__.strip())
         return measure(Watched(watched), TOP, save)
-    ci = ["rt", "ci", *(["--anew"] if "--anew" in begins else [])]
+    ci = ["rt", "ci", *(["--anew"] if "--anew" in begins and keeps_proofs() else [])]
     if "--beyond" not in begins:
         return measure(subprocess.Popen(ci, cwd=TOP), TOP, save)
     with tempfile.TemporaryDirectory(prefix="gate-") as room:
