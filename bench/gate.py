@@ -9,7 +9,7 @@ out.
       --beyond   the mutants of audit/edits are tried beside those of CI, in a copy of the checkout, and counted apart
       --save     keeps the figures
   bench/gate.py --watch PROCESS [--save FILE]
-      measures an `rt ci` that was begun elsewhere, or what runs it (.ci/run), from now to its end
+      measures an `rt ci` that was begun elsewhere, or what runs it (.ci/run), or a ./build, from now to its end
   bench/gate.py --load FILE..
       the table of figures that were kept; of a share that several have, the largest counts
 """
@@ -67,7 +67,7 @@ def is_edited(room, crate, edit):
     return all(text_of(f"{room}/{path}") == text for path, text in texts.items())
 
 
-def share_of(process, top):
+def share_of(process):
     """The crate and the share that a process works for, if it is one of the checker's."""
     words = text_of(f"/proc/{process}/cmdline").split("\0")
     if "--crate-name" not in words:
@@ -77,7 +77,7 @@ def share_of(process, top):
     if not os.path.basename(room).startswith("rt-edit-"):
         return crate, "tests" if "--test" in words else "proof"
     folder = f"{TOP}/audit/edits/{crate}"
-    further = [f"{folder}/{name}" for name in os.listdir(folder)] if top != TOP and os.path.isdir(folder) else []
+    further = [f"{folder}/{name}" for name in os.listdir(folder)] if os.path.isdir(folder) else []
     return crate, BEYOND if any(is_edited(room, f"{TOP}/crates/{crate}", edit) for edit in further if edit.endswith(".edit")) else "edits"
 
 
@@ -121,7 +121,7 @@ class Watched:
         return None if processes().get(self.pid, (0, 0, None))[2] == self.begun else 0
 
 
-def measure(run, top, save):
+def measure(run, save):
     """The seconds of each crate's shares in a run of CI, when it has ended. What was measured is saved twice a minute, for a run
     that is cut off."""
     shares, seconds, began = {}, {}, time.monotonic()
@@ -132,7 +132,7 @@ def measure(run, top, save):
             if is_below(process, run.pid, found):
                 key = process, begun
                 try:
-                    shares[key] = shares.get(key) or share_of(process, top)
+                    shares[key] = shares.get(key) or share_of(process)
                 except OSError:
                     continue
                 seconds[key] = used
@@ -204,13 +204,13 @@ def main(words):
     if watched is not None:
         if begins:
             sys.exit(__doc__.strip())
-        return measure(Watched(watched), TOP, save)
+        return measure(Watched(watched), save)
     ci = ["rt", "ci", *(["--anew"] if "--anew" in begins and keeps_proofs() else [])]
     if "--beyond" not in begins:
-        return measure(subprocess.Popen(ci, cwd=TOP), TOP, save)
+        return measure(subprocess.Popen(ci, cwd=TOP), save)
     with tempfile.TemporaryDirectory(prefix="gate-") as room:
         lay_beside(room)
-        return measure(subprocess.Popen(ci, cwd=room), room, save)
+        return measure(subprocess.Popen(ci, cwd=room), save)
 
 
 if __name__ == "__main__":
