@@ -2,7 +2,8 @@
 use Rattle.std.specs.Prelude.{◌≡◌, ℕ, ◌<◌, Bool, true, false, List, [], ◌∷◌, ◌++◌, length, Some, Result, Ok}
 use Rattle.item_stream.specs.Run.{Looks, Refuses, ItemStep, Run, run_of}
 
--- No bytes hold no item, and bytes that wait for more are the last item if the input ends there.
+-- An empty input has no items, and bytes that wait for more are the last item if the input ends
+-- there.
 pub record Cuts (looked : Looks) : Type 0 where
   pub none : (n : ℕ) (ended : Bool) → looked n [] ended ≡ []
   pub rest : (n : ℕ) (held : List ℕ) → looked n held false ≡ [] → 0 < length held

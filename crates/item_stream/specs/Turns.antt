@@ -35,8 +35,8 @@ StopsAt step Fails NoMemory n None c d written = (d ≡ c) × (written ≡ [])
 StopsAt step Fails NoMemory n (Some item) c d written = IsBegun step Fails n item c d
     × (written ≡ [])
 
--- One item is served: it is applied and its text is written, or it is refused and nothing happens, or the run stops in
--- it or before it.
+-- One item is served: it is applied and its text is written; it is refused and nothing happens; or
+-- the run stops in it or before it.
 abbrev pub Serves : {State Kind : Type 0} → ItemStep State Kind → (State → List ℕ → State → Type 0)
     → Result (Option Kind) Stop → ℕ → List ℕ → State
     → State → List ℕ → Type 0

@@ -2,7 +2,7 @@
 use Rattle.std.specs.Prelude.{◌≡◌, ◌+◌, ◌≤◌, List, ℕ, ◌++◌, length}
 use Rattle.pam_outside.specs.Streams.{SinkState}
 
--- some text was written, with at most one call more than it has bytes
+-- some text was written, with at most one more call than it has bytes
 pub record WritesText (old new : SinkState) : Type 0 where
   pub text : List ℕ
   pub written : new.written ≡ old.written ++ text

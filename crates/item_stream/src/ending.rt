@@ -30,7 +30,7 @@ impl From<NoMemory> for Stop {
     }
 }
 
-/// A failed write stops a run, so `?` is for calls that write.
+/// A failed write stops a run, so `?` works for calls that write.
 impl From<Failed> for Stop {
     ghost use Rattle.std.specs.Prelude.{◌≡◌};
     ghost use Rattle.item_stream.specs.declared.ending.Stop.{Stop};

@@ -4,7 +4,7 @@ use crate::stepping::Stepping;
 
 // The laws of this crate, for the proofs of its callers.
 
-/// Before the first byte there was no turn yet; the run may also run out of memory there.
+/// Before the first byte there was no turn yet; memory may also run out there.
 pub fn first_turn<R: Stepping>()
     ensures none_yet { (setting : R.Setting) → NoTurnYet R.looked (R.step setting)
         (R.fails setting) }

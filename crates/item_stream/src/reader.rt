@@ -44,7 +44,7 @@ impl Model for Reader {
     ghost invariant = { λ r. (1093 ≤ vec_capacity r.held) × (r.handed ≤ length r.held.items) };
 }
 
-/// The first item of the bytes held.
+/// What the bytes held begin with.
 #[derive(Clone, Copy)]
 pub enum NextItem {
     /// An item: the number of its bytes, and the number of bytes before the next one.

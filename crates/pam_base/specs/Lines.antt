@@ -42,7 +42,7 @@ cut-line (b ∷ bs) more e =
     let both = neither (eqb b 10) (has_byte 10 bs) e in
     rw (both.0, cut-line bs more both.1) refl
 
--- bytes without a newline are no complete line
+-- bytes without a newline aren't a complete line
 pub cut-part : (part : List ℕ) → has_byte 10 part ≡ false
     → cut part ≡ record { lines = []; rest = part }
 unfolding cut

@@ -12,7 +12,7 @@ quoted_byte b =
     else if nat_le 32 b && nat_le b 126 then b ∷ []
     else codes "\\x" ++ (hex_digit (b / 16) ∷ hex_digit (b % 16) ∷ [])
 
--- a number that is no byte counts modulo 256
+-- a number that isn't a byte counts modulo 256
 abbrev pub quoted_rest : ℕ → List ℕ
 quoted_rest b = quoted_byte (b % 256)
 

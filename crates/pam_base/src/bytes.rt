@@ -7,7 +7,8 @@ use crate::fault::NoMemory;
 use crate::text::Text;
 use std::alloc::Global;
 
-/// The position of the byte's first occurrence in the text, from 0; None if and only if there is none.
+/// The position of the byte's first occurrence in the text, from 0; None if and only if it doesn't
+/// occur.
 pub fn first_place(byte: u8, text: &[u8]) -> Option<usize>
     ensures { IsFirstPlace result byte text.now }
 {

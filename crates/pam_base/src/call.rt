@@ -105,7 +105,7 @@ pub enum AppCall {
     FailDelay { micros: u32 },
     /// Switches the application's own delay function (PAM_FAIL_DELAY) on or off.
     DelayFn { on: bool },
-    /// A reply that the conversation gives to a later prompt.
+    /// Stores a reply that the conversation gives to a later prompt.
     Reply { text: Text },
 }
 

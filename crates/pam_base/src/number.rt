@@ -6,7 +6,7 @@ ghost use Rattle.pam_base.specs.Number.{is_numeral, number_of_word, value_of_dig
 const MAX_DIGITS: usize = 10;
 
 /// The number that a word means: 1 to 10 decimal digits, leading zeros allowed, with a value of at most 4,294,967,295.
-/// None for exactly all other words.
+/// None for all other words.
 pub fn number_in(word: &[u8]) -> Option<u32>
     ensures { result ≡ number_of_word word.now }
 {

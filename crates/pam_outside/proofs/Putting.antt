@@ -1,4 +1,5 @@
--- A file is set under its path, or added after the others; then it is found, as the others are.
+-- A file is replaced under its path, or added after the others; then it is found, and so are the
+-- others.
 use Rattle.std.proofs.Common.{◌≡◌, ◌≢◌, ◌∙◌, sym, ℕ, zero, suc, ◌<◌, Bool, true, false, cond, List, [], ◌∷◌, ◌++◌, length, get_or, set, Some, None, refl, ap, arith}
 use Rattle.std.specs.List.{position, position_or_len}
 use Rattle.std.specs.Str.{bytes_eq}

@@ -1,4 +1,5 @@
--- Counts of calls and of failures, from pam_base, and a source's count of reads at its end (this project's own).
+-- What happens to a count of failures, and to a source's count of reads at its end (this project's
+-- own).
 pub use Rattle.pam_base.specs.Counts.{next_count, Rose, fails_next}
 use Rattle.std.specs.Prelude.{◌≡◌, ℕ, ◌==◌, if◌then◌else◌, Bool, true, false}
 

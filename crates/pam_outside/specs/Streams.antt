@@ -28,8 +28,8 @@ pub record Writes (result : Result ℕ Failed) (piece : List ℕ) (old new : Sin
   pub some : IfOk result (λ n. new.written ≡ old.written ++ take n piece)
   pub none : OnErr result (new.written ≡ old.written)
 
--- a prefix of the text is written, with at most one call more than it has bytes; all of it if nothing failed, and then
--- with at most as many calls as it has bytes
+-- a prefix of the text is written, with at most one more call than it has bytes; all of it if
+-- nothing failed, and then with at most as many calls as it has bytes
 pub record WritesWhole {T : Type 0} (result : Result T Failed) (text : List ℕ)
     (old new : SinkState) : Type 0 where
   pub front : List ℕ

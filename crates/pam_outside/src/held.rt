@@ -7,10 +7,11 @@ use std::os::unix::fs::{MetadataExt, OpenOptionsExt};
 use std::thread;
 use std::time::Duration;
 
-/// Which lock keeps the other writers of a file out.
+/// Which lock keeps other writers of a file out.
 #[derive(Clone, Copy, Debug)]
 pub enum LockKind {
-    /// A record lock by fcntl(2), which keeps out whoever locks the file as lckpwdf(3) does.
+    /// A record lock by fcntl(2), which keeps out other programs that lock the file as lckpwdf(3)
+    /// does.
     Record,
     /// A lock of the whole file by flock(2).
     Whole,
@@ -43,9 +44,10 @@ impl Held {
 // The number of attempts at a lock, a tenth of a second apart: 15 seconds, as in lckpwdf(3).
 const TRIES: u32 = 150;
 
-/// Locks the file at this path, and makes it if it doesn't exist; tries for 15 seconds. If its directory doesn't exist,
-/// nothing is locked. Failed is returned if another process keeps its lock, for a path that isn't UTF-8, for what isn't
-/// a regular file, and for any other error of the system; then nothing is locked.
+/// Locks the file at this path, which is made if it doesn't exist; tries for 15 seconds. If its
+/// directory doesn't exist, nothing is locked. Failed is returned if another process keeps its
+/// lock, for a path that isn't UTF-8, if the path names something other than a regular file, and
+/// for any other error of the system; then nothing is locked.
 pub fn hold_path(rt: &HostRuntime, path: &[u8], kind: LockKind) -> Result<Held, Failed> {
     let path = str::from_utf8(path).map_err(|_| Failed)?;
     match locked(rt, path, kind) {
@@ -71,7 +73,8 @@ fn locked(rt: &HostRuntime, path: &str, kind: LockKind) -> io::Result<Lock> {
 
 // None if another process has the lock.
 fn record_lock(rt: &HostRuntime, path: &str) -> io::Result<Option<Lock>> {
-    // The file is made here, so that only its owner may open it: whoever may open it may lock it.
+    // The file is made here, so that only its owner may open it: anyone who may open it may lock
+    // it.
     let _file = opened(rt, path)?;
     match sqlite_std_file::open(rt, path, Unknown) {
         Ok(files) => {
@@ -84,7 +87,8 @@ fn record_lock(rt: &HostRuntime, path: &str) -> io::Result<Option<Lock>> {
     }
 }
 
-// The file that Rattle's library makes beside a database. Only the process with the lock has it.
+// The file that Rattle's library makes beside a database. Only the process that has the lock uses
+// it.
 fn remove_log(rt: &HostRuntime, path: &str) -> io::Result<()> {
     let log = format!(in rt.alloc(); "{path}-wal")?;
     fs::remove_file(rt, log.as_str())

@@ -34,8 +34,8 @@ impl Model for MemSink {
 }
 
 impl MemSink {
-    /// An empty sink with room for n bytes, which is allocated here and not later. `fails` has the numbers, from 1, of
-    /// the writes planned to fail.
+    /// An empty sink with room for n bytes, all of which is allocated here. `fails` has the
+    /// numbers, from 1, of the writes planned to fail.
     pub fn new(alloc: Global, room: usize, fails: Numbers) -> Result<MemSink, NoMemory>
         ensures { IfOk result
             (λ sink. sink ≡ record {

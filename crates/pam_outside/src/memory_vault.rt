@@ -157,7 +157,7 @@ impl Vault for MemVault {
         }
     }
 
-    /// Nobody else has these files.
+    /// No other process has these files.
     fn hold(&mut self, _path: &[u8], _kind: LockKind) -> Result<Held, Failed> {
         Ok(Held::nothing())
     }

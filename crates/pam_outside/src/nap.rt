@@ -1,7 +1,7 @@
 ghost use Rattle.std.specs.Prelude.{◌≡◌, Bool, IsTrue};
 ghost use Rattle.pam_outside.specs.Time.{NapState, rested};
 
-/// How the program waits.
+/// How the program sleeps.
 pub trait Nap: Drop {
     /// Whether contracts know its content: it is modelled. This never changes.
     ghost nap_tells: { Self → Bool };

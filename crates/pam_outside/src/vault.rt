@@ -18,7 +18,7 @@ pub enum VaultFault {
     Failed,
 }
 
-/// Why a file isn't replaced, or a directory not looked for.
+/// Why a file couldn't be replaced, or a directory not be looked up.
 #[derive(Clone, Copy, Debug, PartialEq, Eq)]
 pub enum ReplaceFault {
     NoMemory,
@@ -28,9 +28,10 @@ pub enum ReplaceFault {
 
 /// Files by their paths, as in a directory.
 ///
-/// Each call except `hold` counts one call, and leaves the numbers of the calls planned to fail. If the store is
-/// modelled, Failed is returned exactly at these calls, and takes precedence over every other result, NoMemory too.
-/// With real files Failed is returned only if the count of failures rose, and the count rises with no other result.
+/// Each call except `hold` is counted, and leaves the numbers of the calls planned to fail
+/// unchanged. If the store is modelled, Failed is returned exactly at these calls, and takes
+/// precedence over every other result, NoMemory too. With real files Failed is returned only if the
+/// count of failures rose, and the count rises with no other result.
 pub trait Vault: Drop {
     /// Whether contracts know its content: it is modelled. This never changes.
     ghost vault_tells: { Self → Bool };

@@ -8,8 +8,8 @@ use std::io::{self, ErrorKind, Write};
 use std::os::unix::fs::{MetadataExt, OpenOptionsExt, fchown};
 use std::rt::{Clock as SystemClock, Files};
 
-/// Writes a file beside the old one and renames it to the path, so that the path never names a partly written file,
-/// whoever else writes it.
+/// Writes a file beside the old one and renames it to the path, so that the path never names a
+/// partly written file, even if others write it, too.
 pub fn replace_beside(
     rt: &HostRuntime,
     alloc: Global,
@@ -43,8 +43,9 @@ const TRIES: u32 = 64;
 // The suffix of the name of a file that is being written.
 const ENDING: &str = ".pamsess-new";
 
-// A new file that only its owner may read, locked until it is closed; None if the name is taken. Whoever removes what
-// killed writers left takes the lock first, so a file that is locked and still has its name stays.
+// A new file that only its owner may read, locked until it is closed; None if the name is taken.
+// Processes that remove the files of killed writers take the lock first, so a file that is locked
+// and still has its name stays.
 fn made(rt: &HostRuntime, beside: &str) -> io::Result<Option<File>> {
     let file = OpenOptions::new()
         .write(true)
@@ -65,8 +66,8 @@ fn made(rt: &HostRuntime, beside: &str) -> io::Result<Option<File>> {
 }
 
 // If it fails before the rename, the new file is removed while it is still locked. If only the last sync fails, the new
-// file has the name and nobody knows whether it will after a power cut: Failed too, since what is said to be done is on
-// the disk.
+// file has the name and nobody knows whether it will after a power cut: then Failed is returned,
+// too, since success means that the file is on the disk.
 fn write_and_rename(
     rt: &HostRuntime,
     mut file: File,

@@ -18,7 +18,7 @@ impl<T: Drop> Model for Counted<T> {
 }
 
 impl<T: Drop> Counted<T> {
-    /// One that hasn't failed yet.
+    /// A reader or writer that hasn't failed yet.
     pub fn new(inner: T) -> Self
         ensures { result ≡ record { inner = inner; faults = 0 } }
     {

@@ -24,7 +24,8 @@ pub struct FolderVault {
     faults: u64,
     /// The buffer of a read, so that it isn't cleared for each.
     piece: [u8; CHUNK],
-    /// The files that stay open. Each is read anew, but opened again only if its path names another one by now.
+    /// The files that stay open. Each is read again every time, but opened again only if its path
+    /// names another file by now.
     held: Vec<HeldFile>,
 }
 
@@ -60,8 +61,8 @@ impl Vault for FolderVault {
     ghost vault_faults = { λ v. v.faults };
 
     /// Absent is returned if the system says that there is no such file, or no directory on the way to it, and only
-    /// then. What isn't a regular file is Failed, and isn't opened; so are a path that the system refuses, and any
-    /// other error.
+    /// then. Failed is returned, without opening it, for what isn't a regular file; also for a path
+    /// that the system refuses, and for any other error.
     fn read(&mut self, alloc: Global, path: &[u8], limit: u32) -> Result<Text, VaultFault>
         ensures bound { IfOk result (λ text. length text ≤ limit) }
         ensures tells { ⟦<FolderVault as Vault>⟧.vault_tells self.new ≡
@@ -192,8 +193,8 @@ impl Vault for FolderVault {
 
 impl FolderVault {
     // The type of the file is checked before it is opened, so that opening anything but a regular file can't block. The
-    // same check finds out whether the file is already open, and its size; files in /proc claim to have no bytes, and
-    // have some.
+    // same check finds out whether the file is already open, and its size; files in /proc have a
+    // size of 0 although they have content.
     fn file_bytes(&mut self, alloc: Global, path: &[u8], limit: u32) -> Result<Text, VaultFault>
         ensures bound { IfOk result (λ text. length text ≤ limit) }
         ensures not_text { ¬ (IsUtf8 path.now) → result ≡ Err VaultFault.Failed }

@@ -6,7 +6,7 @@ use std::os::unix::fs::MetadataExt;
 /// The number of files that stay open.
 const MOST: usize = 8;
 
-/// The permission bits by which its owner, its group and all others may read a file.
+/// The permission bits that allow the owner, the group and all others to read a file.
 const EVERYBODY: u32 = 0o444;
 
 /// A file that was opened by a path, and its state then. As long as it is open, no other file has its device and inode.
@@ -18,7 +18,7 @@ pub(crate) struct HeldFile {
 }
 
 /// Takes out the file that was opened by this path, if the path still names it, with the same permissions; else it is
-/// closed. A file that is written, or gets another owner or mode, has another time of change.
+/// closed. Writing a file, and changing its owner or mode, changes its ctime.
 pub(crate) fn take_held(
     held: &mut Vec<HeldFile>,
     path: &[u8],
@@ -44,8 +44,9 @@ pub(crate) fn take_held(
 }
 
 /// Lets a file stay open; if there are too many, another one is closed. Only a regular file that everybody may read
-/// stays open, so that no secrets are within reach of what the process becomes later; and none of a file system that
-/// gives all files the inode number 0, since files can't be distinguished there. If memory runs out, it is closed.
+/// stays open, so that a program that the process executes later gets no secrets; and none of a
+/// file system that gives all files the inode number 0, since files can't be distinguished there.
+/// If memory runs out, it is closed.
 pub(crate) fn put_held(held: &mut Vec<HeldFile>, file: HeldFile) {
     let then = &file.then;
     if !then.is_file() || then.ino() == 0 || then.mode() & EVERYBODY != EVERYBODY {

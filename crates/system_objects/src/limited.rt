@@ -11,8 +11,8 @@ use std::io::Read;
 /// The number of bytes read at once.
 pub const CHUNK: usize = 4096;
 
-/// Everything that a reader has left, if that is at most n bytes, read through a small buffer. TooLong is returned only
-/// if it is more, Failed only if the reader gave an error, and Absent never.
+/// Reads everything that a reader has left, at most n bytes, through a small buffer. TooLong is
+/// returned only if there is more, Failed only if the reader returned an error, and Absent never.
 pub fn read_to_limit<F: Read + Drop>(
     alloc: Global,
     source: &mut ReaderSource<F>,
@@ -32,8 +32,8 @@ pub fn read_to_limit<F: Read + Drop>(
     read_until(alloc, source, piece, limit, None)
 }
 
-/// As read_to_limit, for a regular file of this size: a read that reaches the size and returns fewer bytes than
-/// requested is the last.
+/// Like `read_to_limit`, for a regular file of this size: a read that reaches the size and returns
+/// fewer bytes than requested is the last.
 pub fn read_of_size<F: Read + Drop>(
     alloc: Global,
     source: &mut ReaderSource<F>,

@@ -2,7 +2,7 @@ use std::fs::File;
 use std::io::{self, Read};
 use std::os::unix::fs::FileExt;
 
-/// Reads an open file from an offset on, wherever an earlier reader of it stopped.
+/// Reads an open file from an offset on, wherever an earlier read stopped.
 #[derive(Drop)]
 pub(crate) struct ReadAt<'f> {
     pub(crate) file: &'f File,

@@ -5,7 +5,7 @@ use std::rt::Clock as SystemClock;
 use std::thread;
 use std::time::Duration;
 
-/// Waits by the clock of a runtime that `main` gets. It isn't modelled.
+/// Sleeps, by the clock of a runtime that `main` gets. It isn't modelled.
 #[derive(Drop)]
 pub struct SleepNap<R: SystemClock + Drop> {
     rt: R,
