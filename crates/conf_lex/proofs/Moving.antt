@@ -1,4 +1,4 @@
--- Leaving bytes after, up to the first NUL byte.
+-- What follows some bytes can be left out from the first NUL byte on.
 use Rattle.std.proofs.Common.{◌≡◌, ℕ, zero, suc, ◌+◌, ◌-◌, ◌≤◌, ◌<◌, true, false, cond, eqb, List, [], ◌∷◌, ◌++◌, length, take, drop, Option, Some, None, get_or, refl, sym, ap, ◌∙◌, arith, inl, inr, length-append}
 use Rattle.std.proofs.lemmas.Bool.{eqb-true}
 use Rattle.std.proofs.lemmas.List.Sums.{count_by-le-length}
@@ -143,7 +143,7 @@ line_ends (b ∷ bs) = elim (which (eqb b 10)) [ inl y ↦ rw y y | inr z ↦ rw
 pub line_lines : (t : List ℕ) → 0 ≡ newlines (take (length (rest_of_line t)) t)
 line_lines t = sym (no_newlines (take (length (rest_of_line t)) t) (line_one t))
 
--- ---- a NUL byte is no part of a join or an escape
+-- ---- a NUL byte isn't part of a join or an escape
 
 pub join_before : (t : List ℕ) → join_at (before_nul t) ≡ join_at t
 join_before [] = refl

@@ -137,7 +137,8 @@ abbrev pub with_front : List RawRule → Result (List RawRule) LexFault
 with_front front (Ok rules) = Ok (front ++ rules)
 with_front front (Err f) = Err f
 
--- unless memory ran out, a line has these tokens or this fault, and the other lines what is left
+-- unless memory ran out, a line has these tokens or this fault, and the rest of the text gives the
+-- other lines
 abbrev pub GivesLine : Result (List Token) (Refuse LexFault) → Result (List RawRule) LexFault → ℕ
     → Result (List RawRule) LexFault → Type 0
 GivesLine (Ok tokens) all first left = all ≡ with_front (rule_at first tokens) left

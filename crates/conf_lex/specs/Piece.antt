@@ -80,7 +80,7 @@ piece_tokens _ = []
 abbrev pub tokens_of : List Piece → List Token
 tokens_of ps = flat_map piece_tokens ps
 
--- a newline that ends a line (pam.conf(5)); one that a join has is none
+-- a newline that ends a line (pam.conf(5)), unlike the newline of a join
 abbrev pub is_newline : Piece → Bool
 is_newline newline = true
 is_newline _ = false
@@ -123,19 +123,19 @@ has_join (Some j) = true
 abbrev pub begins_join : List ℕ → Bool
 begins_join text = has_join (join_at text)
 
--- a plain token goes on at a byte that is no white space, `#` or newline and begins no join (pam.conf(5); `#` ends
--- it, own)
+-- a plain token continues with a byte that isn't white space, `#` or a newline and doesn't begin a
+-- join (pam.conf(5); `#` ends it, own)
 abbrev pub goes_on : List ℕ → Bool
 goes_on [] = false
 goes_on (b ∷ bs) = not (is_white b || b == 35 || b == 10 || begins_join (b ∷ bs))
 
--- whether it goes on at each byte of the run, judged with what follows the run (own)
+-- whether it continues with each byte of the run, given what follows the run (own)
 abbrev pub all_go_on : List ℕ → List ℕ → Bool
 all_go_on [] rest = true
 all_go_on (b ∷ bs) rest = goes_on (b ∷ (bs ++ rest)) && all_go_on bs rest
 
--- a byte in brackets that means itself (pam.conf(5), own): no `]`, no newline, no backslash before
--- `]`, and it begins no join
+-- a byte in brackets that means itself (pam.conf(5), own): not `]`, a newline, a backslash before
+-- `]`, or the beginning of a join
 abbrev pub is_single : List ℕ → Bool
 is_single [] = false
 is_single (b ∷ bs) = not (b == 93 || b == 10 || (b == 92 && begins_with 93 bs)

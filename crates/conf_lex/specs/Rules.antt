@@ -18,8 +18,8 @@ abbrev pub in_front : Piece → List (List Piece) → List (List Piece)
 in_front p [] = (p ∷ []) ∷ []
 in_front p (l ∷ ls) = (p ∷ l) ∷ ls
 
--- the pieces of each joined line (pam.conf(5): a rule is a line, with those joined to it): a newline that is no part
--- of a join ends one
+-- the pieces of each joined line (pam.conf(5): a rule is a line, with those joined to it): it ends
+-- at a newline that isn't part of a join
 abbrev pub lines_of_pieces : List Piece → List (List Piece)
 lines_of_pieces [] = [] ∷ []
 lines_of_pieces (p ∷ ps) = if is_newline p then [] ∷ lines_of_pieces ps

@@ -247,7 +247,7 @@ impl<'a> Lexer<'a> {
         Ok(line)
     }
 
-    /// Skips the newline that ends a joined line, unless this is the end.
+    /// Skips the newline that ends a joined line, unless the text ends here.
     fn newline(&mut self)
         requires fits { self.old.line + length self.old.rest.now < 2 ^ 32 }
         requires ends { at_line_end (before_nul self.old.rest.now) ≡ true }

@@ -54,7 +54,7 @@ module _ (name : List ℕ) where
   with_name-end [] = all-end []
   with_name-end (b ∷ bs) = with_name-by b bs (eqb b 61) refl
 
--- a test that the first byte fails looks on after it
+-- a search whose test the first byte fails continues after it
 pub from_first-later : (test : ℕ → Bool) (b : ℕ) (bs : List ℕ) → test b ≡ false → from_first test (b ∷ bs) ≡ from_first test bs
 from_first-later test b bs e =
     let n : 1 + position_or_len test bs ≡ suc (position_or_len test bs) = omega arith in
@@ -123,7 +123,7 @@ entries-later : (b : ℕ) (bs : List ℕ) → is_white b ≡ true → entries_in
 unfolding entries_in entries_behind
 entries-later b bs space = rw (space, entries_behind) refl
 
--- whether there is no white space at the beginning
+-- whether the text doesn't begin with white space
 abbrev pub starts : List ℕ → Bool
 starts [] = true
 starts (b ∷ bs) = is_other b
@@ -133,7 +133,7 @@ entries-after_space-by : (b : ℕ) (bs : List ℕ) (is : Bool) → is_white b �
 entries-after_space-by b bs true e h = entries-later b bs e ∙ h ∙ ap entries_in (sym (from_first-later is_other b bs (ap not e)))
 entries-after_space-by b bs false e h = ap entries_in (sym (from_first-here is_other b bs (ap not e)))
 
--- white space at the beginning is no part of an entry
+-- white space at the beginning isn't part of an entry
 pub entries-after_space : (text : List ℕ) → entries_in text ≡ entries_in (after_space text)
 entries-after_space [] = refl
 entries-after_space (b ∷ bs) = entries-after_space-by b bs (is_white b) refl (entries-after_space bs)

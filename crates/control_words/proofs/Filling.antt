@@ -93,7 +93,7 @@ named_with-set codes.BadItem action old = refl
 named_with-set codes.ConvAgain action old = refl
 named_with-set codes.Incomplete action old = refl
 
--- `default` is no code's word
+-- `default` isn't the word of a code
 abbrev code_of_folded : List ℕ → Option Code
 code_of_folded folded = find (λ code. list_any (λ word. bytes_eq folded (str_to_ascii_lowercase word)) (name_of code ∷ other_words code)) all_codes
 

@@ -1,4 +1,4 @@
--- The definition of controls, computed on worked rows.
+-- The definition of controls, computed on test cases.
 use Rattle.std.proofs.Common.{◌≡◌, true, false, Ok, Err, refl}
 use Rattle.std.specs.Prelude.{codes}
 use Rattle.pam_base.specs.declared.fault.FaultKind.TheVariants.{BadControl, BadReturnName, BadAction, ZeroJump}

@@ -34,7 +34,7 @@ depth (line rule rest) = depth rest
 depth (sub inner rest) = max (depth inner + 1) (depth rest)
 
 abbrev mutual
-  -- the stack with a node before it
+  -- the stack with one more node before it
   pub node_on : Node → Stack → Stack
   node_on (Line rule) rest = line rule rest
   node_on (Sub' shape all) rest = sub (row_stack all) rest

@@ -18,7 +18,7 @@ table_of entries = record {
   default = last_action is_default entries;
 }
 
--- a code's place in the table, with an action
+-- the table with an action at a code's index
 abbrev pub named_with : Option Code → Option Action → List (Option Action) → List (Option Action)
 named_with None action named = named
 named_with (Some code) action named = slice_set named (number_of code) action

@@ -1,4 +1,4 @@
--- The calls and openings that a look counts.
+-- The calls and openings that a check counts.
 use Rattle.std.proofs.Common.{◌≡◌, ℕ, ◌+◌, ◌-◌, ◌≤◌, ◌^◌, min, Bool, true, false, cond, leb, ltb, List, [], ◌∷◌, Option, Result, Ok, Err, refl, sym, arith}
 use Rattle.pam_base.specs.declared.fault.FaultKind.{FaultKind}
 use Rattle.pam_outside.specs.Counts.{fails_next}
@@ -12,7 +12,7 @@ use Rattle.service_load.specs.Order.{Item, begin, opening, checked, made, Opener
 passed : (a b : Counts) → ◌≡◌ {A = Result Counts Stop} (Ok a) (Ok b) → a ≡ b
 passed a b e = cc
 
--- a choice that ends at a fault in its first case was made the other way
+-- if a choice would end at a fault in its first case and didn't, the other case was taken
 otherwise : (b : Bool) (s : Stop) (r : Result Counts Stop) (c : Counts) → cond b (Err s) r ≡ Ok c → r ≡ Ok c
 otherwise true s r c e = absurd cc
 otherwise false s r c e = e

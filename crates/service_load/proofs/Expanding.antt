@@ -22,7 +22,7 @@ use Rattle.service_load.specs.Loading.{texts_of, counts_of, Looks, OnlyCalls, Ad
 use Rattle.service_load.specs.Order.{Item, Opener, by_rule, made, content_items}
 use Rattle.service_load.specs.Tree.{content_nodes}
 
--- ---- stacks after one another
+-- ---- stacks, one after another
 
 pub joined-none : (s : Stack) → joined s none ≡ s
 joined-none none = refl
@@ -97,7 +97,7 @@ grows_on level was is on before now after g h = record {
   deep = λ n le left. h.deep n (g.deep n le left) left;
 }
 
--- ---- a look
+-- ---- a check
 
 module _ (texts : List ℕ → Option (List ℕ)) (fails : List ℕ) where
   on-on : (r : Result Counts Stop) (f g : Counts → Result Counts Stop) → going_on (going_on r f) g ≡ going_on r (λ c. going_on (f c) g)
@@ -143,7 +143,7 @@ module _ (texts : List ℕ → Option (List ℕ)) (fails : List ℕ) where
       nodes = g.nodes ∙ sym (joined-joined now its_nodes (entries_nodes texts level type left)) ∙ ap (λ (s : Stack). joined s (entries_nodes texts level type left)) (sym added);
     }
 
-    -- an entry that stops the look
+    -- an entry that stops the check
     pub going_stops : (s : Stop) → Going was is level type name all (e ∷ left) before now → look texts fails is its_items ≡ Err s
         → look texts fails was (entries_items texts level type name all) ≡ Err s
     going_stops s g stops = g.looks ∙ look_stops is s its_items (entries_items texts level type name left) stops
@@ -237,7 +237,7 @@ module _ (texts : List ℕ → Option (List ℕ)) (fails : List ℕ) where
       → Going was was level type name all all before before
   going_none was level type name all before = record { looks = refl; nodes = refl }
 
-  -- all entries were gone through
+  -- all entries were processed
   going_end : (was is : Counts) (level : ℕ) (type : RuleType) (name : List ℕ) (all : List ConfigEntry) (before now : Stack)
       → Going was is level type name all [] before now → look texts fails was (entries_items texts level type name all) ≡ Ok is
   unfolding look
@@ -245,7 +245,7 @@ module _ (texts : List ℕ → Option (List ℕ)) (fails : List ℕ) where
 
 -- ---- over files of which only the calls have changed
 
--- what a part of a load brings, said of the files as they were
+-- what a part of a load brings, stated for the files as they were
 pub record Since {A : Type 0} (r : Result A (Refuse LoadFault)) (root : List ℕ) (first old new : VaultState) (was is : Loader) (items : List Item) (before after added : Stack) : Type 0 where
   pub looks : Looks r (look (texts_of root first) first.fails (counts_of was old) items) (counts_of is new)
   pub nodes : OnOk r (after ≡ joined before added)
@@ -277,7 +277,7 @@ module _ (root : List ℕ) (first old now : VaultState) (was opened is : Loader)
   abbrev whole : Type 0
   whole = Brings {A = Bool} (Ok true) (texts_of root first) first now was is (items_at (texts_of root first) level type opener file) before after (nodes_at (texts_of root first) level type file)
 
-  -- and gone through to its end
+  -- and processed to its end
   pub brings_all : IsOpened
       → Going (texts_of root first) first.fails (counts_of opened old) (counts_of is now) level type file.name entries [] before after
       → OnlyCalls first now → whole
@@ -295,7 +295,7 @@ module _ (root : List ℕ) (first old now : VaultState) (was opened is : Loader)
   brings_stop (refusals.Named f) opens looks only = record { looks = opens.0 ∙ looks; nodes = tt; stays = only }
   brings_stop refusals.NoMemory opens looks only = record { looks = tt; nodes = tt; stays = only }
 
-  -- it isn't there, and needn't be
+  -- it doesn't exist, and doesn't have to
   pub brings_absent : Opens (texts_of root first) (Ok None) first.fails (counts_of was first) (counts_of is now) level type opener file
       → after ≡ before → OnlyCalls first now
       → Brings {A = Bool} (Ok false) (texts_of root first) first now was is (items_at (texts_of root first) level type opener file) before after (nodes_at (texts_of root first) level type file)

@@ -98,7 +98,7 @@ module _ (texts : List ℕ → Option (List ℕ)) (fails : List ℕ) (file : Rul
       let first = fine_on r.line (entry_of (is_in_folder file) r) (checked_entries (is_in_folder file) rs) es is in
       rw first.2 (ap (λ (l : List ConfigEntry). first.0 ∷ l) (entries_are rs first.1 first.3) ∙ sym first.4)
 
-  -- the first rule with a fault stops the look
+  -- the first rule with a fault stops the check
   same_fault : (f g : LexFault) → ◌≡◌ {A = Result (List ConfigEntry) LexFault} (Err g) (Err f) → f ≡ g
   same_fault f g is = cc
 
@@ -171,12 +171,12 @@ module _ (texts : List ℕ → Option (List ℕ)) (fails : List ℕ) (file : Rul
       unfolding look
       asks more low few = rw (le-ltb 16 level low, lt-leb 256 was.openings few) refl
 
-      -- it is to fail
+      -- the access is set to fail
       look_failing : level ≤ 16 → was.openings < 256 → fails_next was.calls fails ≡ true
           → look texts fails was (items_at texts level type opener file) ≡ Err (record { fault = fault_at file.name 0 ReadFailed; calls = (asked was).calls })
       look_failing low few failing = rw (items_are low) (asks _ low few ∙ rw failing refl)
 
-      -- it isn't, and this is in the file
+      -- it isn't, and the file holds this
       look_asked : (h : Held) → level ≤ 16 → was.openings < 256 → fails_next was.calls fails ≡ false → held texts file ≡ h
           → look texts fails was (items_at texts level type opener file) ≡ going_on (held_file (asked was) file opener h) (λ c. look texts fails c (file_items (items_at texts (level + 1) type) type file (rules_held h)))
       look_asked h low few fine in_it = rw (items_are low, in_it) (asks (file_items (items_at texts (level + 1) type) type file (rules_held h)) low few ∙ rw (fine, in_it) refl)
@@ -220,7 +220,7 @@ module _ (texts : List ℕ → Option (List ℕ)) (fails : List ℕ) (file : Rul
           → Opens texts (Ok (Some es)) fails was is level type opener file
       opens_some es low few same e = some_by (fails_next was.calls fails) (held texts file) es low few same refl refl e
 
-      -- the file isn't there
+      -- the file doesn't exist
       none_map : (x : Result (List ConfigEntry) LexFault) → ◌≡◌ {A = Result (Option (List ConfigEntry)) LexFault} (result_map Some x) (Ok None) → ⊥
       none_map (Ok es) e = cc
       none_map (Err f) e = cc

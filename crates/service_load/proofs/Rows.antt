@@ -1,4 +1,4 @@
--- Worked configurations, computed on the definitions.
+-- Test cases: configurations, computed on the definitions.
 use Rattle.std.proofs.Common.{◌≡◌, ℕ, true, false, cond, List, [], ◌∷◌, ◌++◌, Option, Some, None, Ok, Err, refl, ◌+◌}
 use Rattle.std.specs.Prelude.{codes}
 use Rattle.std.specs.Str.{bytes_eq}
@@ -25,11 +25,11 @@ Texts = List ℕ → Option (List ℕ)
 empty : Texts
 empty name = None
 
--- one file more
+-- one more file
 with_file : List ℕ → List ℕ → Texts → Texts
 with_file name text others other = cond (bytes_eq other name) (Some text) (others other)
 
--- one file more in the directory
+-- one more file in the directory
 with_service : List ℕ → List ℕ → Texts → Texts
 with_service name text others = with_file (codes "/etc/pam.d/" ++ name) text others
 
@@ -75,7 +75,7 @@ zero_jump : IsRefused (alone (codes "auth [success=0] pam_permit.so")) [] (codes
 unfolding IsRefused IsLoaded alone with_service with_file empty start one chain doubled look items nodes answer_to answer_at pieces_behind first_piece units_behind entry_of entries_in entries_behind
 zero_jump = refl
 
--- a name that is no code's
+-- a name that isn't a code's
 bad_name : IsRefused (alone (codes "auth [succes=ok] pam_permit.so")) [] (codes "/etc/pam.d/t") 2 1 BadReturnName
 unfolding IsRefused IsLoaded alone with_service with_file empty start one chain doubled look items nodes answer_to answer_at pieces_behind first_piece units_behind entry_of entries_in entries_behind
 bad_name = refl
@@ -100,7 +100,7 @@ itself : IsRefused (alone (codes "auth include t")) [] (codes "/etc/pam.d/t") 18
 unfolding IsRefused IsLoaded alone with_service with_file empty start one chain doubled look items nodes answer_to answer_at pieces_behind first_piece units_behind entry_of entries_in entries_behind
 itself = refl
 
--- an included file that isn't there
+-- an included file that doesn't exist
 no_include : IsRefused (alone (codes "\nauth include u")) [] (codes "/etc/pam.d/t") 3 2 IncludeAbsent
 unfolding IsRefused IsLoaded alone with_service with_file empty start one chain doubled look items nodes answer_to answer_at pieces_behind first_piece units_behind entry_of entries_in entries_behind
 no_include = refl
@@ -125,7 +125,7 @@ other_unread : IsRefused (alone (codes "auth required pam_permit.so")) (4 ∷ []
 unfolding IsRefused IsLoaded alone with_service with_file empty start one chain doubled look items nodes answer_to answer_at pieces_behind first_piece units_behind entry_of entries_in entries_behind
 other_unread = refl
 
--- a ninth call is none of this load
+-- this load makes no ninth call
 eight_calls : IsLoaded (alone (codes "auth required pam_permit.so")) 7
 unfolding IsRefused IsLoaded alone with_service with_file empty start one chain doubled look items nodes answer_to answer_at pieces_behind first_piece units_behind entry_of entries_in entries_behind
 eight_calls = refl

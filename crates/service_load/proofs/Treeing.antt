@@ -113,7 +113,7 @@ module _ (root : List ℕ) (first : VaultState) (was : Loader) (own other : Rule
     stop_other (refusals.Named f) looks only = record { looks = on_to_other ∙ looks; made = tt; stays = only }
     stop_other refusals.NoMemory looks only = record { looks = tt; made = tt; stays = only }
 
--- what the file of `other` brings, said of the files as they were
+-- what the file of `other` brings, stated for the files as they were
 pub other_since : (r : Result Bool (Refuse LoadFault)) (root : List ℕ) (first mid now : VaultState) (half is : Loader) (own other : RuleFile) (type : RuleType) (there : Bool) (before after : Stack)
     → OnlyCalls first mid
     → Brings r (texts_of root mid) mid now half is (items_at (texts_of root mid) 0 type (cond there as_other (as_last own.name)) other) before after (nodes_at (texts_of root mid) 0 type other)
@@ -126,7 +126,7 @@ other_since r root first mid now half is own other type there before after =
 pub only_only : (a b c : VaultState) → OnlyCalls a b → OnlyCalls b c → OnlyCalls a c
 only_only a b c one two = two ∙ ap (λ (v : VaultState). record v { calls = c.calls }) one
 
--- a later tree, said of the files as they were
+-- a later tree, stated for the files as they were
 pub makes_since : (r : Result Nodes (Refuse LoadFault)) (root : List ℕ) (first old new : VaultState) (was is : Loader) (own other : RuleFile) (type : RuleType)
     → OnlyCalls first old → Makes r (texts_of root old) old new was is own other type
     → Makes r (texts_of root first) (record first { calls = old.calls }) new was is own other type
@@ -134,7 +134,7 @@ makes_since r root first old new was is own other type only makes =
     let P : VaultState → Type 0 = λ v. Makes r (texts_of root v) v new was is own other type in
     subst P only makes
 
--- the look along nothing more
+-- the check of nothing more
 look_none : (texts : List ℕ → Option (List ℕ)) (fails : List ℕ) (counts : Counts) → look texts fails counts [] ≡ Ok counts
 unfolding look
 look_none texts fails counts = refl
@@ -157,7 +157,7 @@ put_stacks trees Account given = refl
 put_stacks trees Password given = refl
 put_stacks trees Session given = refl
 
--- one tree more
+-- one more tree
 pub making_next : (root : List ℕ) (first old new : VaultState) (start : Counts) (was is : Loader) (own other : RuleFile) (trees after : Trees) (given : Nodes) (i : ℕ) (d : RuleType)
     → i < length all_types → Making root first old start was own other trees (drop i all_types)
     → Makes (Ok given) (texts_of root old) old new was is own other (get_or all_types i d)

@@ -1,4 +1,4 @@
--- What calls return that may run out of memory (this project's own).
+-- What calls that may run out of memory return (this project's own).
 use Rattle.std.specs.Prelude.{◌≡◌, List, ◌++◌, Result, Ok, Err}
 use Rattle.pam_base.specs.declared.fault.Refuse.{Refuse}
 use Rattle.pam_base.specs.declared.fault.Refuse.TheVariants.{NoMemory, Named}
@@ -9,12 +9,12 @@ Answers (Ok x) answer = answer ≡ Ok x
 Answers (Err (Named f)) answer = answer ≡ Err f
 Answers (Err NoMemory) answer = Unit {0}
 
--- what a call returns whose result is made from another's
+-- the result of a call that is made from another call's result
 abbrev pub result_map : {A B F : Type 0} → (A → B) → Result A F → Result B F
 result_map f (Ok x) = Ok (f x)
 result_map f (Err e) = Err e
 
--- what was there comes before what another call adds
+-- the elements that were there come before those that another call adds
 abbrev pub with_front : {A F : Type 0} → List A → Result (List A) F → Result (List A) F
 with_front front (Ok more) = Ok (front ++ more)
 with_front front (Err f) = Err f

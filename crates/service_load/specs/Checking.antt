@@ -30,7 +30,7 @@ entries_held in_folder absent = Ok None
 entries_held in_folder (faulty fault) = Err fault
 entries_held in_folder (holds rules) = result_map Some (checked_entries in_folder rules)
 
--- the fields of a rule that is meant, which begins in this line
+-- the fields of a rule that was asked for, which begins in this line
 abbrev pub GivesFields : Option (List Token) → ℕ → List RawRule → Type 0
 GivesFields None line own = own ≡ []
 GivesFields (Some tokens) line own = own ≡ record { line = line; tokens = tokens } ∷ []

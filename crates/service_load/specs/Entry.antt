@@ -43,8 +43,8 @@ abbrev pub with_control : Bool → Result (List Action) ControlFault → List To
 with_control silent (Ok control) tokens = result_map Line (rule_of silent control tokens)
 with_control silent (Err fault) tokens = Err fault.kind
 
--- what follows the type: `include` or `substack` with a file, or a control with a module (pam.conf(5)); a field that
--- is wanted and missing is a fault (this project's own)
+-- what follows the type: `include` or `substack` with a file, or a control with a module
+-- (pam.conf(5)); a required field that is missing is a fault (this project's own)
 abbrev pub behind_type : Bool → List Token → Result RuleContent FaultKind
 behind_type silent [] = Err MissingField
 behind_type silent (t ∷ ts) =

@@ -39,7 +39,7 @@ abbrev pub own_rule : Option (List ℕ) → RawRule → List RawRule
 own_rule None rule = rule ∷ []
 own_rule (Some service) rule = rule_without service rule.line rule.tokens
 
--- the rules of a text that are meant (pam.conf(5))
+-- the rules of a text that were asked for (pam.conf(5))
 abbrev pub own_rules : Option (List ℕ) → List RawRule → List RawRule
 own_rules service rules = flat_map (own_rule service) rules
 

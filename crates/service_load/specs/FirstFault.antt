@@ -1,4 +1,5 @@
--- The first fault of a configuration (this project's own): one look along the order, with the counts so far.
+-- The first fault of a configuration (this project's own): the order in which a load proceeds is
+-- followed, with the counts so far.
 use Rattle.std.specs.Prelude.{ℕ, ◌+◌, List, [], ◌∷◌, Option, Result, Ok, Err, nat_lt, nat_le, if◌then◌else◌}
 use Rattle.pam_base.specs.declared.fault.FaultKind.{FaultKind}
 use Rattle.pam_base.specs.declared.fault.FaultKind.TheVariants.{IncludeAbsent, TooDeep, TooManyLines, TooManyFiles, NoService, ReadFailed}
@@ -61,7 +62,7 @@ abbrev pub checked_rule : Counts → List ℕ → ℕ → Result ConfigEntry Fau
 checked_rule counts name line (Ok entry) = Ok counts
 checked_rule counts name line (Err kind) = stop counts name line kind
 
--- from these counts on, or the fault that stopped before
+-- the result from these counts on, or the fault that came before
 abbrev pub going_on : Result Counts Stop → (Counts → Result Counts Stop) → Result Counts Stop
 going_on (Ok counts) more = more counts
 going_on (Err s) more = Err s

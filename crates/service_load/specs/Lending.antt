@@ -1,4 +1,4 @@
--- What is changed through a reference to the value of a type is that value, and no other one.
+-- What is changed through a reference to the value of a type is that value, and no other.
 use Rattle.std.specs.Borrow.{Lends, MutBor, Fml, RattleType}
 use Rattle.service_load.specs.ByType.{with_type}
 use Rattle.service_load.specs.contracts.by_type.ByType.{the_row}

@@ -28,8 +28,8 @@ loaded_from in_folder vault root service calls =
     look (texts_of root vault) vault.fails (record { calls = calls; openings = 0; lines = 0 })
     (order (texts_of root vault) in_folder service)
 
--- the result for a service: it is asked whether the directory exists, and then everything is looked
--- at in order; the counts after it, or the first fault, with the file accesses up to it
+-- the result for a service: it is asked whether the directory exists, and then everything is
+-- checked in order; the counts after it, or the first fault, with the file accesses up to it
 abbrev pub loaded : VaultState → List ℕ → List ℕ → Result Counts Stop
 loaded vault root service =
     if is_failing vault then Err (record {

@@ -45,7 +45,7 @@ counts_of loader vault = record {
   lines = loader.lines;
 }
 
--- unless memory ran out, a look ends with these counts, or at this fault
+-- unless memory ran out, a check ends with these counts, or at this fault
 abbrev pub Looks : {A : Type 0} → Result A (Refuse LoadFault) → Result Counts Stop → Counts → Type 0
 Looks (Ok x) looked now = looked ≡ Ok now
 Looks (Err (Named f)) looked now = looked ≡ Err (record { fault = f; calls = now.calls })
@@ -66,7 +66,7 @@ abbrev pub IfCalled : {A F : Type 0} → Result A (Refuse F) → Type 0 → Type
 IfCalled (Err NoMemory) fact = Unit {0}
 IfCalled result fact = fact
 
--- it stays with Ok, and if an allocation failed: no fault is hidden by that
+-- it stays as it was with Ok, and if an allocation failed: that hides no fault
 abbrev pub CountsFaults : {A : Type 0} → Result A (Refuse LoadFault) → ℕ → ℕ → Type 0
 CountsFaults (Ok x) before now = now ≡ before
 CountsFaults (Err (Named f)) before now = KindCounts f.kind before now
@@ -81,7 +81,8 @@ AddsLine (Err (Named f)) was is before after name number rule = (4096 ≤ was.li
     × (f ≡ fault_at name number TooManyLines)
 AddsLine (Err NoMemory) was is before after name number rule = Unit {0}
 
--- an entry was taken, which serves the type or doesn't: its line was added, or it gives the file that it brings in
+-- an entry was processed, which is for the type or isn't: its line was added, or it gives the file
+-- that it brings in
 abbrev pub TakesContent : Bool → RuleContent → Result (Option Inclusion) (Refuse LoadFault) → Loader
     → Loader → Stack → Stack → List ℕ → ℕ → Type 0
 TakesContent false content result was is before after name number = (result ≡ Ok None) × (is ≡ was)
@@ -101,7 +102,7 @@ TakesEntry result was is before after type name entry =
     TakesContent (serves type entry.rule_type) entry.content result was is before after name
     entry.line
 
--- the nodes of a file as they are brought in: as a substack of them, or they themselves
+-- the nodes of a file as they are added: as a substack of them, or directly
 abbrev pub brought_in : Bool → Stack → Stack
 brought_in true inner = sub inner none
 brought_in false inner = inner
@@ -152,7 +153,7 @@ module _ (texts : List ℕ → Option (List ℕ)) where
       ≡ Err (record { fault = f; calls = is.calls })
   Opens (Err NoMemory) fails was is level type opener file = Unit {0}
 
--- over modelled files, a part of a load looked at these items, and added these nodes
+-- over modelled files, a part of a load processed these items and added these nodes
 pub record Brings {A : Type 0} (result : Result A (Refuse LoadFault))
     (texts : List ℕ → Option (List ℕ)) (old new : VaultState) (was is : Loader) (items : List Item)
     (before after added : Stack) : Type 0 where
@@ -160,8 +161,8 @@ pub record Brings {A : Type 0} (result : Result A (Refuse LoadFault))
   pub nodes : OnOk result (after ≡ joined before added)
   pub stays : OnlyCalls old new
 
--- with real files too, a file at this level adds lines that are counted and few, nested no deeper
--- than what is left up to level 16
+-- with real files too, the lines that a file at this level adds are counted, are within the limit,
+-- and are nested no deeper than the levels left up to 16
 pub record Grows (level : ℕ) (was is : Loader) (before after : Stack) : Type 0 where
   pub within : level ≤ 16
   pub lines : lines_in after + was.lines ≡ lines_in before + is.lines

@@ -41,7 +41,7 @@ content_items deeper name line (Line rule) = made name line ∷ []
 content_items deeper name line (Include file) = deeper (by_rule name line) (plain_file file)
 content_items deeper name line (Substack file) = deeper (by_rule name line) (plain_file file)
 
--- and if it is for the type
+-- what it adds to the stack of a type: nothing unless it is for that type
 abbrev pub entry_items : (Opener → RuleFile → List Item) → RuleType → List ℕ → ConfigEntry → List Item
 entry_items deeper type name entry = if serves type entry.rule_type
     then content_items deeper name entry.line entry.content else []
@@ -75,7 +75,7 @@ module _ (texts : List ℕ → Option (List ℕ)) where
       begin ∷ (items 17 type as_service own ++ (if count (nodes texts 17 type own) == 0
       then items 17 type (other_opener own) other else []))
 
-  -- the four trees of a service's file and that of `other`, in turn
+  -- the four stacks of a service's file and that of `other`, in turn
   abbrev pub trees_items : RuleFile → RuleFile → List Item
   trees_items own other = flat_map (tree_items own other) all_types
 

@@ -21,7 +21,7 @@ content_nodes deeper (Line rule) = line rule none
 content_nodes deeper (Include file) = deeper file
 content_nodes deeper (Substack file) = sub (deeper file) none
 
--- and if it is for the type
+-- what it adds to the stack of a type: nothing unless it is for that type
 abbrev pub entry_nodes : (List ℕ → Stack) → RuleType → ConfigEntry → Stack
 entry_nodes deeper type entry = if serves type entry.rule_type
     then content_nodes deeper entry.content else none
@@ -36,8 +36,8 @@ abbrev pub tree_of : Stack → Stack → Stack
 tree_of own other = if count own == 0 then other else own
 
 module _ (texts : List ℕ → Option (List ℕ)) where
-  -- the nodes of a file for a type (pam.conf(5)), if n levels of files may open: none above the
-  -- last
+  -- the nodes of a file for a type (pam.conf(5)), if n more levels of files may be opened: none
+  -- beyond them
   unfoldable pub nodes : ℕ → RuleType → RuleFile → Stack
   nodes zero type file = none
   nodes (suc levels) type file =

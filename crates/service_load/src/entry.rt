@@ -29,7 +29,7 @@ pub enum RuleContent {
 pub struct ConfigEntry {
     /// The number of its first physical line, from 1.
     pub line: u32,
-    /// Its type; None if it is for all four, as `@include` is.
+    /// Its type; None if it is for all four types, as `@include` is.
     pub rule_type: Option<RuleType>,
     pub content: RuleContent,
 }
@@ -39,7 +39,7 @@ pub(crate) type Entries = Sequence<ConfigEntry>;
 
 impl ConfigEntry {
     /// What the tokens of a rule in this line say, in a file of `/etc/pam.d` or, after its service,
-    /// in `pam.conf(5)`; or the fault of the first field that isn't as it should be.
+    /// in `pam.conf(5)`; or the fault of the first field that is wrong.
     pub(crate) fn of(
         alloc: Global,
         line: u32,

@@ -31,7 +31,8 @@ struct KeptFile {
 }
 
 /// The texts that loads have read and what their rules say, so that a text that is read again isn't
-/// parsed again. It never stands in for a file: each opening reads the file. Contracts don't see it.
+/// parsed again. It never stands in for a file: each opening reads the file. Contracts don't see
+/// its content.
 #[derive(Drop)]
 pub struct KeptTexts {
     files: Sequence<KeptFile>,

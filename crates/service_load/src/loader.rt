@@ -75,7 +75,7 @@ impl Loader {
         self.openings += 1;
         let name = file.name.bytes();
         let path = path_of(alloc, root, name)?;
-        // Copied before the call, so that a failed allocation hides no fault of the files.
+        // Copied before the call, since a failed allocation must not hide a fault of the files.
         let unread = Text::from_bytes(alloc, name)?;
         match read_file(vault, alloc, path.bytes(), MAX_FILE) {
             Ok(text) => match self.kept.entries_in(alloc, file, rule_type, text) {
@@ -91,7 +91,7 @@ impl Loader {
     }
 
     /// Opens a file, if its level and the number of openings allow it; None if it doesn't exist and
-    /// needn't.
+    /// doesn't have to.
     fn open(
         &mut self,
         alloc: Global,
@@ -151,8 +151,8 @@ impl Loader {
         Ok(())
     }
 
-    /// Takes an entry of the file with this name, if it is for the type: adds its line, or returns
-    /// the file that it includes.
+    /// Processes an entry of the file with this name, if it is for the type: adds its line, or
+    /// returns the file that it includes.
     fn take_entry(
         &mut self,
         alloc: Global,

@@ -3,8 +3,8 @@ ghost use Rattle.service_load.specs.RuleType.{type_of_word, type_word};
 
 use pam_base::{Word, find_any_case};
 
-/// The type of a rule (`pam.conf(5)`; libpam: PAM_T_AUTH, PAM_T_ACCT, PAM_T_PASS, PAM_T_SESS): for
-/// which calls of an application it is.
+/// The type of a rule (`pam.conf(5)`; libpam: PAM_T_AUTH, PAM_T_ACCT, PAM_T_PASS, PAM_T_SESS):
+/// which calls of an application it is for.
 #[derive(Clone, Copy, Debug, PartialEq, Eq)]
 pub enum RuleType {
     Auth,

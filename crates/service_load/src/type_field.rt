@@ -13,8 +13,8 @@ pub struct TypeField {
 }
 
 impl TypeField {
-    /// The type field that a token is, in any case; None if and only if it is none. It has no
-    /// brackets.
+    /// The type field that a token is, in any case and without brackets; None if and only if it
+    /// isn't one.
     pub(crate) fn of(token: &Token) -> Option<TypeField>
         ensures { result ≡ type_field_of token.now }
     {

@@ -26,7 +26,7 @@ same_action-equal a b is = absurd cc
 
 -- ---- bytes of words
 
--- a byte of a name: no white space and no `=`
+-- a byte of a name: not white space, and not `=`
 abbrev pub is_name : ℕ → Bool
 is_name b = not (ends_name b)
 
@@ -88,7 +88,7 @@ reads_as-equal : (result : Result Action ControlFault) (action : Action) → rea
 reads_as-equal (Ok read) action is = ap Ok (same_action-equal read action is)
 reads_as-equal (Err fault) action is = absurd cc
 
--- what is asked of the word of an action
+-- what has to hold for the word of an action
 abbrev is_read : Action → Bool
 is_read action = reads_as (action_of_word (action_word action)) action && list_all is_action (action_word action) && list_all is_word_byte (action_word action) && begins_some is_action (action_word action)
 

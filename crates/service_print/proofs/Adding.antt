@@ -39,7 +39,7 @@ adding_line service type all old_text old_files here rest rule text new files wa
       shallow = omega (arith, ap depth is, was.shallow);
     }
 
--- a file that was put in its place before those inside it
+-- a file that was added before those inside it
 placed : (files inner : List File) (empty file : File) (number : ℕ) → number ≡ length files
     → set ((files ++ empty ∷ []) ++ inner) number file ≡ files ++ file ∷ inner
 placed files inner empty file number is = ap (λ (fs : List File). set fs number file) (append_assoc files (empty ∷ []) inner) ∙ set_at files empty inner file number (sym is)

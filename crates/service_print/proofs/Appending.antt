@@ -1,4 +1,4 @@
--- Parts of a text, added one after another.
+-- Parts of a text that are added one after another.
 use Rattle.std.proofs.Common.{◌≡◌, List, [], ◌++◌, ◌∙◌, ap, append_assoc}
 
 pub two : {A : Type 0} (old first new x y : List A) → first ≡ old ++ x → new ≡ first ++ y → new ≡ old ++ (x ++ y)

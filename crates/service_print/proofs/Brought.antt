@@ -1,4 +1,4 @@
--- What a look without a fault says of the stacks that it passes.
+-- What a check without a fault says about the stacks that it meets.
 use Rattle.std.proofs.Common.{◌≡◌, ℕ, zero, suc, ◌+◌, ◌-◌, ◌≤◌, ◌<◌, Bool, true, false, cond, eqb, nat_lt, nat_le, List, [], ◌∷◌, ◌++◌, map, Option, Result, Ok, Err, refl, sym, ap, ◌∙◌, subst, arith, add-zero, zero-add, inl, inr}
 use Rattle.std.specs.List.{list_all}
 use Rattle.std.specs.Result.{is_ok}
@@ -21,7 +21,7 @@ use Rattle.service_print.proofs.Meant.{Meaning, nothing, a_line, an_include, a_s
 use Rattle.service_print.proofs.Taken.{Reading, good_rule}
 use Rattle.service_print.proofs.Known.{known, held_good}
 
--- ---- parts of a look
+-- ---- parts of a check
 
 pub record Split (texts : List ℕ → Option (List ℕ)) (fails : List ℕ) (before : Counts) (front more : List Item) (after : Counts) : Type 0 where
   pub between : Counts
@@ -51,7 +51,7 @@ one_met texts fails before after item is =
     let same : parts.0 ≡ after = let e = parts.2 in cc in
     parts.1 ∙ ap Ok same
 
--- ---- a stack was brought
+-- ---- a stack was added
 
 pub record Brings (before after : Counts) (stack : Stack) (levels : ℕ) (extra : ℕ) : Type 0 where
   pub lines : after.lines ≡ before.lines + lines_in stack
@@ -90,7 +90,7 @@ brings_both before between after a b levels one other = record {
   short = λ h. other.short (one.short h);
 }
 
--- a file that was opened, whose nodes take the place of the rule, or are a substack
+-- a file that was opened, whose nodes replace the rule or are a substack
 as_included : (before after : Counts) (stack : Stack) (levels : ℕ) → Brings before after stack levels 1 → Brings before after stack levels 0
 as_included before after stack levels is = record { lines = is.lines; openings = omega (arith, is.openings); deep = omega (arith, is.deep); few = is.few; short = is.short }
 

@@ -159,7 +159,7 @@ entries_fine control (code ∷ codes) fine =
     let parts = and_parts (is_fine (action_at control code)) (all_fine control codes) fine in
     rw (entry_fine control code parts.0) (entries_fine control codes parts.1)
 
--- the codes that have an entry have actions that can be read
+-- each code that has an entry has an action that can be read
 some_fine : (control : List Action) (codes : List Code) → all_fine control codes ≡ true → all_fine control (filter (has_entry control) codes) ≡ true
 some_fine control [] fine = refl
 some_fine control (code ∷ codes) fine =
@@ -179,7 +179,7 @@ same_number code other is = sym (code_at code) ∙ ap (λ n. get_or all_codes n 
 names_word : (code named : Code) → names code (code_word named) ≡ eqb (number_of named) (number_of code)
 names_word code named = rw (code_word-named named) refl
 
--- the last entry of a code among those of these codes, if this one was found before
+-- the last entry of a code among the entries of these codes, given the one found so far
 abbrev last_found : List Action → Code → List Code → Option ControlPair → Option ControlPair
 last_found control code codes before = last_or before (filter (λ (entry : ControlPair). names code entry.name) (map (entry_record control) (filter (has_entry control) codes)))
 

@@ -25,7 +25,7 @@ use Rattle.service_print.proofs.Controlled.{each_action, bracket_reads, fine_at}
 
 -- ---- tests of bytes
 
--- a byte that passes a test which another fails is another
+-- a byte that passes a test is different from one that fails it
 pub apart : (test : ℕ → Bool) (b k : ℕ) → test k ≡ false → test b ≡ true → eqb b k ≡ false
 apart test b k fails passes = elim (cases_Bool (eqb b k)) [ inl y ↦ absurd (both_ways (test b) (ap test (eqb-true b k y) ∙ fails) passes) | inr n ↦ n ]
 
@@ -40,7 +40,7 @@ never_last test k fails [] all = refl
 never_last test k fails (b ∷ []) all = apart test b k fails (and_parts (test b) true all).0
 never_last test k fails (b ∷ c ∷ bs) all = never_last test k fails (c ∷ bs) (and_parts (test b) (list_all test (c ∷ bs)) all).1
 
--- a test that fails for what no plain token has
+-- a test that fails for bytes that no plain token has
 pub record IsPlainTest (test : ℕ → Bool) : Type 0 where
   pub space : test 32 ≡ false
   pub tab : test 9 ≡ false
@@ -82,7 +82,7 @@ same_control-equal : (a b : List Action) → length a ≡ 32 → length b ≡ 32
 unfolding same_control
 same_control-equal a b a_length b_length same = sym (each_action a a_length) ∙ agreeing a b all_codes same ∙ each_action b b_length
 
--- what the token of a control is asked for
+-- what is needed of the token of a control
 pub record IsControlToken (control : List Action) (token : Token) : Type 0 where
   pub writes : written token ≡ control_text control
   pub sound : is_sound token ≡ true
@@ -201,7 +201,7 @@ type_token_is false type = record { sound = refl; set = refl; no_include = refl;
 
 -- ---- paths and arguments
 
--- what the text of a token is like
+-- what is known of the text of a token
 abbrev pub can_stand : List ℕ → Bool
 can_stand text = list_all is_inner text && list_all is_set text && not (wants_brackets text && last_is 92 text)
 

@@ -81,7 +81,7 @@ all_numbered stack service number (type ∷ types) =
 
 -- ---- all are found
 
--- each of these files is there under its name
+-- each of these files is found under its name
 abbrev pub AllThere : (List ℕ → Option (List ℕ)) → List File → Type 0
 AllThere texts [] = Unit {0}
 AllThere texts (file ∷ files) = (texts (in_the_folder file.name) ≡ Some file.text) × AllThere texts files
@@ -89,7 +89,7 @@ AllThere texts (file ∷ files) = (texts (in_the_folder file.name) ≡ Some file
 abbrev pub texts_in : List ℕ → List File → List ℕ → Option (List ℕ)
 texts_in root files name = file_at (path_of root name) (map (placed_file root) files)
 
--- what comes before the files from this number on has none of their names
+-- no file before those from this number on has one of their names
 abbrev Passed : List ℕ → List ℕ → ℕ → List File → Type 0
 Passed root service number front =
     (m : ℕ) (more : List File) → number ≤ m → m < 256 → file_at (path_in root (numbered service m)) (map (placed_file root) (front ++ more)) ≡ file_at (path_in root (numbered service m)) (map (placed_file root) more)

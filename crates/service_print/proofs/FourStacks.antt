@@ -15,7 +15,7 @@ pub text_of-append : (lines more : List (List ℕ)) → text_of (lines ++ more) 
 text_of-append [] more = refl
 text_of-append (line ∷ lines) more = ap (λ (t : List ℕ). ended line ++ t) (text_of-append lines more) ∙ sym (append_assoc (ended line) (text_of lines) (text_of more))
 
--- these types are left; the first file is filled at the end
+-- these types are left; the service's own file is filled last
 pub record IsPrinting (stack : RuleType → Stack) (service : List ℕ) (types : List RuleType) (text : List ℕ) (files : List File) : Type 0 where
   pub texts : text ++ text_of (all_lines stack service (length files) types) ≡ service_text stack service
   pub filed : files ++ all_substack_files stack service (length files) types ≡ empty_file ∷ all_substack_files stack service 1 all_types
@@ -47,7 +47,7 @@ printing_step stack service type types text new files more was added filed =
           ∙ was.filed;
     }
 
--- the next of the types
+-- the next type
 pub printing_next : (stack : RuleType → Stack) (service : List ℕ) (i : ℕ) (d : RuleType) (text new : List ℕ) (files more : List File)
     → i < length all_types → IsPrinting stack service (drop i all_types) text files
     → new ≡ text ++ text_of (list_lines service (get_or all_types i d) (length files) (stack (get_or all_types i d)))

@@ -112,7 +112,7 @@ among_fine entries (code ∷ codes) =
     and_from (is_fine (action_among entries code)) (list_all is_fine (map (action_among entries) codes))
     (either_fine (last_action (names code) entries) (last_action is_default entries) (last_fine (names code) entries) (last_fine is_default entries)) (among_fine entries codes)
 
--- what a control is like that was read
+-- what is known of a control that was read
 pub record IsControl (control : List Action) : Type 0 where
   pub each : length control ≡ 32
   pub fine : list_all is_fine control ≡ true
@@ -154,7 +154,7 @@ control_read false text control read = some_control (control_of_word text) (faul
 
 -- ---- rules
 
--- a line that is meant can be printed
+-- a line that was asked for can be printed
 abbrev pub Writes : Meaning → Type 0
 Writes (a_line own rule) = IsWritable rule
 Writes meaning = Unit {0}

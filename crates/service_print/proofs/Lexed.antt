@@ -30,7 +30,7 @@ brackets_all test text opening backslash closing all =
     and_from (test 91) (list_all test (flat_map escaped_byte text ++ 93 ∷ [])) opening
     (list_all-append test (flat_map escaped_byte text) (93 ∷ []) ∙ and_from (list_all test (flat_map escaped_byte text)) (test 93 && true) (escaped_all test text backslash closing all) (and_from (test 93) true closing refl))
 
--- the bytes that a line has beside those of its tokens pass a test
+-- the bytes of a line that aren't those of its tokens pass a test
 pub record Passes (test : ℕ → Bool) : Type 0 where
   pub opening : test 91 ≡ true
   pub backslash : test 92 ≡ true
@@ -219,7 +219,7 @@ no_newlines (b ∷ bs) all =
     let parts = and_parts (is_inner b) (list_all is_inner bs) all in
     rw (not-true (eqb b 10) parts.0, no_newlines bs parts.1) refl
 
--- a sound token has no newline
+-- a token that reads back has no newline
 plain_inner : (text : List ℕ) → list_all is_plain text ≡ true → list_all is_inner text ≡ true
 plain_inner [] all = refl
 plain_inner (b ∷ bs) all =

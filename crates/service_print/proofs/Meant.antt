@@ -21,14 +21,14 @@ abbrev pub is_meant : Meaning → Bool
 is_meant nothing = false
 is_meant meaning = true
 
--- what it brings to a stack
+-- what it adds to a stack
 abbrev pub meant_nodes : (List ℕ → Stack) → RuleType → Meaning → Stack
 meant_nodes deeper type nothing = none
 meant_nodes deeper type (a_line own rule) = cond (serves type own) (line rule none) none
 meant_nodes deeper type (an_include own file) = cond (serves type own) (deeper file) none
 meant_nodes deeper type (a_substack own file) = cond (serves type own) (sub (deeper file) none) none
 
--- what a load meets through it, if n levels of files may open after it
+-- what a load meets because of it, if n more levels of files may be opened
 abbrev pub meant_items : (List ℕ → Option (List ℕ)) → ℕ → RuleType → List ℕ → ℕ → Meaning → List Item
 meant_items texts levels type name number nothing = []
 meant_items texts levels type name number (a_line own rule) = cond (serves type own) (made name number ∷ []) []

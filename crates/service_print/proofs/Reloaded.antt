@@ -1,4 +1,4 @@
--- Files that are just the printed ones load to the stacks that were printed.
+-- If there are exactly the printed files, they load to the stacks that were printed.
 use Rattle.std.proofs.Common.{◌≡◌, ℕ, ◌+◌, ◌≤◌, Bool, true, false, not, ◌&&◌, eqb, nat_lt, nat_le, List, [], ◌∷◌, ◌++◌, length, map, take, Option, None, Ok, refl, sym, ap, ◌∙◌, arith, append_assoc, length-append, inl, inr}
 use Rattle.std.specs.Prelude.{codes, nat_eq, decimal}
 use Rattle.std.specs.List.{list_all}

@@ -18,7 +18,7 @@ use Rattle.service_print.proofs.Stacked.{IsFile, file_nodes}
 use Rattle.service_print.proofs.Standing.{Stand, stack_stands, Passes, counts_with, pass-append, pass_none, pass_file, pass_stack}
 use Rattle.service_print.proofs.Segments.{all_meanings, part_of}
 
--- what four stacks are like that can be printed and load again
+-- the conditions under which four stacks can be printed and load again
 pub record IsPrintable (stack : RuleType → Stack) : Type 0 where
   pub writable : (type : RuleType) → AllWritable (stack type)
   pub deep : (type : RuleType) → depth (stack type) ≤ 16
@@ -39,7 +39,7 @@ no_count (sub inner rest) is = absurd (omega arith)
 
 -- ---- a service with its file and the files of its substacks
 
--- `other` isn't there, or is the service itself
+-- `other` doesn't exist, or is the service itself
 abbrev pub OtherIs : (List ℕ → Option (List ℕ)) → List ℕ → Type 0
 OtherIs texts service = (texts (in_the_folder (codes "other")) ≡ None) ⊎ (service ≡ codes "other")
 
@@ -60,7 +60,7 @@ module _ (texts : List ℕ → Option (List ℕ)) (service : List ℕ) (stack : 
   unfolding nodes
   absent_nodes type gone = rw gone refl
 
-  -- the result for `other` if it is asked for
+  -- the result for `other`, if it is opened
   other_nodes : Stands texts service stack → IsPrintable stack → (type : RuleType) → count (stack type) ≡ 0
       → nodes texts 17 type (plain_file (in_the_folder (codes "other"))) ≡ stack type
   other_nodes stands is type empty = elim stands.other [
@@ -78,7 +78,7 @@ module _ (texts : List ℕ → Option (List ℕ)) (service : List ℕ) (stack : 
         | inr n ↦ rw n refl
       ])
 
-  -- ---- the look
+  -- ---- the check
 
   pass_own : Stands texts service stack → IsPrintable stack → (type : RuleType) (opener : Opener) (calls openings : ℕ)
       → openings + 1 + subs_in (stack type) ≤ 256

@@ -1,4 +1,4 @@
--- Worked stacks, printed by the definitions.
+-- Test cases: stacks, printed by the definitions.
 use Rattle.std.proofs.Common.{◌≡◌, ℕ, true, false, List, [], ◌∷◌, refl, Ok, Err}
 use Rattle.std.specs.Prelude.{codes, ◌++◌, map, replicate}
 use Rattle.std.specs.List.{list_all}
@@ -59,14 +59,15 @@ two_stacks type = none
 written : Rule → List ℕ → Type 0
 written rule text = printed (of_auth (line rule none)) (codes "t") ≡ file (codes "t") text ∷ []
 
--- a line with an argument, and a substack whose control is no keyword's
+-- a line with an argument, and a substack, with a control that isn't a keyword's
 with_substack :
     printed (of_auth (line (rule required (codes "pam_permit.so") (codes "a" ∷ [])) (sub (line (rule (control (codes "success=ok")) (codes "pam_deny.so") (codes "x y" ∷ [])) none) none))) (codes "t")
     ≡ file (codes "t") (codes "auth required pam_permit.so a\nauth substack t.1\n") ∷ file (codes "t.1") (codes "auth [success=ok] pam_deny.so [x y]\n") ∷ []
 unfolding control rule one file of_auth two_stacks written printed list_lines substack_files numbered substack_line rule_line token_text ended same_control entries_among control_text digits entries_in entries_behind
 with_substack = refl
 
--- substacks in one another and in two types: each before those inside it, and these before the next of its list
+-- substacks in one another and in two types: each is numbered before those inside it, and these
+-- before the next one of its list
 numbered_depth_first :
     printed two_stacks (codes "t")
     ≡ file (codes "t") (codes "auth substack t.1\nauth required c\nsession substack t.3\n")
@@ -97,8 +98,8 @@ as_keyword : written (rule (control (codes "default=die ignore=ignore new_authto
 unfolding control rule one file of_auth two_stacks written printed list_lines substack_files numbered substack_line rule_line token_text ended same_control entries_among control_text digits entries_in entries_behind
 as_keyword = refl
 
--- those of a keyword except for one code are all entries whose action isn't bad, in the order of
--- the codes
+-- if one action differs from a keyword's, all entries whose action isn't bad are written, in the
+-- order of the codes
 one_code_off : written (rule (control (codes "abort=die success=ok new_authtok_reqd=ok ignore=ignore default=bad")) (codes "m") []) (codes "auth [success=ok new_authtok_reqd=ok ignore=ignore abort=die] m\n")
 unfolding control rule one file of_auth two_stacks written printed list_lines substack_files numbered substack_line rule_line token_text ended same_control entries_among control_text digits entries_in entries_behind
 one_code_off = refl
@@ -117,7 +118,8 @@ brackets : written (rule required (codes "[m") ([] ∷ codes "a]b" ∷ codes "a]
 unfolding control rule one file of_auth two_stacks written printed list_lines substack_files numbered substack_line rule_line token_text ended same_control entries_among control_text digits entries_in entries_behind
 brackets = refl
 
--- a backslash at the end of the last token has a space after it, at the end of another none but the one between
+-- a backslash at the end of the last token gets a space after it; at the end of another token the
+-- separating space is enough
 last_backslash : written (rule required (codes "m\\") (codes "a\\" ∷ codes "b\\" ∷ [])) (codes "auth required m\\ a\\ b\\ \n")
 unfolding control rule one file of_auth two_stacks written printed list_lines substack_files numbered substack_line rule_line token_text ended same_control entries_among control_text digits entries_in entries_behind
 last_backslash = refl
@@ -126,9 +128,9 @@ path_backslash : written (rule required (codes "m\\") []) (codes "auth required 
 unfolding control rule one file of_auth two_stacks written printed list_lines substack_files numbered substack_line rule_line token_text ended same_control entries_among control_text digits entries_in entries_behind
 path_backslash = refl
 
--- ---- a configuration, what it loads to, and what is printed of that
+-- ---- a configuration, the stacks that it loads to, and what is printed for them
 
--- the stack of auth of the first row
+-- the stack of auth of the first test case
 first_row : Stack
 first_row = line (rule required (codes "pam_permit.so") (codes "a" ∷ [])) (sub (line (rule (control (codes "success=ok")) (codes "pam_deny.so") (codes "x y" ∷ [])) none) none)
 

@@ -109,7 +109,7 @@ module _ (stack : RuleType → Stack) (service : List ℕ) where
       list_all-append is_meant (meanings_from type service number (stack type)) (all_meanings (number + subs_in (stack type)) types)
       ∙ and_from (list_all is_meant (meanings_from type service number (stack type))) (list_all is_meant (all_meanings (number + subs_in (stack type)) types)) (stack_meant type service number (stack type)) (service_meant (number + subs_in (stack type)) types)
 
--- ---- what other types' lines bring
+-- ---- what the lines of other types add
 
 foreign_nodes : (deeper : List ℕ → Stack) (own type : RuleType) (service : List ℕ) (number : ℕ) (stack : Stack) → same_type own type ≡ false
     → meanings_nodes deeper own (meanings_from type service number stack) ≡ none
@@ -150,7 +150,7 @@ items-append texts levels type name first (m ∷ ms) ns =
 -- ---- the part of a type
 
 module _ (stack : RuleType → Stack) (service : List ℕ) where
-  -- what a load meets along the lines of a type in the file, from some line on
+  -- what a load meets in the lines of a type in the file, from some line on
   pub record SameItems (texts : List ℕ → Option (List ℕ)) (levels : ℕ) (own : RuleType) (name : List ℕ) (items : List Item) (number : ℕ) : Type 0 where
     pub first : ℕ
     pub same : items ≡ meanings_items texts levels own name first (meanings_from own service number (stack own))
@@ -168,7 +168,7 @@ module _ (stack : RuleType → Stack) (service : List ℕ) where
     pub short : list_all is_short (all_substack_files stack service number types) ≡ true
         → list_all is_short (substack_files service own start (stack own)) ≡ true
 
-  -- types that are all others
+  -- these are all the other types
   abbrev pub all_other : RuleType → List RuleType → Bool
   all_other own types = list_all (λ type. not (same_type own type)) types
 

@@ -1,4 +1,4 @@
--- Tokens as they are written: each is a piece of the text that it is written in.
+-- Tokens as they are written: each is one piece of the written text.
 use Rattle.std.proofs.Common.{◌≡◌, ℕ, ◌-◌, Bool, true, false, not, ◌||◌, ◌&&◌, cond, eqb, List, [], ◌∷◌, ◌++◌, length, map, Some, None, refl, sym, ap, ◌∙◌, arith, append-nil, inl, inr}
 use Rattle.std.specs.List.{flat_map, list_all, list_any}
 use Rattle.std.proofs.lemmas.Bool.{cases_Bool, not_from_false, cond-false, false≢true, both_ways, not-true, or_parts, and_parts, and_from, eqb-true}
@@ -253,7 +253,7 @@ pub behind_pieces-closed : (tokens : List Token) → list_any is_open (behind_pi
 behind_pieces-closed [] = refl
 behind_pieces-closed (token ∷ tokens) = rw (piece_of-closed token) (behind_pieces-closed tokens)
 
--- what a token is written as isn't empty
+-- the written form of a token isn't empty
 pub record IsSome (text : List ℕ) : Type 0 where
   pub first : ℕ
   pub more : List ℕ

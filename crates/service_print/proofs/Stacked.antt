@@ -29,7 +29,7 @@ meanings_from type service number none = []
 meanings_from type service number (line rule rest) = a_line (Some type) rule ∷ meanings_from type service number rest
 meanings_from type service number (sub inner rest) = a_substack (Some type) (in_the_folder (numbered service number)) ∷ meanings_from type service (number + 1 + subs_in inner) rest
 
--- these fields are written as these lines, and mean this
+-- these fields are written as this line, and mean this
 abbrev pub AreLines : List Fields → List (List ℕ) → List Meaning → Type 0
 AreLines [] [] [] = Unit {0}
 AreLines (fields ∷ more) (text ∷ texts) (meaning ∷ meanings) = IsLine fields text meaning × AreLines more texts meanings

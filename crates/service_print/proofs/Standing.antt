@@ -50,9 +50,9 @@ stack_stands texts type service number (suc levels) (sub inner rest) deep stand 
     let more = stack_stands texts type service (number + 1 + subs_in inner) (suc levels) rest (omega arith) stand.2 in
     rw (same_type-self type, inside) (ap (sub inner) more)
 
--- ---- a look without a fault
+-- ---- a check without a fault
 
--- a look along these items ends with these numbers of openings and lines
+-- the check of these items ends with these numbers of openings and lines
 pub record Passes (texts : List ℕ → Option (List ℕ)) (before : Counts) (items : List Item) (openings lines : ℕ) : Type 0 where
   pub calls : ℕ
   pub looks : look texts [] before items ≡ Ok (record { calls = calls; openings = openings; lines = lines })
@@ -89,7 +89,7 @@ pass_line : (texts : List ℕ → Option (List ℕ)) (name : List ℕ) (number c
 unfolding look
 pass_line texts name number calls openings lines few = record { calls = calls; looks = rw (lt-leb 4096 lines few) refl }
 
--- a file is opened that is there
+-- a file that exists is opened
 pub pass_opening : (texts : List ℕ → Option (List ℕ)) (name : List ℕ) (level : ℕ) (opener : Opener) (calls openings lines : ℕ) (rules : List RawRule)
     → level ≤ 16 → openings < 256 → held texts (plain_file name) ≡ holds rules
     → Passes texts (counts_with calls openings lines) (opening (plain_file name) level opener ∷ []) (openings + 1) lines
@@ -129,7 +129,7 @@ pass_file texts levels type opener name meanings is calls openings lines opening
     let whole = pass-append texts (counts_with calls openings lines) (opening (plain_file name) (16 - levels) opener ∷ []) (map (checked (plain_file name)) is.rules ++ meanings_items texts levels type name 1 meanings) (openings + 1) lines openings' lines' opened rest in
     record { calls = whole.calls; looks = ap (look texts [] (counts_with calls openings lines)) (file_met texts levels type opener name meanings is) ∙ whole.looks }
 
--- ---- along a stack
+-- ---- the check of a stack
 
 pub pass_stack : (texts : List ℕ → Option (List ℕ)) (type : RuleType) (service : List ℕ) (number levels : ℕ) (stack : Stack) (name : List ℕ) (first calls openings lines : ℕ)
     → depth stack ≤ levels → Stand texts type service number stack → openings + subs_in stack ≤ 256 → lines + lines_in stack ≤ 4096

@@ -93,7 +93,7 @@ units_set (unit ∷ units) set =
     let parts = and_parts (list_all is_set (unit_bytes unit)) (list_all is_set (units_bytes units)) (sym (list_all-append is_set (unit_bytes unit) (units_bytes units)) ∙ set) in
     list_all-append is_set (unit_text unit) (units_text units) ∙ and_from (list_all is_set (unit_text unit)) (list_all is_set (units_text units)) (unit_set unit parts.0) (units_set units parts.1)
 
--- what a unit gives ends in this byte
+-- the text of a unit before a `]` doesn't end with a backslash
 last_unit : (unit : BracketUnit) (rest : List ℕ) → unit_stands unit (93 ∷ rest) ≡ true → last_is 92 (unit_text unit) ≡ false
 last_unit escaped rest stand = refl
 last_unit (joined j) rest stand = refl

@@ -1,4 +1,4 @@
--- The rules of printed lines say what was printed.
+-- The rules of printed lines mean what was printed.
 use Rattle.std.proofs.Common.{◌≡◌, ℕ, ◌<◌, Bool, true, false, List, [], ◌∷◌, ◌++◌, length, map, Some, refl, sym, ap, ◌∙◌}
 use Rattle.std.specs.Prelude.{codes, decimal}
 use Rattle.std.specs.Fmt.{digits}
@@ -19,7 +19,7 @@ use Rattle.service_print.proofs.Actions.{is_fine}
 use Rattle.service_print.proofs.Meant.{Meaning, a_line, a_substack, IsMeant}
 use Rattle.service_print.proofs.Fielded.{apart, weaken, IsPlainTest, plain_text_by, set_by, control_token, control_token_is, plain_token, type_token_is, can_stand, text_token, text_token_is}
 
--- ---- what a rule is like that can be printed
+-- ---- what is known of a rule that can be printed
 
 abbrev pub can_stand_all : List (List ℕ) → Bool
 can_stand_all texts = list_all can_stand texts
@@ -63,7 +63,7 @@ text_tokens_read : (texts : List (List ℕ)) → map (λ (t : Token). t.text) (m
 text_tokens_read [] = refl
 text_tokens_read (text ∷ texts) = ap (λ (ts : List (List ℕ)). text ∷ ts) (text_tokens_read texts)
 
--- what the fields of a line are asked for: they are written as the line, and mean this
+-- what has to hold for the fields of a line: they are written as the line, and mean this
 pub record IsLine (fields : Fields) (text : List ℕ) (meaning : Meaning) : Type 0 where
   pub writes : line_text fields ≡ text
   pub sound : is_sound_line fields ≡ true
@@ -102,7 +102,7 @@ rule_is_line type rule is =
 
 -- ---- a substack
 
--- what a service's name is like
+-- what is known of a service's name
 pub record IsServiceName (service : List ℕ) : Type 0 where
   pub bytes : list_all is_name_byte service ≡ true
   pub first : ℕ

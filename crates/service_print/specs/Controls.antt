@@ -10,7 +10,7 @@ use Rattle.control_words.specs.Control.{action_at, action_name}
 use Rattle.control_words.specs.Keyword.{all_keywords, control_of_word, keyword_word}
 use Rattle.service_print.specs.Tokens.{spaced}
 
--- the word of an action (pam.conf(5)), of a jump its number
+-- the word of an action (pam.conf(5)), for a jump its number
 abbrev pub action_word : Action → List ℕ
 action_word (Jump number) = decimal number
 action_word action = action_name action
@@ -49,7 +49,7 @@ entry_text control code = code_word code ++ 61 ∷ action_word (action_at contro
 abbrev pub has_entry : List Action → Code → Bool
 has_entry control code = not (same_action (action_at control code) Bad)
 
--- the entries of those among some codes that have one
+-- the entries of these codes, as far as they have one
 unfoldable pub entries_among : List Action → List Code → List (List ℕ)
 entries_among control codes = map (entry_text control) (filter (has_entry control) codes)
 

@@ -1,4 +1,4 @@
--- A file in its place, before its text is there (this project's own).
+-- A file at its index, before it has its text (this project's own).
 use Rattle.std.specs.Prelude.{[]}
 use Rattle.service_print.specs.declared.file.File.{File}
 

@@ -37,15 +37,16 @@ subs_in (line rule rest) = subs_in rest
 subs_in (sub inner rest) = subs_in inner + 1 + subs_in rest
 
 module _ (service : List ℕ) (type : RuleType) where
-  -- the lines of a list of nodes, whose first substack has this number: a substack comes before those inside it, and
-  -- these before the next node of its list
+  -- the lines of a list of nodes, whose first substack has this number: a substack is numbered
+  -- before those inside it, and these before the next node of its list
   unfoldable pub list_lines : ℕ → Stack → List (List ℕ)
   list_lines number none = []
   list_lines number (line rule rest) = rule_line type rule ∷ list_lines number rest
   list_lines number (sub inner rest) = substack_line type (numbered service number)
       ∷ list_lines (number + 1 + subs_in inner) rest
 
-  -- the file of a substack with this number: what its nodes are, those in it numbered from the next number on
+  -- the file of a substack with this number: its nodes, in which substacks are numbered from the
+  -- next number on
   abbrev pub substack_file : ℕ → Stack → File
   substack_file number inner = record {
     name = numbered service number;

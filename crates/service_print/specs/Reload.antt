@@ -35,12 +35,12 @@ placed_file root file = record {
   bytes = file.text;
 }
 
--- there are just these files, all in that directory, and no access to them is set to fail
+-- there are exactly these files, all in that directory, and no access to them is set to fail
 pub record HoldsJust (vault : VaultState) (root : List ℕ) (files : List File) : Type 0 where
   pub files_are : vault.files ≡ map (placed_file root) files
   pub no_fails : vault.fails ≡ []
 
--- whether a file passes no limit of a text: 65,536 bytes, and 4,096 a line
+-- whether a file is within the limits of a text: 65,536 bytes, and 4,096 bytes per line
 abbrev pub is_short : File → Bool
 is_short file = nat_le (length file.text) 65536
     && list_all (λ line. nat_le (length line) 4096) (lines_of file.text)

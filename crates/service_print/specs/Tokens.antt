@@ -32,11 +32,12 @@ in_brackets text = 91 ∷ (flat_map escaped_byte text ++ 93 ∷ [])
 unfoldable pub token_text : List ℕ → List ℕ
 token_text text = if wants_brackets text then in_brackets text else text
 
--- whether a line's last byte is this one
+-- whether the last byte of a line is this one
 abbrev pub ends_in : ℕ → List ℕ → Bool
 ends_in byte line = slice_index line (length line - 1) == byte
 
--- the end of a line; a backslash at its end has a space after it, lest it join the next line (pam.conf(5))
+-- the end of a line; a backslash at its end has a space after it, so that it doesn't join the next
+-- line (pam.conf(5))
 abbrev pub line_end : List ℕ → List ℕ
 line_end line = if ends_in 92 line then codes " \n" else codes "\n"
 

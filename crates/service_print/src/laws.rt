@@ -13,8 +13,8 @@ ghost use Rattle.service_print.specs.Reload.{Gives, HoldsJust, IsLowerName, Load
 /// What is printed loads to the same stacks. Take the four stacks of any service, print them for a
 /// service, and let there be files with just the printed contents, no access to which is set to
 /// fail: then that service has the same four stacks, unless a printed file has more than 65,536
-/// bytes or a line of more than 4,096. No other limit can be exceeded: what is printed has as many
-/// lines, is nested no deeper and needs no more openings than what was loaded.
+/// bytes or a line of more than 4,096. No other limit can be exceeded: the printed files have as
+/// many lines as the loaded ones, are nested no deeper and need no more openings.
 pub fn printed_is_loaded()
     ensures stacks { (stack : RuleType → Stack) (origin : VaultState) (origin_root once : List ℕ) →
         LoadsTo origin origin_root once stack →
@@ -22,7 +22,7 @@ pub fn printed_is_loaded()
         IsLowerName service → HoldsJust vault root (printed stack service) →
         list_all is_short (printed stack service) ≡ true →
         LoadsTo vault root service stack }
-    // The same of three calls: `load`, `print`, and `load` again.
+    // The same for three calls: `load`, `print`, and `load` again.
     ensures calls { (trees : Trees) (origin behind : VaultState) (origin_root once : List ℕ) →
         Loads (Ok trees) origin behind origin_root once →
         (again : Result Trees (Refuse LoadFault)) (vault after : VaultState)

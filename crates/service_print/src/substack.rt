@@ -12,7 +12,7 @@ use pam_base::{NoMemory, Text};
 use service_load::RuleType;
 use std::alloc::Global;
 
-/// A file that is filled later. It does not allocate.
+/// A file without lines, which is filled later. It does not allocate.
 pub fn empty_file(alloc: Global) -> File
     ensures { result ≡ empty_file }
 {

@@ -4,7 +4,7 @@ use Rattle.service_load.specs.Answers.{with_front}
 use Rattle.service_load.specs.Checking.{checked_entries}
 use Rattle.service_load.proofs.file_rules.entries_in.Given as goal
 
--- what all rules say is what was found so far and what those that are left say
+-- the entries of all rules are those found so far and those of the rules that are left
 abbrev pub invariant-loop-rule : goal.invariant-loop-rule
 invariant-loop-rule l =
     checked_entries (is_in_folder l.file) (own_rules l.file.service l.rule-items) ≡ with_front l.entries (checked_entries (is_in_folder l.file) (own_rules l.file.service (drop l.rule-index l.rule-items)))
