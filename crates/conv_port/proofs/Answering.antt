@@ -10,7 +10,7 @@ use Rattle.conv_port.specs.declared.offer.Offer.TheVariants.{Answer, Later}
 use Rattle.conv_port.specs.Message.{HasPrompt, prompt_count}
 use Rattle.conv_port.specs.Conv.{ConvState, answer_to, has_replies, ready_replies, replies_from, starts_with_mark}
 
--- the result by the tests made
+-- the result, from the results of the tests
 answered : Bool → Bool → List Reply → Result (List Reply) ConvFault
 answered enough off replies = if enough then Ok replies else if off then Err Again else Err Gone
 

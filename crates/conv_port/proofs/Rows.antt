@@ -1,4 +1,4 @@
--- Exchanges computed on their definition.
+-- Test cases: exchanges, computed on the definition.
 use Rattle.std.proofs.Common.{◌≡◌, ℕ, true, false, List, [], ◌∷◌, Ok, Err, codes, ◌++◌, replicate, refl}
 use Rattle.pam_base.specs.declared.style.Style.TheVariants.{EchoOff, EchoOn, TextInfo}
 use Rattle.conv_port.specs.declared.conv.ConvFault.TheVariants.{Gone, Again}

@@ -52,7 +52,7 @@ abbrev pub has_replies : ConvState → List Message → Bool
 has_replies s messages = nat_le (prompt_count messages) (length (ready_replies s.offers))
 
 -- The result of an exchange, unless memory runs out. If a reply is missing, a conversation that waits and one with a
--- mark at the beginning return Again, and any other is at its end.
+-- mark at the beginning return Again, and any other returns Gone.
 abbrev pub answer_to : ConvState → List Message → Result (List Reply) ConvFault
 answer_to s messages =
     if has_replies s messages then Ok (replies_from (ready_replies s.offers) messages)

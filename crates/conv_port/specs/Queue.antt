@@ -29,8 +29,8 @@ pub record Held : Type 0 where
   pub offers : List Offer
   pub handed : List (List Message)
 
--- One exchange: if there are replies enough, each prompt takes one, in order; if not, none is taken.
--- The messages were passed to it.
+-- One exchange: if there are enough replies, each prompt takes one, in order; if not, none is
+-- taken. The messages were passed to it.
 abbrev pub Exchanges : Option (List Reply) → List Message → Held → Held → Type 0
 Exchanges (Some replies) messages old new =
     (nat_le (prompt_count messages) (length (ready_replies old.offers)) ≡ true)

@@ -61,7 +61,7 @@ Types messages replies None new = ⊤
 Types messages replies (Some bytes) None = ⊥
 Types messages replies (Some bytes) (Some left) = IsTyped messages replies bytes left
 
--- one line of it
+-- one line of what was typed
 pub record IsLine (text bytes left : List ℕ) : Type 0 where
   pub some : 0 < length bytes
   pub text_is : text ≡ typed_line bytes

@@ -57,7 +57,7 @@ held_times id h b =
     let four = placed_times id h.live (datum_of b) in
     omega (arith, one, two, three, four)
 
--- an id that isn't below those in the list
+-- the ids in the list are smaller than this one
 not_below : (b : Bool) (n id : ℕ) → (b ≡ true → id ≡ n) → id < n → b ≡ false
 not_below true n id same lt = absurd (omega (arith, same refl))
 not_below false n id same lt = refl

@@ -38,7 +38,8 @@ swept_list list = record list { gone = [] }
 abbrev pub swept_ledger : Notes → PlainDataList → PlainLedger → PlainLedger
 swept_ledger note list ledger = ledger_after note data_replace list.gone ledger
 
--- some data are cleaned up with a status: the records so far and those that the other data will add are all of them
+-- some data are being cleaned up with a status: the records so far and those still to come,
+-- together, are all of them
 pub record IsCleaningUp (note : Notes) (status : ℕ) (before : PlainLedger) (all : List PlainDatum)
     (now : PlainLedger) (left : List PlainDatum) : Type 0 where
   pub births : now.births ≡ before.births

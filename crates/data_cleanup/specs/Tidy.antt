@@ -6,8 +6,9 @@ use Rattle.data_cleanup.specs.Cleanup.{Notes, data_replace}
 use Rattle.data_cleanup.specs.declared.datum.Birth.{Birth}
 use Rattle.data_cleanup.specs.declared.receipt.Filed.{Filed}
 
--- The number is what the owner's cleanup returned. If a set of the same transaction and name comes after this one and
--- before the position of the record, the status says that the data were replaced.
+-- The record's number is what the owner's cleanup returned. If a set of the same transaction and
+-- name comes after this one and before the position of the record, the status says that the data
+-- were replaced.
 pub record IsReceiptOf (note : Notes) (births : List Birth) (b : Birth) (f : Filed) : Type 0 where
   pub by_owner : f.receipt.note ≡ note b.owner b.payload f.receipt.status
   pub due_status : AllByRecursion (λ (later : Birth).

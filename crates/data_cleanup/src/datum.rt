@@ -24,7 +24,7 @@ impl Model for Datum {
 /// The record in the cleanup log that module data was set.
 #[derive(Debug, Drop)]
 pub struct Birth {
-    /// How many data were set before, in all transactions.
+    /// The number of data set before, in all transactions.
     pub id: u64,
     /// The number of the transaction.
     pub handle: u32,

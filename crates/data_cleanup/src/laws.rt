@@ -25,7 +25,7 @@ pub fn growth_is_transitive()
         Grows note modules x a y b → Grows note modules y b z c → Grows note modules x a z c }
 {}
 
-/// If nothing that was replaced is left, no change at all is growth.
+/// If no replaced data are left, a call that changes nothing is growth.
 pub fn nothing_grows()
     ensures { (note : Notes) (modules : ℕ) (list : PlainDataList) (ledger : PlainLedger) →
         list.gone ≡ [] → Grows note modules list ledger list ledger }
@@ -73,7 +73,7 @@ pub fn set_data_await_cleanup()
         AwaitCleanup modules after (new.gone ++ new.live) }
 {}
 
-/// Before the first of some data is cleaned up.
+/// The state before the first of some data is cleaned up.
 pub fn cleanup_begins()
     ensures { (note : Notes) (status : ℕ) (ledger : PlainLedger) (all : List PlainDatum) →
         IsCleaningUp note status ledger all ledger all }

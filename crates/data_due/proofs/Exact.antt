@@ -80,7 +80,7 @@ all_filed limit ledger lists once none id born = by_test (is_filed ledger id) (�
     let there = (unfiled_held limit ledger lists once id).0 (record { born = born; unfiled = e }) in
     absurd (omega (arith, there.2, ap (times id) (none there.0 there.1))))
 
--- no data, no records
+-- without data there are no records
 placed_some : (live : List PlainDatum) (d : PlainDatum) → 0 < length (with_datum live d)
 placed_some [] d = omega arith
 placed_some (x ∷ xs) d = by_test (bytes_eq x.name d.name) (λ e. rw e (omega arith)) (λ e. rw e (omega arith))

@@ -16,7 +16,7 @@ use Rattle.data_due.proofs.OnceMore.{nothing_below, fresh_numbers, once_growth, 
 use Rattle.data_due.proofs.Tidying.{numbered_late, each_placed}
 use Rattle.data_due.proofs.Exact.{open_lists}
 
--- one id, one record
+-- no two records have the same id
 abbrev Only : List Birth → Birth → Type 0
 Only births b = AllByRecursion (λ (c : Birth). c.id ≡ b.id → c ≡ b) births
 

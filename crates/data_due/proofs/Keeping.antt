@@ -1,4 +1,4 @@
--- What models a list of events models more.
+-- Lists and a log that model some events model more events after a call.
 use Rattle.std.proofs.Common.{◌≡◌, ℕ, ◌+◌, ◌<◌, ◌≤◌, false, eqb, arith, List, [], ◌∷◌, ◌++◌, length, map, reverse, refl, sym, ap, subst, ◌∙◌}
 use Rattle.std.specs.List.{AllByRecursion, IsDistinct}
 use Rattle.std.proofs.lemmas.List.{reverse-append, reverse-reverse, map-append}
@@ -25,7 +25,7 @@ use Rattle.data_due.proofs.Tidying.{numbered_late, all_tidy_more, growth_tidy, e
 abbrev Of : ℕ → List Birth → Type 0
 Of handle bs = AllByRecursion (λ (b : Birth). b.handle ≡ handle) bs
 
--- data set for a handle go to its list
+-- data that a transaction sets are added to its own list
 since_births : (handle : ℕ) (past : List Event) (bs : List Birth) → Of handle bs
     → since_end handle (reverse (map birth bs) ++ past) ≡ reverse bs ++ since_end handle past
 since_births handle past [] all = refl
@@ -47,7 +47,7 @@ pub data_held-births : (handle : ℕ) (events : List Event) (bs : List Birth) �
     → data_held handle (events ++ map birth bs) ≡ with_births (data_held handle events) bs
 data_held-births handle events bs all = ap (with_births []) (births_since-births handle events bs all) ∙ with_births-append [] (births_since handle events) bs
 
--- and to no other
+-- and to no other list
 since_other : (handle other : ℕ) (past : List Event) (bs : List Birth) → eqb other handle ≡ false → Of handle bs
     → since_end other (reverse (map birth bs) ++ past) ≡ since_end other past
 since_other handle other past [] e all = refl
@@ -75,7 +75,7 @@ data_held-other_ended handle status other events e =
     ap (λ (l : List Event). with_births [] (reverse (since_end other l))) (reverse-append events (ends handle status ∷ []))
     ∙ rw away refl
 
--- nothing models no events
+-- an empty log and empty lists model an empty list of events
 pub stand_at_first : (note : Notes) (limit : ℕ) → StandLive note limit (record { births = []; filed = [] }) (λ (h : ℕ). []) []
 unfolding IsDistinct
 stand_at_first note limit = record {

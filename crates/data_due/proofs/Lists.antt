@@ -1,4 +1,5 @@
--- The lists of the data that are set, alone: the laws are proved over them first.
+-- The laws are proved first for the lists of the data that are set, without those that wait for
+-- their cleanup.
 use Rattle.std.proofs.Common.{◌≡◌, ℕ, List, ◌++◌, length, ap, subst}
 use Rattle.std.specs.List.{AllByRecursion}
 use Rattle.data_cleanup.specs.Datum.{PlainDatum}

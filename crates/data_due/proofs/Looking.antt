@@ -1,4 +1,4 @@
--- Looking back over the data set for a handle.
+-- The data that were set for a transaction, looked at from the newest to the oldest.
 use Rattle.std.proofs.Common.{◌≡◌, ℕ, Bool, true, false, ◌||◌, eqb, arith, if◌then◌else◌, List, [], ◌∷◌, ◌++◌, map, reverse, refl, sym, ap, ◌∙◌, append_assoc}
 use Rattle.std.specs.List.{list_any, flat_map, AllByRecursion}
 use Rattle.std.specs.Str.{bytes_eq}
@@ -54,7 +54,7 @@ pub receipts-append : (note : Notes) (status : ℕ) (xs ys : List PlainDatum)
     → receipts note status (xs ++ ys) ≡ receipts note status xs ++ receipts note status ys
 receipts-append note status xs ys = map-append _ xs ys
 
--- what the data set for one handle make due
+-- which cleanups the data that are set for one transaction make due
 data_before : (i : ℕ) (ns : List PlainDatum) (rs : List (PlainDatum × ℕ))
     → map (λ (r : PlainDatum × ℕ). r.0) (map (λ (d : PlainDatum). (d, i)) ns ++ rs) ≡ ns ++ map (λ (r : PlainDatum × ℕ). r.0) rs
 data_before i [] rs = refl
@@ -78,7 +78,7 @@ due_births note h past (b ∷ bs) all =
     ∙ sym (receipts-append note data_replace (data_named live b.name) (replaced_data (with_datum live (datum_of b)) bs))
     ∙ ap (receipts note data_replace) (sym (replaced_data-cons live b bs))
 
--- what an end makes due
+-- which cleanups an end makes due
 pub has_back : (births : List Birth) (n : List ℕ) → list_any (λ (c : Birth). bytes_eq c.name n) births ≡ has n (hold_back births)
 has_back [] n = refl
 has_back (b ∷ before) n = rw has-with_datum (ap (λ (t : Bool). bytes_eq b.name n || t) (has_back before n))

@@ -1,4 +1,4 @@
--- Where names are in a list of data.
+-- Names in a list of data.
 use Rattle.std.proofs.Common.{◌≡◌, ℕ, Bool, true, false, ◌||◌, if◌then◌else◌, List, [], ◌∷◌, ◌++◌, map, refl, sym, ap, ◌∙◌}
 use Rattle.std.specs.List.{list_any}
 use Rattle.std.specs.Str.{bytes_eq}
@@ -37,7 +37,7 @@ names_flip x y e = false_unless (bytes_eq y x) (λ s.
     let same : bytes_eq x y ≡ true = (bytes_eq-Decides x y).1 (sym there) in
     cc)
 
--- what a list says of a name after data was set
+-- the data of a name in a list after data was set
 pub data_named-with_datum : (live : List PlainDatum) (d : PlainDatum) (n : List ℕ)
     → data_named (with_datum live d) n ≡ (if bytes_eq d.name n then d ∷ [] else data_named live n)
 data_named-with_datum [] d n = refl
@@ -63,7 +63,7 @@ has-with_datum (x ∷ xs) d n = by_test (bytes_eq x.name d.name)
     (λ e. rw (e, names_agree x.name d.name n e) (or_idem (bytes_eq d.name n) (has n xs)))
     (λ e. rw (e, has-with_datum xs d n) (or_swap (bytes_eq x.name n) (bytes_eq d.name n) (has n xs)))
 
--- no two data have one name
+-- no two data have the same name
 abbrev pub Apart : List PlainDatum → Type 0
 Apart [] = Unit {0}
 Apart (d ∷ ds) = (has d.name ds ≡ false) × Apart ds

@@ -1,4 +1,4 @@
--- Each id stays filed once or held once.
+-- After a call, too, each id is in one cleanup record or in one list.
 use Rattle.std.proofs.Common.{◌≡◌, ℕ, ◌+◌, ◌<◌, false, eqb, ltb, arith, if◌then◌else◌, List, [], ◌++◌, length, reverse, refl, ap, subst, ◌∙◌, length-append}
 use Rattle.std.proofs.lemmas.List.{map-append}
 use Rattle.data_cleanup.specs.Datum.{PlainDatum}

@@ -1,4 +1,4 @@
--- No id is filed twice, and each cleanup record's position is above its id.
+-- No id has two cleanup records, and the position of each cleanup record is greater than its id.
 use Rattle.std.proofs.Common.{◌≡◌, ℕ, ◌+◌, ◌<◌, ◌≤◌, Bool, true, false, eqb, ltb, arith, if◌then◌else◌, List, [], ◌∷◌, map, refl}
 use Rattle.std.specs.List.{AllByRecursion, IsDistinct, list_any}
 use Rattle.std.specs.Str.{bytes_eq}

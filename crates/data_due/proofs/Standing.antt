@@ -1,4 +1,4 @@
--- All data of a handle's list are the latest set under their name.
+-- All data in a transaction's list are the latest that were set under their name.
 use Rattle.std.proofs.Common.{◌≡◌, ℕ, ◌+◌, ◌<◌, true, false, eqb, arith, List, [], ◌∷◌, ◌++◌, length, map, reverse, refl, sym, ap, subst, ◌∙◌}
 use Rattle.std.specs.List.{AllByRecursion}
 use Rattle.std.specs.Str.{bytes_eq}
@@ -29,7 +29,7 @@ pub ids_below : (births : List Birth) → NumberedBack births → AllByRecursion
 ids_below [] is = tt
 ids_below (b ∷ before) is = (omega (arith, is.0), every _ _ (λ (c : Birth) (lt : c.id < length before). omega (arith, lt)) before (ids_below before is.1))
 
--- what holds of each after data was set
+-- what holds of each of them after data was set
 placed_each : (P Q : PlainDatum → Type 0) (d : PlainDatum) (live : List PlainDatum) → Apart live → AllByRecursion P live → Q d
     → ((x : PlainDatum) → P x → bytes_eq x.name d.name ≡ false → Q x) → AllByRecursion Q (with_datum live d)
 placed_each P Q d [] apart all new old = (new, tt)
@@ -42,7 +42,7 @@ placed_each P Q d (x ∷ xs) apart all new old = by_test (bytes_eq x.name d.name
           (λ e. absurd (let no : true ≡ false = rw e at none in cc))
           (λ e. (old y ps.0 e, others ys (rw e at none) ps.1))
 
--- data set once more
+-- data is set again
 kept_other : (handle : ℕ) (b : Birth) (births : List Birth) (d : PlainDatum) → b.id ≡ length births → (b.handle ≡ handle → b.name ≡ d.name → ⊥)
     → IsLatest handle births d → IsLatest handle (b ∷ births) d
 kept_other handle b births d number apart l = record {
@@ -71,7 +71,7 @@ latest_back handle (birth b ∷ past) is = by_test (eqb b.handle handle)
     (λ e. let away : b.handle ≡ handle → ⊥ = λ same. (let t : eqb b.handle handle ≡ true = grind arith in cc) in
     rw e (every _ _ (λ (x : PlainDatum) (l : IsLatest handle (births_back past) x). kept_other handle b (births_back past) x is.0 (λ same name. away same) l) _ (latest_back handle past is.1)))
 
--- the same of the events in order
+-- the same for the events in order
 births_of-append : (xs ys : List Event) → births_of (xs ++ ys) ≡ births_of xs ++ births_of ys
 births_of-append [] ys = refl
 births_of-append (birth b ∷ xs) ys = ap (λ (bs : List Birth). b ∷ bs) (births_of-append xs ys)
@@ -110,7 +110,7 @@ numbered_back (b ∷ before) is =
 latest-reverse : (handle : ℕ) (births : List Birth) (d : PlainDatum) → IsLatest handle births d → IsLatest handle (reverse births) d
 latest-reverse handle births d l = record { below = omega (arith, l.below, length-reverse births); is = every-reverse _ births l.is; latest = every-reverse _ births l.latest }
 
--- what a handle holds is the latest of its names
+-- what a transaction holds is the latest data of each name
 pub held_latest : (handle : ℕ) (events : List Event) → AreNumbered 0 (births_of events)
     → AllByRecursion (IsLatest handle (births_of events)) (data_held handle events)
 held_latest handle events numbered =

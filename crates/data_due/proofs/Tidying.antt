@@ -1,4 +1,4 @@
--- Cleanup records are tidy, and stay so when data are set.
+-- Cleanup records are in order, and stay so when data are set.
 use Rattle.std.proofs.Common.{◌≡◌, ℕ, ◌+◌, ◌<◌, ◌≤◌, arith, List, [], ◌∷◌, ◌++◌, length, map, refl, ap, ◌∙◌, length-append}
 use Rattle.std.specs.List.{AllByRecursion}
 use Rattle.std.specs.Str.{bytes_eq}
@@ -25,7 +25,7 @@ pub numbered_late : (n : ℕ) (births : List Birth) → AreNumbered n births →
 numbered_late n [] is = tt
 numbered_late n (b ∷ bs) is = (omega (arith, is.0), every (λ (c : Birth). n + 1 ≤ c.id) (λ (c : Birth). n ≤ c.id) (λ c le. omega (arith, le)) bs (numbered_late (n + 1) bs is.1))
 
--- more data set
+-- more data are set
 of_more : (note : Notes) (births added : List Birth) (b : Birth) (f : Filed) → AllByRecursion (λ (c : Birth). length births ≤ c.id) added
     → f.mark ≤ length births → IsReceiptOf note births b f → IsReceiptOf note (births ++ added) b f
 of_more note births added b f late within r = record {
@@ -51,7 +51,7 @@ pub all_tidy_more : (note : Notes) (births added : List Birth) (fs : List Filed)
     → AllByRecursion (IsTidy note births) fs → AllByRecursion (IsTidy note (births ++ added)) fs
 all_tidy_more note births added fs late all = every (IsTidy note births) (IsTidy note (births ++ added)) (λ f t. tidy_more note births added f late t) fs all
 
--- each record with the id of data is that of these data
+-- each record with the id of some data is the record of these data
 abbrev Known : List Birth → PlainDatum → Type 0
 Known births d = AllByRecursion (λ (b : Birth). b.id ≡ d.id → datum_of b ≡ d) births
 

@@ -1,4 +1,5 @@
--- The laws over whole data lists: each transaction's own number, and nothing that waits for its cleanup.
+-- The laws for whole data lists: each has the number of its own transaction, and no replaced data
+-- wait for their cleanup.
 use Rattle.std.proofs.Common.{◌≡◌, ℕ, ◌<◌, false, eqb, arith, List, [], ◌∷◌, ◌++◌, map, reverse, refl, sym, ap, subst, ◌∙◌}
 use Rattle.std.proofs.lemmas.List.{append-nil}
 use Rattle.data_cleanup.specs.Datum.{PlainDatum}
@@ -43,7 +44,7 @@ whole_stand note limit ledger lists events clean s = record {
   once = s.once;
 }
 
--- what models events is clean
+-- lists that model events have no data that wait for their cleanup
 stand_clean : (note : Notes) (limit : ℕ) (ledger : PlainLedger) (lists : Lists) (events : List Event) → StandFor note limit ledger lists events
     → (h : ℕ) → lists h ≡ clean_list h (lists h).live
 stand_clean note limit ledger lists events s h = s.lists_are h ∙ ap (clean_list h) (sym (ap (λ (l : PlainDataList). l.live) (s.lists_are h)))

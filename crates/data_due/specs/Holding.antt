@@ -1,4 +1,4 @@
--- What the transactions hold after a run, and the cleanup records.
+-- Which data the transactions hold after a run, and which cleanup records there are.
 use Rattle.std.specs.Prelude.{ℕ, List, [], map, reverse}
 use Rattle.data_cleanup.specs.Datum.{PlainDatum}
 use Rattle.data_cleanup.specs.Cleanup.{Notes}

@@ -5,7 +5,7 @@ use Rattle.data_cleanup.specs.Datum.{PlainDatum}
 use Rattle.data_cleanup.specs.DataList.{PlainDataList, datum_of}
 use Rattle.data_cleanup.specs.declared.datum.Birth.{Birth}
 
--- data of a transaction: no later ones with their name replaced them
+-- data of a transaction that no later data of the same name replaced
 pub record IsLatest (handle : ℕ) (births : List Birth) (d : PlainDatum) : Type 0 where
   pub below : d.id < length births
   pub is : AllByRecursion (λ (b : Birth). b.id ≡ d.id → (datum_of b ≡ d)
@@ -13,6 +13,6 @@ pub record IsLatest (handle : ℕ) (births : List Birth) (d : PlainDatum) : Type
   pub latest : AllByRecursion (λ (c : Birth). d.id < c.id → c.handle ≡ handle → c.name
       ≡ d.name → ⊥) births
 
--- all data of a list are so
+-- all data of a list are such data
 abbrev pub AreLatest : List Birth → PlainDataList → Type 0
 AreLatest births list = AllByRecursion (IsLatest list.handle births) list.live

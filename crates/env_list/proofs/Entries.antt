@@ -15,7 +15,7 @@ use Rattle.env_list.proofs.Variables.{changed, added, NoneNamed, none_changed, n
 abbrev pub Entry : Type 0
 Entry = Vec ℕ Global × List ℕ
 
--- whether two keys of the map are one name
+-- whether two keys of the map are the same name
 abbrev pub is_same : Vec ℕ Global → Vec ℕ Global → Bool
 is_same one other = bytes_eq one.items other.items
 

@@ -1,4 +1,4 @@
--- The definitions computed on worked rows.
+-- Test cases, computed on the definitions.
 use Rattle.std.proofs.Common.{◌≡◌, ℕ, true, false, List, [], ◌∷◌, map, Some, None, codes, refl}
 use Rattle.env_list.specs.Environment.{Variable, value_of, after_put, is_refused, variable_text}
 
@@ -33,7 +33,7 @@ unset = refl
 listed : map variable_text deleted ≡ codes "B=" ∷ []
 listed = refl
 
--- a name that is set keeps its place, and a deletion closes up
+-- a name that is set keeps its place, and after a deletion the variables after it move up
 abbrev three : List Variable
 three = variable (codes "A") (codes "1") ∷ variable (codes "B") (codes "2") ∷ variable (codes "C") (codes "3") ∷ []
 

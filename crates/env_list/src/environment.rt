@@ -11,8 +11,8 @@ use std::marker::Model;
 /// The byte between a name and its value.
 const EQUALS: u8 = b'=';
 
-/// The environment that the modules of one transaction hand to the session (`pam_getenvlist(3)`). Contracts
-/// see the list of its variables, each a name and a value, with different names.
+/// The environment that the modules of one transaction give to the session (`pam_getenvlist(3)`).
+/// Contracts see the list of its variables, each a name and a value, with different names.
 #[derive(Drop)]
 pub struct EnvList {
     alloc: Global,

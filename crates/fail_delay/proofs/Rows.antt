@@ -1,4 +1,4 @@
--- The definitions computed on worked rows.
+-- Test cases, computed on the definitions.
 use Rattle.std.proofs.Common.{◌≡◌, ℕ, true, false, [], ◌∷◌, Some, None, refl}
 use Rattle.pam_base.specs.declared.code.Code.{Code}
 use Rattle.pam_base.specs.declared.code.Code.TheVariants.{Success, AuthErr}
@@ -51,6 +51,6 @@ succeeded = refl
 not_asked : wait_of false unused AuthErr 0 ≡ None
 not_asked = refl
 
--- with one it is always asked
+-- a delay function that is on is always called
 on_success : wait_of true unused Success 0 ≡ Some 5
 on_success = refl

@@ -11,7 +11,8 @@ abbrev pub longest_of : List ℕ → ℕ
 longest_of [] = 0
 longest_of (micros ∷ requests) = max (counted_request micros) (longest_of requests)
 
--- a longest request spread by a random word: the remainders up to its half lengthen it, the others shorten it
+-- a longest request varied by a random word: the remainders up to its half lengthen it, the others
+-- shorten it
 abbrev pub spread : ℕ → ℕ → ℕ → ℕ
 spread longest half remainder = if nat_le remainder half then longest + remainder
     else longest - (remainder - half)

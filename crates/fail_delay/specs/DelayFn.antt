@@ -3,8 +3,8 @@
 use Rattle.std.specs.Prelude.{◌≡◌, ℕ, ◌≤◌}
 use Rattle.pam_base.specs.declared.code.Code.{Code}
 
--- for each code and each delay that can be asked for a function gives one number alone, of at most 60 seconds in
--- microseconds
+-- for each code and each delay that can be asked for, a function returns exactly one number, at
+-- most 60 seconds in microseconds
 pub record GivesOneNumber (Gives : Code → ℕ → ℕ → Type 0) : Type 0 where
   pub one : (code : Code) (asked n other : ℕ) → asked ≤ 90000000 → Gives code asked n
       → Gives code asked other → n ≡ other

@@ -34,8 +34,8 @@ impl DelayTold for DelayFn {
 }
 
 impl DelayFn {
-    /// The function may be called for every code and every requested delay of up to 90 seconds. It
-    /// gives one number for each pair of them, always the same, and at most 60 seconds.
+    /// The function may be called for every code and every requested delay of up to 90 seconds. For
+    /// each pair it always returns the same number, of at most 60 seconds.
     pub fn new(rule: DelayRule) -> Self
         requires callable { (code : Code) (asked : ℕ) → asked ≤ LONGEST_ASKED →
             DelayRule.pre rule code asked }
@@ -46,8 +46,8 @@ impl DelayFn {
         DelayFn { rule }
     }
 
-    /// How long to wait, in microseconds: the one number that the function gives for the code and the asked
-    /// delay. It is at most 60 seconds.
+    /// How long to wait, in microseconds: the number that the function returns for the code and the
+    /// requested delay, at most 60 seconds.
     pub fn wait(&self, code: Code, asked: u32) -> u32
         requires { asked ≤ LONGEST_ASKED }
         ensures number { (number : Code → ℕ → ℕ) →

@@ -1,4 +1,4 @@
-//! What the longest request and the asked delay are, in their own words.
+//! What the longest request and the requested delay are, in other words.
 ghost use Rattle.std.specs.Prelude.{◌≡◌, ◌≤◌, ◌<◌, ◌+◌, ◌-◌, ◌/◌, ℕ, List, All, Any, ◌⊎◌};
 ghost use Rattle.fail_delay.specs.Delay.{counted_request, longest_of, asked_delay};
 

@@ -1,5 +1,5 @@
--- The items of a transaction, pam_set_item(3): a text or nothing for each, except the conversation and the delay
--- function, which are no texts.
+-- The items of a transaction, pam_set_item(3): a text or nothing for each, except the conversation
+-- and the delay function, which aren't texts.
 use Rattle.std.specs.Prelude.{ℕ, List, Option, None}
 use Rattle.pam_base.specs.declared.item.ItemName.{ItemName}
 use Rattle.pam_base.specs.declared.item.ItemName.TheVariants.{Service, User, Tty, Rhost, Conv, AuthTok, OldAuthTok, Ruser, UserPrompt, FailDelay, XDisplay, XAuthData, AuthTokType}
