@@ -55,7 +55,7 @@ split_join separator l (m ∷ ms) h =
 
 -- ---- lines
 
--- the lines of joined parts: an empty part at the end is no line
+-- the lines of joined parts: an empty part at the end isn't a line
 abbrev pub lines_from : List (List ℕ) → List (List ℕ)
 lines_from [] = []
 lines_from (l ∷ []) = last_line l

@@ -114,7 +114,7 @@ all_passed_over : passwds_of (codes "\n# a\n+::\n-b\n") ≡ Ok []
 unfolding entries_of parts_of lines_of cut
 all_passed_over = refl
 
--- a line that begins with a space is no comment
+-- a line that begins with a space isn't a comment
 space_at_fault : passwds_of (codes "\n \n") ≡ at 2
 unfolding entries_of parts_of lines_of cut
 space_at_fault = refl
@@ -296,7 +296,7 @@ row : hash_replaced (codes "joe") (codes "new") 20000 (codes "a:x:1::::::\njoe:o
 unfolding entries_of parts_of with_hash changed_line lines_of cut digits
 row = refl
 
--- the first line at fault is named, whoever has it
+-- the first line at fault is named, whichever user's it is
 other_line_at_fault : hash_replaced (codes "joe") [] 1 (codes "joe::1::::::\na\n")
     ≡ Err (record { line = 2 })
 unfolding entries_of parts_of lines_of cut

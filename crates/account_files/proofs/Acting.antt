@@ -1,4 +1,4 @@
--- Steps of what a module does, put before what it does from there on.
+-- Steps of a module's definition, put before the rest of the definition.
 use Rattle.std.proofs.Common.{◌≡◌, ℕ, zero, suc, Bool, true, false, cond, List, [], Option, Some, None, is_some, unwrap_or, codes, Result, Ok, Err, IfOk, refl, sym, ap, ◌∙◌}
 use Rattle.std.proofs.lemmas.List.{append-nil}
 use Rattle.pam_base.specs.declared.code.Code.{Code}
@@ -172,7 +172,7 @@ module _ (process : Process) (known : Known) (vault : VaultState) where
 
 -- ---- a file that is set
 
--- which calls fail, and how many were made, doesn't hang on the files
+-- which calls fail, and how many were made, doesn't depend on the files
 calls_apart : (n : ℕ) (v : VaultState) (x f : List File) → record (after_calls n (record v { files = x })) { files = f } ≡ record (after_calls n v) { files = f }
 calls_apart zero v x f = refl
 calls_apart (suc n) v x f = calls_apart n (counted v) x f

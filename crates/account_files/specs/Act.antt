@@ -43,14 +43,14 @@ in_room room stage = record stage { room = room }
 unfoldable pub answers : Code → Act
 answers code stage = answered code stage.room stage.sight
 
--- a code that is there already is returned; otherwise this is done
+-- a code that is already decided is returned; otherwise this is done
 abbrev pub unless_answered : Option Code → Act → Act
 unless_answered (Some code) act = answers code
 unless_answered None act = act
 
 -- ---- the user
 
--- the user is there, or CONV_ERR is returned at once
+-- USER is set, or CONV_ERR is returned at once
 abbrev pub with_user : Asked → (List ℕ → Act) → Act
 with_user asked act stage = if asked.refused then answered ConvErr asked.room stage.sight
     else act (unwrap_or asked.room.items.user []) (in_room asked.room stage)
@@ -79,7 +79,7 @@ sees_items act stage = act stage.room.items stage
 abbrev pub later : Sight → Sight
 later sight = record sight { failing = λ n. sight.failing (suc n) }
 
--- one call more was made
+-- one more call was made
 abbrev pub called : Played → Played
 called played = record played { calls = suc played.calls }
 
@@ -171,7 +171,7 @@ stage_of known s = record {
   sight = sight_of s;
 }
 
--- a module does what its definition says, from a state of which nothing is known
+-- a module does what its definition says, from any state
 abbrev pub plays_by : (PlainCall → Act) → Plays
 plays_by act call room held sight = act call (record {
   room = room;
@@ -185,18 +185,20 @@ abbrev pub scene_at : Transaction → ConvState → VaultState → ClockState �
 scene_at transaction conv vault clock process =
     scene_of (room_of (plain_transaction transaction) conv) vault clock (plain_process process)
 
--- A code was returned and this was left, as an act has it.
+-- The module returned a code and left this, as its definition says.
 pub record Acts (act : Act) (known : Known) (old : Scene) (code : Code) (new : Scene) : Type 0 where
   pub code_is : code ≡ (act (stage_of known old)).code
   pub scene_is : new ≡ with_played (act (stage_of known old)) old
 
--- What is done from there on is what the whole does from here, whatever is known of the account files.
+-- The rest of the definition, from there on, does what the whole does from here, whatever is known
+-- of the account files.
 abbrev pub Reaches : (Act → Act) → Scene → Scene → Type 0
 Reaches step old new =
     (act : Act) (known : Known) (code : Code) (end : Scene)
     → Acts act known new code end → Acts (step act) known old code end
 
--- A step gave this value: what is done with it from there on is what the whole does from here.
+-- A step gave this value: the rest of the definition, with this value, does what the whole does
+-- from here.
 abbrev pub Yields : {A : Type 0} → A → ((A → Act) → Act) → Scene → Scene → Type 0
 Yields {A} value step old new =
     (act : A → Act) (known : Known) (code : Code) (end : Scene)
@@ -210,7 +212,7 @@ StepsTo {A} step value process old new =
     → Yields value step (scene_of room old clock (plain_process process))
     (scene_of room new clock (plain_process process))
 
--- The same of a step that may read account files, by what is known of them before and after it.
+-- The same for a step that may read account files, given what is known of them before and after it.
 abbrev pub LooksTo : {A : Type 0} → ((A → Act) → Act) → A → Process → Known → VaultState → Known
     → VaultState → Type 0
 LooksTo {A} step value process known old now new =

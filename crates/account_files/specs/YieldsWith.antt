@@ -4,8 +4,8 @@ use Rattle.pam_room.specs.State.{Scene}
 use Rattle.account_files.specs.Accounts.{Known}
 use Rattle.account_files.specs.Act.{Act, Acts}
 
--- A step gave this value, by what is known of the account files before and after it: what is done with it from there on
--- is what the whole does from here.
+-- A step gave this value, given what is known of the account files before and after it: the rest of
+-- the definition, with this value, does what the whole does from here.
 abbrev pub YieldsWith : {A : Type 0} → A → ((A → Act) → Act) → Known → Scene → Known → Scene → Type 0
 YieldsWith {A} value step known old now new =
     (act : A → Act) (code : Code) (end : Scene)

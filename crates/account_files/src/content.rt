@@ -10,7 +10,7 @@ use pam_room::pam_outside::{
 };
 use std::alloc::Global;
 
-/// The most bytes of a file that a module shows, or sets variables by.
+/// The maximum number of bytes of a file that a module shows or sets variables from.
 pub const SMALL_FILE_LIMIT: u32 = 65536;
 
 /// What a module finds when it looks for a file.
@@ -83,8 +83,8 @@ pub fn read_named(
     Ok(content)
 }
 
-/// Sets the file with this name whole, by one call of `Vault`. Returns false if that failed: all
-/// files are then as they were, as they are if an allocation fails.
+/// Replaces the whole file with this name, by one call of `Vault`. Returns false if that failed;
+/// then, and if an allocation fails, all files are as they were.
 pub fn replace_named(
     alloc: Global,
     vault: &mut dyn Vault,
@@ -109,9 +109,9 @@ pub fn replace_named(
     }
 }
 
-/// Holds what this name refers to until the result is dropped; None if that failed. It isn't
-/// counted as a call, changes no file, and with modelled files is never None. If the name isn't a
-/// path from the root, nothing is held.
+/// Holds the lock of the file with this name until the result is dropped; None if that failed. This
+/// isn't counted as a call and changes no file, and with modelled files the result is never None.
+/// If the name isn't a path from the root, nothing is held.
 pub fn hold_named(
     alloc: Global,
     vault: &mut dyn Vault,

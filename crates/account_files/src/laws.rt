@@ -10,8 +10,8 @@ ghost use Rattle.pam_room.specs.Module.{PlaysIn};
 ghost use Rattle.account_files.specs.Accounts.{Known, nothing_known};
 ghost use Rattle.account_files.specs.Act.{Act, Acts, answers, draws_word, plays_by, sees_items, sees_moment};
 
-/// The laws of the steps that make no call, and of an act's end. A step's law puts it before what
-/// is done from there on.
+/// The laws of the steps that make no call, and of the end of a definition. The law of a step puts
+/// it before the rest of the definition.
 pub fn act_steps()
     ensures answers { (code : Code) (known : Known) (s : Scene) →
         Acts (answers code) known s code s }

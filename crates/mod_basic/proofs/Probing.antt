@@ -1,4 +1,4 @@
--- In the middle of the arguments of pam_probe.
+-- The state between two arguments of pam_probe.
 use Rattle.std.proofs.Common.{◌≡◌, ℕ, ◌-◌, ◌≤◌, true, false, List, [], ◌∷◌, ◌++◌, length, take, drop, get_or, refl, ap, ◌∙◌, append_assoc, take_all, arith}
 use Rattle.std.proofs.lemmas.List.{append-nil}
 use Rattle.conv_port.specs.declared.message.Message.{Message}
@@ -8,7 +8,7 @@ use Rattle.pam_room.specs.Module.{HasSet, NamedData, SeenRoom}
 use Rattle.mod_basic.specs.Request.{PlainRequest, set_data, send, delay, nothing, request_of}
 use Rattle.mod_basic.specs.Probe.{ComesTo, births_in, probed_all, probing, refuses, room_after}
 
--- some data were set so far, and what is left of the arguments gives what all of them give
+-- some data were set so far, and the arguments that are left lead to the result of all of them
 pub record Midway (Tells : Type 0) (owner : ℕ) (args rest : List (List ℕ)) (start now : SeenRoom) (list : PlainDataList) (ledger : PlainLedger) (later : PlainDataList) (after : PlainLedger) : Type 0 where
   pub births : List NamedData
   pub set : HasSet owner births list ledger later after

@@ -1,4 +1,4 @@
--- Worked rows, computed on the definitions.
+-- Test cases, computed on the definitions.
 use Rattle.std.proofs.Common.{◌≡◌, ℕ, false, List, [], ◌∷◌, Some, None, codes, refl}
 use Rattle.pam_base.specs.declared.code.Code.TheVariants as returns
 use Rattle.pam_base.specs.declared.call.Func.{Func}
@@ -20,7 +20,7 @@ use Rattle.mod_basic.specs.Probe.{probe_plays, probe_note}
 abbrev call_of : Func → ℕ → List (List ℕ) → PlainCall
 call_of func flags args = record { func = func; flags = flags; args = args }
 
--- transaction 1 with a conversation that holds this, in a process of this user
+-- transaction 1 with this content of its conversation, in a process of this user
 abbrev start : List Offer → ℕ → State
 start offers caller = state_of
     (room_of (new_transaction 1) (record { offers = offers; waits = false; handed = [] }))

@@ -18,7 +18,8 @@ use Rattle.pam_room.specs.Module.{HasSet, NamedData, Note, Played, Plays, SeenRo
 use Rattle.pam_room.specs.Say.{speak}
 use Rattle.mod_basic.specs.Request.{PlainRequest, set_data, send, delay, nothing, request_of}
 
--- in the middle of its arguments: whether the conversation gave no reply, the room, and the data set so far
+-- the state between two of its arguments: whether the conversation gave no reply, the room, and the
+-- data set so far
 pub record Probing : Type 0 where
   pub refused : Bool
   pub room : SeenRoom
@@ -61,7 +62,7 @@ probed_all [] p = p
 probed_all (arg ∷ args) p = if (probed (request_of arg) p).refused then probed (request_of arg) p
     else probed_all args (probed (request_of arg) p)
 
--- what one request does if the conversation is modelled; if an allocation fails, nothing is said of it
+-- what one request does if the conversation is modelled; nothing is stated if an allocation fails
 abbrev pub Probes : {T : Type 0} → Result T (Refuse ConvErr) → PlainRequest → SeenRoom → SeenRoom
     → Type 0
 Probes (Ok v) request old new = (refuses request old ≡ false) × (new ≡ room_after request old)
@@ -106,6 +107,6 @@ abbrev pub probe_plays : Plays
 probe_plays call room held sight =
     played_so (probed_all call.args (probing false room [])) call.args sight
 
--- its cleanup result shows payload and status
+-- the result of its cleanup is made from payload and status
 abbrev pub probe_note : Note
 probe_note payload status = (256 * length payload + status % 256) % 2 ^ 32

@@ -44,7 +44,7 @@ request_of arg = unwrap_or
     (option_map delay_of (value_in (codes "delay=") arg)))))
     nothing
 
--- a request of the code as a plain one
+-- the plain value of the code's type for a request
 abbrev pub plain_request : Request → PlainRequest
 plain_request (requests.SetData name payload) = set_data name.now payload.now
 plain_request (requests.Send style text) = send style text.now

@@ -1,4 +1,4 @@
--- What is found one by one, before what follows.
+-- What was found so far, put before what is found in the rest.
 use Rattle.std.proofs.Common.{◌≡◌, ℕ, zero, suc, ◌<◌, ◌-◌, ◌==◌, Bool, true, false, cond, List, [], ◌∷◌, ◌++◌, length, Option, Some, None, refl, ap, sym, ◌∙◌, append_assoc, arith}
 use Rattle.std.proofs.lemmas.List.{append-nil}
 use Rattle.mod_env.specs.declared.conf.EnvLine.{EnvLine}

@@ -1,4 +1,4 @@
--- Steps at the environment, and a module that changes it alone.
+-- Steps that see and set the environment, and a module that changes nothing else.
 use Rattle.std.proofs.Common.{◌≡◌, ℕ, List, [], refl, sym, ap, ◌∙◌, arith}
 use Rattle.std.proofs.lemmas.List.{append-nil}
 use Rattle.pam_base.specs.declared.code.Code.{Code}

@@ -1,4 +1,4 @@
--- Each text that is read is spelled as what it is read as.
+-- Each text that is read spells the variables as which it is read.
 use Rattle.std.proofs.Common.{◌≡◌, ℕ, zero, suc, ◌+◌, ◌<◌, ◌≤◌, Bool, true, false, ◌==◌, ◌&&◌, cond, ◌⊎◌, inl, inr, List, [], ◌∷◌, ◌++◌, length, drop, take, map, codes, Option, Some, None, refl, sym, ap, ◌∙◌, arith, add-one, one-add, subst, position}
 use Rattle.std.proofs.Math.Seq.{take-length}
 use Rattle.std.proofs.Math.ListN.{drop_of_length-le}

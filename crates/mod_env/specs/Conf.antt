@@ -64,7 +64,8 @@ abbrev pub with_value : Key → List Piece → Values → Values
 with_value Default pieces values = record values { default = Some pieces }
 with_value Override pieces values = record values { overriding = Some pieces }
 
--- by how the text begins, and what the rest gives with the values that were found; the last of each holds
+-- by how the text begins, and the values in the rest, given those found so far; the last one of
+-- each kind counts
 abbrev pub by_pieces : (Values → List Mark → Option Values) → Values → Key → List Mark
     → Option (List Piece) → Option Values
 by_pieces more values key rest (Some pieces) = more (with_value key pieces values) rest
@@ -121,7 +122,7 @@ entries_of (line ∷ lines) = if counts (without_front line)
 abbrev pub conf_of : List ℕ → Option (List EnvLine)
 conf_of text = entries_of (lines_of text)
 
--- as the code has it
+-- the plain value of the code's type
 abbrev pub plain_setting : LentSetting → Setting
 plain_setting lent.Ended = ended
 plain_setting lent.Broken = broken

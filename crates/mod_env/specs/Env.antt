@@ -46,7 +46,7 @@ abbrev pub by_user : Option (List ℕ) → (Option Passwd → Act) → Act
 by_user (Some user) act = finds_account user (λ account. act (entry_in account))
 by_user None act = act None
 
--- what is known of it then
+-- what is known of the entry then
 abbrev pub entry_known : Option (List ℕ) → Known → Option Passwd
 entry_known (Some user) known = entry_in (account_in user (known_passwds known))
 entry_known None known = None
@@ -55,7 +55,7 @@ abbrev pub entry_seen : Bool → Option (List ℕ) → Known → Option Passwd
 entry_seen true user known = entry_known user known
 entry_seen false user known = None
 
--- it is looked up if a value needs it
+-- the entry is looked up if a value needs it
 abbrev pub looks_if : Bool → (Option Passwd → Act) → Act
 looks_if true act = sees_items (λ items. by_user items.user act)
 looks_if false act = act None
@@ -93,12 +93,12 @@ text_in Absent = Some []
 text_in Unreadable = None
 text_in (Holds text) = Some text
 
--- a value that is too long is BUF_ERR at once, and the second file sets nothing
+-- if a value is too long, BUF_ERR is returned at once, and the second file sets nothing
 abbrev pub by_fits : List (List ℕ) → Bool → Act
 by_fits assignments true = puts_all assignments (answers returns.Success)
 by_fits assignments false = answers returns.BufErr
 
--- a malformed line of pam_env.conf is SERVICE_ERR, and nothing is set
+-- if a line of pam_env.conf is malformed, SERVICE_ERR is returned, and nothing is set
 abbrev pub by_entries : Option (List EnvLine) → List (List ℕ) → Act
 by_entries (Some entries) assignments = sets_all entries (by_fits assignments)
 by_entries None assignments = answers returns.ServiceErr
@@ -107,7 +107,7 @@ abbrev pub by_texts : List ℕ → Option (List ℕ) → Act
 by_texts conf (Some env) = by_entries (conf_of conf) (assignments_of env)
 by_texts conf None = answers returns.ServiceErr
 
--- the most bytes of either file
+-- the maximum number of bytes of either file
 abbrev pub env_limit : ℕ
 env_limit = 65536
 
@@ -134,7 +134,7 @@ reads_first args =
 
 -- ---- the module
 
--- setcred and open_session do the work
+-- only setcred and open_session set variables
 abbrev pub at_once : Func → Option Code
 at_once Authenticate = Some returns.Ignore
 at_once SetCred = None

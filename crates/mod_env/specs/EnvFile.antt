@@ -23,7 +23,7 @@ abbrev pub without_quotes : ℕ → List ℕ → List ℕ
 without_quotes quote text =
     if starts_with nat_eq text (quote ∷ []) then without_last quote (drop 1 text) text else text
 
--- one pair around the whole value is taken off
+-- one pair of quotes around the whole value is removed
 abbrev pub unquoted : List ℕ → List ℕ
 unquoted text = if starts_with nat_eq text (34 ∷ []) then without_quotes 34 text
     else without_quotes 39 text
@@ -37,7 +37,7 @@ assignment_at text =
     if has_byte 61 text && is_name (name_in text)
     then Some (name_in text ++ 61 ∷ unquoted (value_in text)) else None
 
--- what a line sets, as an argument of pam_putenv(3); other lines are passed over, comments among them
+-- what a line sets, as an argument of pam_putenv(3); other lines, comments too, are skipped
 abbrev pub assignment_in : List ℕ → Option (List ℕ)
 assignment_in line = assignment_at (without_export (without_front line))
 

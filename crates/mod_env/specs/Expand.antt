@@ -96,11 +96,11 @@ abbrev pub value_names_account : Option (List Piece) → Bool
 value_names_account (Some value) = list_any names_account value
 value_names_account None = false
 
--- one of the values does, used or not
+-- one of the values does, whether it is used or not
 abbrev pub asks_account : EnvLine → Bool
 asks_account entry =
     value_names_account entry.values.default || value_names_account entry.values.overriding
 
--- as the code has them
+-- the plain values of the code's types
 abbrev pub plain_sources : LentSources → Sources
 plain_sources s = record { items = s.items.now; env = s.env.now; entry = option_copied s.entry }

@@ -24,7 +24,8 @@ abbrev pub opens : List Mark → Bool
 opens [] = false
 opens (m ∷ ms) = is_byte 123 m
 
--- A place, with something after it: a sigil, a brace, a name, and the brace that closes it. In the name none does.
+-- A place, with something after it: a sigil, a brace, a name, and the brace that closes it. No
+-- brace in the name closes it.
 pub record SpellsPlace (sigil : ℕ) (name : List ℕ) (text behind : List Mark) : Type 0 where
   pub inner : List Mark
   pub text_is : text ≡ marks.Byte sigil ∷ marks.Byte 123 ∷ (inner ++ marks.Byte 125 ∷ behind)
@@ -101,7 +102,7 @@ SpellsSettings (given ∷ more) text =
     (behind : List Mark) × SpellsSetting given.key given.value text behind
     × SpellsSettings more behind
 
--- what settings give, the last of each key, and before them these values
+-- the values that settings give: for each key the last one, or these values if there is none
 abbrev pub settled : List Given → Values → Values
 settled [] values = values
 settled (given ∷ more) values = settled more (with_value given.key given.value values)
@@ -130,7 +131,7 @@ pub record SpellsEntry (entry : EnvLine) (line : List ℕ) : Type 0 where
   pub spelled : SpellsSettings given (marks_of settings)
   pub entry_is : entry ≡ record { name = first ∷ others; values = settled given no_values }
 
--- A line that is passed over: all white space, or a comment after some.
+-- A line that is skipped: all white space, or a comment after white space.
 pub record IsPassedOver (line : List ℕ) : Type 0 where
   pub white : List ℕ
   pub comment : List ℕ

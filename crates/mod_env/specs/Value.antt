@@ -43,7 +43,7 @@ abbrev pub in_front : Piece → Option (List Piece) → Option (List Piece)
 in_front piece (Some more) = Some (piece ∷ more)
 in_front piece None = None
 
--- by how the value begins, and what the rest gives
+-- by how the value begins, and the pieces of the rest
 abbrev pub by_next : (List Mark → Option (List Piece)) → Next → Option (List Piece)
 by_next more ended = Some []
 by_next more broken = None
@@ -58,7 +58,7 @@ pieces_within (suc n) value = by_next (pieces_within n) (next_piece value)
 unfoldable pub pieces_of : List Mark → Option (List Piece)
 pieces_of value = pieces_within (length value) value
 
--- as the code has it
+-- the plain value of the code's type
 abbrev pub plain_next : LentNext → Next
 plain_next lent.Ended = ended
 plain_next lent.Broken = broken

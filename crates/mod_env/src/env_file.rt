@@ -10,7 +10,7 @@ use pam_base::{Lines, NoMemory, Text, Texts, first_place};
 use std::alloc::Global;
 
 /// What the lines of a file of `environment(5)` set, in order, each an argument of `pam_putenv(3)`.
-/// Lines that aren't of the form `NAME=VALUE` are passed over.
+/// Lines that aren't of the form `NAME=VALUE` are skipped.
 #[tactic(auto, unfolding(crate::specs::EnvFile::assignments_of))]
 pub fn assignments_of(alloc: Global, text: &[u8]) -> Result<Texts, NoMemory>
     ensures { IfOk result (λ texts. texts ≡ assignments_of text.now) }

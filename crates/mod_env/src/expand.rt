@@ -13,7 +13,7 @@ use item_store::Items;
 use pam_base::{ItemName, NoMemory, Text};
 use std::alloc::Global;
 
-/// The most bytes of a value.
+/// The maximum number of bytes of a value.
 const VALUE_LIMIT: usize = 1024;
 
 /// What becomes of a variable.

@@ -203,7 +203,7 @@ pub(crate) fn put_all(texts: &Texts, transaction: &mut Transaction) -> Result<()
     Ok(())
 }
 
-// Puts a text; one that is refused changes nothing.
+// Puts a text into the environment; a text that is refused changes nothing.
 fn put(text: &[u8], transaction: &mut Transaction) -> Result<(), NoMemory>
     ensures told { (conv : ConvState) (vault : VaultState) (clock : ClockState)
         (process : Process) →

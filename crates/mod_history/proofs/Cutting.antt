@@ -1,4 +1,4 @@
--- The last n of the hashes that were added, one by one or at the end.
+-- The last n of the hashes that were added: cutting after each or once at the end gives the same.
 use Rattle.std.proofs.Common.{◌≡◌, ℕ, zero, suc, ◌+◌, ◌-◌, ◌<◌, Bool, true, false, ◌||◌, cond, List, [], ◌∷◌, ◌++◌, length, drop, Option, Some, None, refl, sym, ap, ◌∙◌, arith, length-append, length-drop}
 use Rattle.std.proofs.lemmas.List.{drop-append-le, drop-drop}
 use Rattle.std.specs.List.{last_or}

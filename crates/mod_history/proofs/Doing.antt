@@ -60,7 +60,7 @@ module _ (path bytes : List ℕ) where
 -- ---- the steps
 
 module _ (path : List ℕ) (call : PlainCall) (room : SeenRoom) where
-  -- what is played leaves the file or renews a line in it
+  -- what the module does leaves the file or renews a line in it
   abbrev pub DoesOne : Sight → Played → Type 0
   DoesOne sight p = (d : Deed) × Does path call room sight p d
 

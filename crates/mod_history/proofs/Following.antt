@@ -24,7 +24,7 @@ either_false true b e = absurd cc
 either_false false b e = (refl, e)
 
 module _ (remember : ℕ) (some : 0 < remember) where
-  -- one call more, and then others
+  -- one more call, and then others
   kept_first : (user : List ℕ) (d : Deed) (ds : List Deed) (hashes : List (List ℕ)) → kept_by remember user (d ∷ ds) hashes ≡ kept_by remember user ds (kept_by remember user (d ∷ []) hashes)
   kept_first user left ds hashes = refl
   kept_first user (replaced name hash) ds hashes = refl
@@ -35,7 +35,7 @@ module _ (remember : ℕ) (some : 0 < remember) where
       let parts = either_false (bytes_eq name user) (is_renewed user ds) e in
       (rw parts.0 refl, parts.1)
 
-  -- by whether it is the user's line that is renewed
+  -- by whether the renewed line is the user's
   hashes_by : (b : Bool) (user name hash : List ℕ) (history : List Remembered) → bytes_eq name user ≡ b
       → hashes_of user (renewed remember name hash history) ≡ cond b (renewed_hashes remember hash (hashes_of user history)) (hashes_of user history)
   hashes_by true user name hash history e =

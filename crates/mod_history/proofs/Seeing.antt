@@ -1,4 +1,4 @@
--- Whose process it is is seen before the user is asked for.
+-- The caller of the process is read before the user is asked for.
 use Rattle.std.proofs.Common.{ℕ, List, Option, Some, None}
 use Rattle.pam_base.specs.declared.code.Code.{Code}
 use Rattle.pam_room.specs.State.{Scene}

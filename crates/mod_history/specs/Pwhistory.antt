@@ -1,4 +1,4 @@
--- pam_pwhistory(8): a password that was used before isn't taken.
+-- pam_pwhistory(8): a password that was used before is refused.
 use Rattle.std.specs.Prelude.{ℕ, Bool, true, false, ◌==◌, ◌&&◌, ◌||◌, not, nat_le, if◌then◌else◌, List, [], length, Option, Some, None, Result, Ok, Err, codes, unwrap_or}
 use Rattle.std.specs.List.{list_any}
 use Rattle.std.specs.Str.{bytes_eq}
@@ -78,11 +78,11 @@ refuses_token act =
 abbrev pub history_name : List ℕ
 history_name = codes "/etc/security/pamsess_history"
 
--- the most bytes of the file
+-- the maximum number of bytes of the file
 abbrev pub history_limit : ℕ
 history_limit = 1048576
 
--- what is read: a file that doesn't exist has no lines, and one that is damaged can't be read
+-- what is read: a file that doesn't exist has no lines, and a damaged one counts as unreadable
 abbrev pub history_in : Content → Option (List Remembered)
 history_in Absent = Some []
 history_in Unreadable = None
@@ -143,7 +143,7 @@ checks_token call act = asks_user (λ user. looks user (λ look. renew_if_known 
 
 -- ---- the module
 
--- it has chauthtok alone, whose first pass is SUCCESS at once
+-- it has only chauthtok, whose first pass returns SUCCESS at once
 abbrev pub at_once : Func → ℕ → Option Code
 at_once Authenticate flags = Some ModuleUnknown
 at_once SetCred flags = Some ModuleUnknown

@@ -21,7 +21,7 @@ is_left_out hash hashes = is_locked hash || is_text hash (last_or None hashes)
 abbrev pub with_hash : List ℕ → List (List ℕ) → List (List ℕ)
 with_hash hash hashes = if is_left_out hash hashes then hashes else hashes ++ hash ∷ []
 
--- the same, of which the last n are kept
+-- the last n of these
 abbrev pub renewed_hashes : ℕ → List ℕ → List (List ℕ) → List (List ℕ)
 renewed_hashes remember hash hashes = last_of remember (with_hash hash hashes)
 

@@ -41,7 +41,7 @@ by_terminal (Some tty) = reads_file (codes "/etc/securetty") account_limit (λ c
 abbrev pub checks_root : Act
 checks_root = sees_items (λ items. by_terminal items.tty)
 
--- any user except root may log in anywhere
+-- every user except root may log in anywhere
 abbrev pub by_root : Bool → Act
 by_root true = checks_root
 by_root false = answers Success
@@ -55,7 +55,7 @@ by_account (found entry) = by_root (entry.uid == 0)
 abbrev pub checks_terminal : Act
 checks_terminal = asks_user (λ user. finds_account user by_account)
 
--- setcred is SUCCESS at once
+-- setcred returns SUCCESS at once
 abbrev pub securetty_act : PlainCall → Act
 securetty_act call = unless_answered (code_unchecked call.func Success) checks_terminal
 

@@ -65,7 +65,8 @@ pub data Deed : Type 0 where
   left : Deed
   replaced : List ℕ → List ℕ → Deed
 
--- A call returned SUCCESS, and of the lines in the file the user's is renewed with the user's hash.
+-- A call returned SUCCESS, and in the file only the user's line has changed: it is renewed with the
+-- user's hash.
 pub record Replaces (path : List ℕ) (call : PlainCall) (room : SeenRoom) (root : List ℕ)
     (before : List File) (code : Code) (after : List File) (user hash : List ℕ) : Type 0 where
   pub code_is : code ≡ Success
@@ -82,7 +83,8 @@ DoesTo path call room root before code after left = file_at path after ≡ file_
 DoesTo path call room root before code after (replaced user hash) =
     Replaces path call room root before code after user hash
 
--- what a call did to the file with this path, by what it saw and what it played
+-- what a call did to the file with this path, given what it saw, what it returned and what it
+-- changed
 abbrev pub Does : List ℕ → PlainCall → SeenRoom → Sight → Played → Deed → Type 0
 Does path call room sight p deed = DoesTo path call room sight.root sight.files p.code p.files deed
 
@@ -102,7 +104,7 @@ played s = pwhistory_plays s.call s.room s.held s.sight
 abbrev pub deeds_of : List Served → List Deed
 deeds_of calls = map (λ (s : Served). s.deed) calls
 
--- Nothing but these calls changed the file with this path: each finds it as the one before left it.
+-- Only these calls changed the file with this path: each finds it as the one before left it.
 abbrev pub Follow : List ℕ → Option (List ℕ) → List Served → Option (List ℕ) → Type 0
 Follow path before [] after = after ≡ before
 Follow path before (s ∷ ss) after =

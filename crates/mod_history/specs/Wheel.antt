@@ -1,4 +1,4 @@
--- pam_wheel(8): whether the calling process is of a user of the group wheel.
+-- pam_wheel(8): whether the calling process belongs to a user in the group wheel.
 use Rattle.std.specs.Prelude.{ℕ, Bool, true, false, ◌==◌, ◌&&◌, not, if◌then◌else◌, List, Option, Some, None, codes}
 use Rattle.std.specs.List.{find}
 use Rattle.pam_base.specs.declared.code.Code.{Code}
@@ -20,7 +20,7 @@ abbrev pub unknown_if_none : Option Passwd → Option Code
 unknown_if_none None = Some UserUnknown
 unknown_if_none (Some entry) = None
 
--- with `root_only` a user who isn't root is ignored
+-- with `root_only` IGNORE is returned for a user who isn't root
 abbrev pub is_passed_over : List (List ℕ) → Passwd → Bool
 is_passed_over args entry = has_argument (codes "root_only") args && not (entry.uid == 0)
 
@@ -51,18 +51,18 @@ wheel_group None groups = or_root_group (group_of (codes "wheel") groups) groups
 
 -- ---- the code
 
--- whoever isn't kept out is ignored, or let in with `trust`
+-- for users who aren't refused IGNORE is returned, or SUCCESS with `trust`
 abbrev pub trusted : Bool → Code
 trusted true = Success
 trusted false = Ignore
 
--- whoever isn't in the group is kept out; with `deny`, whoever is
+-- users who aren't in the group are refused; with `deny`, those who are
 abbrev pub by_membership : Bool → Bool → Bool → Code
 by_membership deny trust member =
     if deny then (if member then PermDenied else trusted trust)
     else (if member then trusted trust else PermDenied)
 
--- if there is no such group, nobody is in it, and with `deny` all are ignored
+-- if there is no such group, nobody is in it, and with `deny` IGNORE is returned for everyone
 abbrev pub by_group : Bool → Bool → Passwd → Option Group → Code
 by_group deny trust entry None = if deny then Ignore else PermDenied
 by_group deny trust entry (Some group) =
@@ -90,11 +90,11 @@ checks_user args caller user = reads_passwds (λ passwds.
     unless_answered (code_by_passwds args caller user passwds)
     (reads_groups (λ groups. answers (code_by_groups args caller passwds groups))))
 
--- the user is asked for before
+-- the user is asked for first
 abbrev pub checks_wheel : List (List ℕ) → ℕ → Act
 checks_wheel args caller = asks_user (checks_user args caller)
 
--- setcred is SUCCESS at once
+-- setcred returns SUCCESS at once
 abbrev pub wheel_act : PlainCall → Act
 wheel_act call = unless_answered (code_unchecked call.func Success) (sees_caller (checks_wheel call.args))
 

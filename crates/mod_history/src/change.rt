@@ -45,7 +45,7 @@ pub(crate) fn check_token(
     renew_if_known(asked, user.bytes(), &look, transaction, conv, vault)
 }
 
-// Goes on by what is known of the user's password.
+// Continues by what is known of the user's password.
 fn renew_if_known(
     asked: &Asked,
     user: &[u8],
@@ -154,7 +154,7 @@ fn remember(
     )? {
         Some(held) => held,
         None => {
-            // Otherwise a later module would set a token that wasn't looked up.
+            // Otherwise a later module would set a token that wasn't checked.
             unset_token(transaction);
             return Ok(Code::AuthtokErr);
         }
@@ -181,8 +181,8 @@ fn remember(
     Ok(code)
 }
 
-// Goes on by the history, unless it can't be read. The lock is released before the user gets any
-// message, so that nobody's terminal keeps others out.
+// Continues with the history, unless it can't be read. The lock is released before the user gets
+// any message, so that nobody can hold it by not reading a terminal.
 fn remember_in_history(
     asked: &Asked,
     user: &[u8],

@@ -13,7 +13,7 @@ use std::alloc::Global;
 /// The path of the history.
 pub(crate) const HISTORY_NAME: &[u8] = b"/etc/security/pamsess_history";
 
-/// The most bytes of the file.
+/// The maximum number of bytes of the file.
 pub(crate) const HISTORY_LIMIT: u32 = 1_048_576;
 
 /// The lines that were read, unless the file can't be read. One that doesn't exist has none.

@@ -155,7 +155,7 @@ on_number (compares order n) m = holds_if (is_so order m n)
 on_number (equals sense wanted) m = on_text (equals sense wanted) (decimal m)
 on_number (is_among sense wanted) m = on_text (is_among sense wanted) (decimal m)
 
--- ---- as the code has them
+-- ---- the plain values of the code's types
 
 abbrev pub plain_test : Test → PlainTest
 plain_test (lent_test.Compares order n) = compares order n

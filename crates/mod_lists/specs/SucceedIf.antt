@@ -77,7 +77,7 @@ abbrev pub tries : PlainCondition → List ℕ → (Truth → Act) → Act
 tries (on field test) user act = tests_field field test user act
 tries (grouped sense names) user act = reads_passwds (by_passwds sense names user act)
 
--- three words that are no condition are an error, and nothing is read for them
+-- three words that aren't a condition are an error, and nothing is read for them
 abbrev pub tries_words : Option PlainCondition → List ℕ → (Truth → Act) → Act
 tries_words (Some condition) user act = tries condition user act
 tries_words None user act = act Faulty
@@ -91,7 +91,7 @@ by_truth rest Fails = answers returns.AuthErr
 by_truth rest NoUser = answers returns.UserUnknown
 by_truth rest Faulty = answers returns.ServiceErr
 
--- conditions are taken in order, three words each; if there is none the result is SUCCESS
+-- conditions are taken in order, three words each; without any the result is SUCCESS
 abbrev pub meets_all : List (List ℕ) → List ℕ → Act
 meets_all [] user = answers returns.Success
 meets_all (field ∷ []) user = answers returns.ServiceErr
@@ -120,7 +120,7 @@ by_use false args = asks_user (meets_all (conditions_in args))
 abbrev pub checks_conditions : List (List ℕ) → Act
 checks_conditions args = by_use (uses_uid args) args
 
--- it has all six functions; setcred is IGNORE at once
+-- it has all six functions; setcred returns IGNORE at once
 abbrev pub at_once : Func → Option Code
 at_once SetCred = Some returns.Ignore
 at_once other = None

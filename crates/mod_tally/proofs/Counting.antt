@@ -1,4 +1,4 @@
--- Failures that count of those that count.
+-- Which failures count, among those that count already.
 use Rattle.std.proofs.Common.{◌≡◌, ℕ, ◌-◌, ◌<◌, ◌≤◌, max, Bool, true, false, cond, ltb, List, [], ◌∷◌, ◌++◌, filter, refl, sym, ap, ◌∙◌, arith}
 use Rattle.std.proofs.lemmas.Bool.{ltb-true, ltb-false, le-ltb}
 use Rattle.std.proofs.lemmas.List.Elements.{filter-append}
@@ -9,7 +9,7 @@ latest-append : (xs ys : List Failure) → latest (xs ++ ys) ≡ max (latest xs)
 latest-append [] ys = omega arith
 latest-append (x ∷ xs) ys = omega (arith, latest-append xs ys)
 
--- if the time is 0, none counts
+-- if the interval is 0, none counts
 none_counts : (g : ℕ) (xs : List Failure) → filter (counts 0 g) xs ≡ []
 none_counts g [] = refl
 none_counts g (x ∷ xs) = rw (le-ltb (g - x.moment) 0 (omega arith)) (none_counts g xs)
@@ -47,7 +47,8 @@ same_latest : (i g : ℕ) (xs : List Failure) → 0 < i → latest xs ≡ g → 
 same_latest i g [] some e = e
 same_latest i g (x ∷ xs) some e = by_greatest i g x (filter (counts i g) xs) xs (counts i g x) refl some e (not_later (counts i g) xs) (same_latest i g xs some)
 
--- what counts of those that count and some more is what counts of all of them
+-- dropping the failures that don't count before others are added doesn't change which count
+-- afterwards
 pub counting-counting : (i : ℕ) (xs ys : List Failure) → counting i (counting i xs ++ ys) ≡ counting i (xs ++ ys)
 counting-counting i xs ys = by (ltb 0 i) refl
   where

@@ -59,7 +59,7 @@ module _ (path bytes : List ℕ) where
 -- ---- the steps
 
 module _ (path : List ℕ) (call : PlainCall) where
-  -- what is played does one of the three
+  -- what the module does is one of the three
   abbrev pub DoesOne : Sight → Played → Type 0
   DoesOne sight p = (d : Deed) × Does path call sight p d
 

@@ -62,7 +62,7 @@ some_same : {A : Type 0} (x y : A) → ◌≡◌ {A = Option A} (Some x) (Some y
 some_same x y e = cc
 
 module _ (path : List ℕ) (i : ℕ) (read : IsRead) where
-  -- one call, and what follows
+  -- one call, and those after it
   by_deed : (s : Served) (before : Option (List ℕ)) (fs : List Failure) (d : Deed) → file_at path s.sight.files ≡ before → Does path s.call s.sight (played s) d → IsWith i d → AllByRecursion IsFailure fs → standing_in before ≡ Some fs
       → AllByRecursion IsFailure (left_by d fs) × (standing_in (file_at path (played s).files) ≡ Some (left_by d fs))
   by_deed s before fs left at does one fit stood = (fit, ap standing_in (does ∙ at) ∙ stood)

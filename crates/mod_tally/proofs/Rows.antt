@@ -1,4 +1,4 @@
--- Worked rows.
+-- Test cases, computed on the definitions.
 use Rattle.std.proofs.Common.{◌≡◌, true, false, List, [], ◌∷◌, ◌++◌, length, codes, Some, None, refl}
 use Rattle.std.specs.Fmt.{digits}
 use Rattle.pam_base.specs.Lines.{cut, lines_of}

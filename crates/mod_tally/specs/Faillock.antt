@@ -31,7 +31,7 @@ is_no_file user = length user == 0 || (bytes_eq user (codes ".") || bytes_eq use
 abbrev pub tally_name : List ℕ → List ℕ → List ℕ
 tally_name folder user = if is_rooted folder then folder ++ (47 ∷ user) else []
 
--- the most bytes of the file
+-- the maximum number of bytes of the file
 abbrev pub tally_limit : ℕ
 tally_limit = 65536
 
@@ -133,7 +133,8 @@ by_name false task s user = finds_account user (by_account task s user)
 abbrev pub checks_tally : Task → PlainSettings → Act
 checks_tally task s = asks_user (λ user. by_name (is_no_file user) task s user)
 
--- an authentication without a mode is SERVICE_ERR; acct_mgmt clears, whatever the mode
+-- an authentication without a mode returns SERVICE_ERR; acct_mgmt clears the failures, whatever the
+-- mode
 abbrev pub given_mode : Option Task → Result Task Code
 given_mode None = Err returns.ServiceErr
 given_mode (Some task) = Ok task

@@ -63,7 +63,8 @@ DoesTo path call now items before code after (recorded interval failure) =
     Records path call now items before code after interval failure
 DoesTo path call now items before code after cleared = Clears path call now before code after
 
--- what a call did to the file with this path, by what it saw and what it played
+-- what a call did to the file with this path, given what it saw, what it returned and what it
+-- changed
 abbrev pub Does : List ℕ → PlainCall → Sight → Played → Deed → Type 0
 Does path call sight p deed =
     DoesTo path call sight.clock.moment p.room.items sight.files p.code p.files deed
@@ -84,7 +85,7 @@ played s = faillock_plays s.call s.room s.held s.sight
 abbrev pub deeds_of : List Served → List Deed
 deeds_of calls = map (λ (s : Served). s.deed) calls
 
--- Nothing but these calls changed the file with this path: each finds it as the one before left it.
+-- Only these calls changed the file with this path: each finds it as the one before left it.
 abbrev pub Follow : List ℕ → Option (List ℕ) → List Served → Option (List ℕ) → Type 0
 Follow path before [] after = after ≡ before
 Follow path before (s ∷ ss) after =
@@ -117,13 +118,13 @@ IsWith interval left = Unit {0}
 IsWith interval (recorded i failure) = (i ≡ interval) × IsFailure failure
 IsWith interval cleared = Unit {0}
 
--- the failures in the file after the deeds: those at the start if nothing was written; otherwise those of the recorded
--- ones that count
+-- the failures in the file after the calls: those at the start if nothing was written; otherwise
+-- the recorded ones that count
 abbrev pub stands_by : ℕ → List Deed → List Failure → List Failure
 stands_by interval deeds failures =
     if is_written deeds then counting interval (recorded_by deeds failures) else failures
 
--- ---- no failure is lost otherwise
+-- ---- no other failure is lost
 
 -- whether the failures were cleared
 abbrev pub is_cleared : List Deed → Bool

@@ -1,6 +1,6 @@
 -- How a tally file spells where a failure came from (this project's own): printable ASCII is written as it is, a
--- backslash is doubled, and any other byte, the space too, is written as \x and two lower-case hexadecimal digits. No
--- byte is spelled otherwise.
+-- backslash is doubled, and any other byte, the space too, is written as \x and two lower-case
+-- hexadecimal digits. Each byte has only this spelling.
 use Rattle.std.specs.Prelude.{ℕ, ◌+◌, ◌-◌, ◌*◌, ◌/◌, ◌%◌, Bool, ◌==◌, ◌&&◌, nat_le, if◌then◌else◌, List, [], ◌∷◌, ◌++◌, codes, Option, Some, None}
 use Rattle.std.specs.List.{flat_map}
 use Rattle.pam_base.specs.Quote.{hex_digit}

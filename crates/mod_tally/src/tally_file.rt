@@ -18,7 +18,7 @@ use pam_base::{Code, NoMemory, Text};
 use pam_outside::{Held, LockKind, Vault};
 use std::alloc::Global;
 
-/// The most bytes of a tally file.
+/// The maximum number of bytes of a tally file.
 const TALLY_LIMIT: u32 = 65536;
 
 /// Whether a user's name can't be the name of a file: it is empty, `.` or `..`, or holds a slash.

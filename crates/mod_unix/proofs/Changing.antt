@@ -16,7 +16,7 @@ use Rattle.mod_unix.specs.Change.{asks_old, by_early, by_empty, by_root, is_too_
 use Rattle.account_files.specs.Accounts.{Known}
 use Rattle.mod_unix.specs.Verify.{hash_verified}
 
--- the token that an item has was verified
+-- the token in an item was verified
 pub verified_so : (hash : List ℕ) (found : Option (List ℕ)) (token : List ℕ) (answer : Code) (act : Code → Act) (known : Known) (s end : Scene) (code : Code) → Some token ≡ found → answer ≡ hash_verified hash token
     → Acts (act answer) known s code end → Acts (act (hash_verified hash (unwrap_or found []))) known s code end
 verified_so hash found token answer act known s end code e f rest = rw (← e, ← f) rest

@@ -8,7 +8,7 @@ use Rattle.sha_crypt.specs.Setting.{rounds_text}
 use Rattle.account_files.specs.Arguments.{has_argument}
 use Rattle.mod_unix.specs.NewHash.{new_setting, rounds_in, rounds_of, short_number}
 
--- the rounds are none, or few enough
+-- no rounds are named, or few enough
 record Named (text : List ℕ) : Type 0 where
   rounds : Option ℕ
   few : IfSome rounds (λ r. r ≤ 1000000)

@@ -1,4 +1,4 @@
--- By the day on which an account is checked.
+-- What an account check returns, given the day.
 use Rattle.std.proofs.Common.{◌≡◌}
 use Rattle.pam_base.specs.declared.code.Code.{Code}
 use Rattle.pam_outside.specs.Time.{Time, time_of}

@@ -53,7 +53,7 @@ by_mark true stars b bs key hash x y e = let none = begins_otherwise b 33 bs key
 by_mark false true b bs key hash x y e = let none = begins_otherwise b 42 bs key hash (eqb-true b 42 y) e in absurd cc
 by_mark false false b bs key hash x y e = refl
 
--- what is a setting isn't locked
+-- a hash that is a setting isn't locked
 pub no_lock : (setting key hash : List ℕ) → crypted setting key ≡ Ok hash → is_locked setting ≡ false
 no_lock [] key hash e = absurd cc
 no_lock (b ∷ bs) key hash e = by_mark (eqb b 33) (eqb b 42) b bs key hash refl refl e

@@ -33,7 +33,7 @@ use Rattle.pam_base.specs.declared.code.Code.TheVariants as returns
 use Rattle.account_files.specs.declared.content.Content.TheVariants as content
 use Rattle.mod_unix.specs.declared.look.Field.TheVariants as field
 
--- ---- what was played
+-- ---- what the module did
 
 -- shadow was replaced by one with the hash of AUTHTOK
 pub record Written (user root : List ℕ) (clock : Time) (before : List File) (room : SeenRoom) (after : List File) : Type 0 where
@@ -119,7 +119,7 @@ module _ (user hash : List ℕ) (today : ℕ) where
 -- ---- the second pass
 
 module _ (call : PlainCall) (user : List ℕ) where
-  -- what a play from a stage on left
+  -- what the rest of the definition left, from a stage on
   pub record Done (stage : Stage) (p : Played) : Type 0 where
     pub user_stays : p.room.items.user ≡ stage.room.items.user
     pub written : Written user stage.sight.root stage.sight.clock stage.sight.files p.room p.files
@@ -204,7 +204,7 @@ module _ (call : PlainCall) (user : List ℕ) where
   unfolding takes_token
   second stage e = by_use (has_argument (codes "use_authtok") call.args) stage e
 
-  -- or all stayed, by the flag
+  -- or nothing changed, because of the flag
   pub record Kept (stage : Stage) (p : Played) : Type 0 where
     pub flag : has_flag call.flags change_expired_authtok ≡ true
     pub files_are : p.files ≡ stage.sight.files
@@ -230,7 +230,7 @@ module _ (call : PlainCall) (user : List ℕ) where
     by_looking (Plain hash) stage e = absurd cc
     by_looking (Shadowed entry) stage e = by_keeping (is_kept call (day_of stage.sight.clock.moment) entry) (day_of stage.sight.clock.moment) entry stage refl distinct e
 
-    -- a call of `Vault` in between
+    -- one more call of `Vault` in between
     onward : (stage : Stage) (p : Played) → Ended (record stage { sight = later stage.sight }) p → Ended stage (called p)
     onward stage p (inl k) = inl (record { flag = k.flag; files_are = k.files_are })
     onward stage p (inr d) = inr (record { user_stays = d.user_stays; written = d.written })

@@ -37,7 +37,7 @@ module _ (read : (user hash : List ℕ) (day : ℕ) (text : List ℕ) (entries :
     (fits : (setting key hash : List ℕ) → crypted setting key ≡ Ok hash → list_any is_forbidden hash ≡ false)
     (sha256 : (rounds : Option ℕ) (n number : ℕ) (key : List ℕ) → IfSome rounds (λ r. r ≤ 1000000) → is_ok (crypted (codes "$5$" ++ rounds_text rounds ++ characters n number) key) ≡ true)
     (sha512 : (rounds : Option ℕ) (n number : ℕ) (key : List ℕ) → IfSome rounds (λ r. r ≤ 1000000) → is_ok (crypted (codes "$6$" ++ rounds_text rounds ++ characters n number) key) ≡ true) where
-  -- a new hash takes its token
+  -- a new hash accepts its token
   record Takes (hash token : List ℕ) : Type 0 where
     colon : has_byte 58 hash ≡ false
     newline : has_byte 10 hash ≡ false

@@ -16,7 +16,7 @@ pub faulty : (hash token : List ℕ) (fault : SettingFault) → is_locked hash �
 unfolding hash_verified
 faulty hash token fault e f g = rw (e, f) (sym (ap (by_hash hash) g))
 
--- the token that an item has was verified
+-- the token in an item was verified
 pub kept : (look : KnownPassword) (found : Option (List ℕ)) (token : List ℕ) (answer : Code) (act : Authenticated → Act) (known : Known) (s end : Scene) (code : Code) → Some token ≡ found → answer ≡ verified look token
     → Acts (act (Kept answer)) known s code end → Acts (act (Kept (verified look (unwrap_or found [])))) known s code end
 kept look found token answer act known s end code e f rest = rw (← e, ← f) rest

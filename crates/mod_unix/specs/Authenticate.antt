@@ -34,12 +34,12 @@ is_open call look = has_empty_hash look && has_argument (codes "nullok") call.ar
 abbrev pub is_success : Code → Bool
 is_success code = number_of code == 0
 
--- a token is asked for, and verified
+-- a token is asked for and verified
 unfoldable pub asks_password : KnownPassword → (Authenticated → Act) → Act
 asks_password look act =
     asks_token false (codes "Password: ") (λ token. act (Kept (verified look token)))
 
--- `use_first_pass`: the token that an earlier module asked for, and no other
+-- `use_first_pass`: only the token that an earlier module asked for
 abbrev pub with_first : KnownPassword → Option (List ℕ) → (Authenticated → Act) → Act
 with_first look (Some token) act = act (Kept (verified look token))
 with_first look None act = act (Unkept returns.AuthErr)

@@ -67,7 +67,7 @@ new_prompts =
     record { style = EchoOff; text = codes "New password: " }
     ∷ record { style = EchoOff; text = codes "Retype new password: " } ∷ []
 
--- two replies that differ aren't taken either
+-- nor are two replies that differ
 abbrev pub same_reply : List Reply → Option (List ℕ)
 same_reply [] = None
 same_reply (a ∷ []) = None

@@ -14,7 +14,8 @@ use Rattle.mod_unix.specs.Verify.{hash_verified}
 abbrev pub shadow_path : List ℕ → List ℕ
 shadow_path root = path_of root (codes "/etc/shadow")
 
--- AUTHTOK is a token that the user's entry in shadow takes; the entries of all others, and all other files, are as they were.
+-- AUTHTOK is a token that the user's entry in shadow accepts; the entries of all others, and all
+-- other files, are as they were.
 pub record TokenStands (root user : List ℕ) (before : List File) (room : SeenRoom)
     (after : List File) : Type 0 where
   pub token : List ℕ
@@ -33,8 +34,8 @@ pub record TokenStands (root user : List ℕ) (before : List File) (room : SeenR
   pub others : (other : List ℕ) → other ≢ user → shadow_of other changed ≡ shadow_of other entries
   pub files : (path : List ℕ) → path ≢ shadow_path root → file_at path after ≡ file_at path before
 
--- The files are as before, because of the flag under which a token that need not be changed stays; or the token was
--- changed.
+-- The files are as before, since with this flag a token that need not be changed stays; or the
+-- token was changed.
 abbrev pub StaysOrStands : PlainCall → Sight → Played → Type 0
 StaysOrStands call sight played =
     ((has_flag call.flags change_expired_authtok ≡ true) × (played.files ≡ sight.files)) ⊎

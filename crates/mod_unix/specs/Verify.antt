@@ -8,7 +8,7 @@ use Rattle.sha_crypt.specs.Hash.{crypted}
 use Rattle.mod_unix.specs.declared.look.KnownPassword.{KnownPassword}
 use Rattle.mod_unix.specs.declared.look.KnownPassword.TheVariants.{Unknown, Unavailable, Plain, Shadowed}
 
--- a hash that is empty or begins with ! or * lets nobody in
+-- no token matches a hash that is empty or begins with ! or *
 abbrev pub is_locked : List ℕ → Bool
 is_locked [] = true
 is_locked (b ∷ bs) = b == 33 || b == 42

@@ -16,7 +16,7 @@ use pam_outside::{Clock, Vault, current_moment};
 use pam_room::{Process, Transaction};
 use std::alloc::Global;
 
-/// Checks whether the account and its password may be used still.
+/// Checks whether the account and its password may still be used.
 pub(crate) fn check_account(
     alloc: Global,
     transaction: &mut Transaction,
@@ -44,7 +44,7 @@ pub(crate) fn check_account(
     Ok(code)
 }
 
-// By what is known of the user's password.
+// The code, given what is known of the user's password.
 fn account_by(look: &KnownPassword, clock: &dyn Clock) -> Code
     ensures told { IsTrue (clock_tells clock.now) →
         (room : PlainRoom) (vault : VaultState) (process : PlainProcess) →

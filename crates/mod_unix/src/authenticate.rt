@@ -20,7 +20,7 @@ use std::alloc::Global;
 /// What authenticate returns.
 #[derive(Clone, Copy)]
 pub(crate) enum Authenticated {
-    /// A code that is kept for setcred, too.
+    /// A code, which is also kept for setcred.
     Kept(Code),
     Unkept(Code),
 }
@@ -79,7 +79,7 @@ fn has_empty_hash(look: &KnownPassword) -> bool
     }
 }
 
-// Verifies the token that is there, or one that is asked for.
+// Verifies the token of an earlier module, or one that it asks for.
 fn verify_token(
     alloc: Global,
     call: &Call,

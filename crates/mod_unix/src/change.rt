@@ -70,7 +70,7 @@ pub(crate) fn change_token(
     )
 }
 
-// Goes on by what is known of the user's password.
+// Continues by what is known of the user's password.
 fn change_by(
     alloc: Global,
     call: &Call,
@@ -119,7 +119,7 @@ fn change_by(
     }
 }
 
-// Goes on by the user's entry in shadow.
+// Continues with the user's entry in shadow.
 fn change_entry(
     alloc: Global,
     call: &Call,
@@ -161,7 +161,7 @@ fn change_entry(
     Ok(code)
 }
 
-// Whether a token that need not be changed stays.
+// Whether the token stays because it need not be changed.
 fn is_kept(call: &Call, today: u64, entry: &Shadow) -> bool
     ensures { result ≡ is_kept (plain_call call.now) today entry.now }
 {

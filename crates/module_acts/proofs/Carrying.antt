@@ -1,4 +1,4 @@
--- Steps of what a module does, put before what it does from there on.
+-- Steps of a module's definition, put before the rest of the definition.
 use Rattle.std.proofs.Common.{◌≡◌, ℕ, max, Bool, true, false, List, [], ◌∷◌, ◌++◌, length, Some, unwrap_or, Result, Ok, Err, OnOk, is_ok, refl, sym, ap, ◌∙◌}
 use Rattle.std.proofs.lemmas.List.{append-nil}
 use Rattle.pam_base.specs.declared.code.Code.{Code}

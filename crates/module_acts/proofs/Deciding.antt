@@ -1,4 +1,4 @@
--- What is done, if nothing is returned at once, is what the module plays.
+-- What is done, if no code is returned at once, is what the module's definition says.
 use Rattle.std.proofs.Common.{◌≡◌, Option, None, Result, Ok, Err, IfOk}
 use Rattle.pam_base.specs.declared.code.Code.{Code}
 use Rattle.pam_base.specs.declared.fault.NoMemory.{NoMemory}

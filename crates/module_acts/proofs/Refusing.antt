@@ -1,4 +1,4 @@
--- The result of a step, or of an act, is returned.
+-- The result of a step, or of a whole definition, is returned.
 use Rattle.std.proofs.Common.{◌≡◌, Result, Ok, Err}
 use Rattle.pam_base.specs.declared.code.Code.{Code}
 use Rattle.pam_base.specs.declared.code.Code.TheVariants as returns

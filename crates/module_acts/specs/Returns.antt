@@ -19,12 +19,12 @@ abbrev pub scene_of_parts : Transaction → ConvState → VaultState → ClockSt
 scene_of_parts transaction conv vault clock process =
     scene_of (room_of (plain_transaction transaction) conv) vault clock process
 
--- a code was returned and this was left, as an act has it
+-- a code was returned and this was left, as a definition says
 abbrev pub Follows : Act → Scene → Code → Scene → Type 0
 Follows act old code new = Acts act nothing_known old code new
 
--- The conversation gave no reply, and CONV_ERR is the whole module's code, whatever was to be done with the value. If
--- an allocation failed, nothing is said of it.
+-- The conversation gave no reply, and CONV_ERR is the whole module's code, whatever was to be done
+-- with the value. Nothing is stated if an allocation failed.
 abbrev pub Ends : {A : Type 0} → Refuse ConvErr → ((A → Act) → Act) → Scene → Scene → Type 0
 Ends {A} (Named e) step old new =
     (act : A → Act) (known : Known) → Acts (step act) known old codes.ConvErr new
@@ -36,13 +36,13 @@ abbrev pub Returns : {A : Type 0} → Result A (Refuse ConvErr) → ((A → Act)
 Returns {A} (Ok value) step old new = Yields value step old new
 Returns {A} (Err e) step old new = Ends e step old new
 
--- the same for a step whose value is elsewhere
+-- the same for a step whose value isn't its result
 abbrev pub ReturnsWith : {T A : Type 0} → Result T (Refuse ConvErr) → A → ((A → Act) → Act) → Scene
     → Scene → Type 0
 ReturnsWith {T} {A} (Ok done) value step old new = Yields value step old new
 ReturnsWith {T} {A} (Err e) value step old new = Ends e step old new
 
--- An act was finished: it returned a code, or CONV_ERR if the conversation gave no reply.
+-- A definition has ended: it returned a code, or CONV_ERR if the conversation gave no reply.
 abbrev pub Finishes : Result Code (Refuse ConvErr) → Act → Scene → Scene → Type 0
 Finishes (Ok code) act old new = Follows act old code new
 Finishes (Err (Named e)) act old new = Follows act old codes.ConvErr new
@@ -76,7 +76,7 @@ module _ {B : Type 0} (step : Act → Act) (next : (B → Act) → Act) where
   then_on (Err NoMemory) a b c f n = tt
 
 module _ {A : Type 0} (first : (A → Act) → Act) (next : A → Act) where
-  -- one step, and what finishes the act after it
+  -- one step, and the end of the definition after it
   pub finished : (r : Result Code (Refuse ConvErr)) (x : A) (a b c : Scene) → Yields x first a b
       → Finishes r (next x) b c → Finishes r (first next) a c
   finished (Ok code) x a b c f n = f next nothing_known code c n

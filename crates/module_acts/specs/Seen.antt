@@ -1,4 +1,4 @@
--- What a module sees that only decides (this project's own).
+-- What is seen by a module that only decides (this project's own).
 use Rattle.std.specs.Prelude.{ℕ, List, [], unwrap_or}
 use Rattle.conv_port.specs.Conv.{ConvState}
 use Rattle.pam_outside.specs.Files.{VaultState}
@@ -11,6 +11,6 @@ use Rattle.module_acts.specs.declared.seen.Seen.{Seen}
 abbrev pub user_seen : Seen → List ℕ
 user_seen seen = unwrap_or seen.transaction.now.items.user []
 
--- as a scene, with what the conversation, the files and the clock hold
+-- the same with what the conversation, the files and the clock hold
 abbrev pub scene_seen : Seen → ConvState → VaultState → ClockState → Scene
 scene_seen seen conv vault clock = scene_at seen.transaction.now conv vault clock seen.process.now

@@ -1,7 +1,7 @@
 use account_files::pam_room::{Call, Process};
 use std::alloc::Global;
 
-/// What a module gets that it only reads: its call and the process; and where it allocates.
+/// What a module gets and only reads: its call, the process, and the allocator.
 #[derive(Clone, Copy)]
 pub struct Asked<'a> {
     pub alloc: Global,

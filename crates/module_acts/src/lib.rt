@@ -1,5 +1,5 @@
-//! More steps that modules are made of: they ask for tokens, exchange several messages, request
-//! delays, set items and data. Each step takes the rest of the module as a continuation; its
+//! More steps that modules are made of: asking for tokens, exchanging several messages, requesting
+//! delays, setting items and data. Each step takes the rest of the module as a continuation; its
 //! contract relates the state before the step to the state that the rest begins in. Begin at
 //! `asking.rt`.
 #![tactic(auto)]

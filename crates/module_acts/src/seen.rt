@@ -11,7 +11,7 @@ use pam_base::NoMemory;
 use pam_outside::Vault;
 use std::alloc::Global;
 
-/// What a module has that only decides: its call, the transaction and the process.
+/// What a module gets that only decides: its call, the transaction and the process.
 #[derive(Clone, Copy)]
 pub struct Seen<'a> {
     pub alloc: Global,

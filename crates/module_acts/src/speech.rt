@@ -53,7 +53,7 @@ pub fn show(
     put_forward(alloc, transaction, conv, style, text)
 }
 
-// The same, as a conversation takes it.
+// The same, in the form in which a conversation takes it.
 fn put_forward(
     alloc: Global,
     transaction: &mut Transaction,

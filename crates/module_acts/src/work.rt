@@ -37,8 +37,8 @@ pub trait Work {
     fn at_once(call: &Call) -> Option<Code>
         ensures { result ≡ at_once (plain_call call.now) };
 
-    /// Does the rest. Returns `Named` if the conversation gave no reply; then the module returns
-    /// CONV_ERR. After an error the files are as they were.
+    /// Does the rest of the work. Returns `Named` if the conversation gave no reply; then the
+    /// module returns CONV_ERR. After an error the files are as they were.
     fn work(
         asked: &Asked,
         transaction: &mut Transaction,

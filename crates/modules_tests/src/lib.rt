@@ -1,6 +1,6 @@
-//! Tests of modules by their line of a stack, for what no test case of rows/ can show: a module
-//! runs out of memory, each call of `Vault` fails in turn, and a token is empty or longer than a
-//! script's line. It has no functions of its own.
+//! Tests of modules, each run as a line of a stack, of what no test case of rows/ can show: a
+//! module runs out of memory, each call of `Vault` fails in turn, and a token is empty or longer
+//! than a script's line. It has no functions of its own.
 #![tactic(auto)]
 
 #[cfg(test)]

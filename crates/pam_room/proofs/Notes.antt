@@ -1,4 +1,4 @@
--- The cleanup result of an owner is that of the module with its number.
+-- The result of an owner's cleanup is that of the module with the owner's number.
 use Rattle.std.proofs.Common.{◌≡◌, ℕ, zero, suc, ◌<◌, List, [], ◌∷◌, ◌++◌, length, map, get_or, refl, sym, ap, arith}
 use Rattle.data_cleanup.specs.Datum.{PlainDatum}
 use Rattle.data_cleanup.specs.declared.receipt.Receipt.{Receipt}

@@ -1,4 +1,4 @@
--- What a module leaves, part by part; what stays and stays again.
+-- What a module leaves, part by part; and what two calls one after the other leave as it was.
 use Rattle.std.proofs.Common.{◌≡◌, List, ◌++◌, refl, ◌∙◌, ap, append_assoc, arith}
 use Rattle.conv_port.specs.declared.message.Message.{Message}
 use Rattle.pam_room.specs.State.{PlainTransaction, PlainProcess, Scene, room_of, scene_of}

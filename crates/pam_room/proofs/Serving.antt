@@ -40,7 +40,7 @@ served_so player mods number m call s mid code datums ledger within is p nap d l
       state_is = rw (d, l, room, vault, clock, process, nap) refl;
     })
 
--- what a module left when an allocation failed, the line left
+-- what a module left when an allocation failed is what the line left
 pub broken_so : {M : Type 0} (player : M → Player) (mods : List M) (number : ℕ) (m : M) (call : PlainCall) (s end : State)
     → number < length mods → m ≡ get_or mods number m
     → BreaksIn (player m).breaks call (scene_in (at_work number s)) (scene_in end)

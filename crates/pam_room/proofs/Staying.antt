@@ -1,4 +1,4 @@
--- Files are the same as themselves.
+-- Each list of files has the same files as itself.
 use Rattle.std.proofs.Common.{◌≡◌, true, List, [], ◌∷◌, refl}
 use Rattle.std.proofs.lemmas.Cmp.{nat_list_eq_equiv}
 use Rattle.pam_outside.specs.Files.{File}

@@ -31,8 +31,8 @@ talk_by tells holds faults deferrals transaction conv = record {
   deferrals = deferrals conv;
 }
 
--- One message is sent, unless the item is set already, and the item is set to its reply. If the conversation is
--- modelled, what was asked is done; all else holds with real objects too.
+-- One message is sent, unless the item is set already, and the item is set to its reply. What was
+-- asked is exact if the conversation is modelled; all else holds with real objects too.
 pub record AsksOnce {T : Type 0} (result : Result T (Refuse ConvErr)) (item : ItemName)
     (style : Style) (prompt : List ℕ) (asked : SeenRoom → Asked) (old new : Talk) : Type 0 where
   pub tells : new.tells ≡ old.tells

@@ -34,7 +34,7 @@ plain_transaction t = record {
 abbrev pub seen_in : Transaction → ConvState → SeenRoom
 seen_in t conv = seen_of (room_of (plain_transaction t) conv)
 
--- of a transaction only its messages changed, and whether the call is incomplete
+-- in a transaction only the messages changed, and whether the call is incomplete
 abbrev pub OnlySays : Transaction → Transaction → Type 0
 OnlySays old new = new ≡ record old { said = new.said; put_off = new.put_off }
 

@@ -29,7 +29,8 @@ is_put_off (Err faults.Gone) before = before
 is_put_off (Err faults.NoMemory) before = before
 is_put_off (Ok replies) before = before
 
--- messages are added to the transaction's messages, and then sent to the conversation, which holds that it got them
+-- messages are added to the transaction's messages and then sent to the conversation, which records
+-- them
 abbrev pub speak : List Message → SeenRoom → Spoken
 speak messages room = record {
   answer = answer_to room.conv messages;
@@ -40,7 +41,7 @@ speak messages room = record {
   };
 }
 
--- the result of `say`, if the conversation is modelled; if an allocation fails nothing is said of it
+-- the result of `say`, if the conversation is modelled; nothing is stated if an allocation fails
 abbrev pub Says : Result (List Reply) (Refuse ConvErr) → Spoken → SeenRoom → Type 0
 Says (Ok replies) spoken new = (spoken.answer ≡ Ok replies) × (new ≡ spoken.room)
 Says (Err (refusals.Named e)) spoken new = (is_ok spoken.answer ≡ false) × (new ≡ spoken.room)
@@ -65,20 +66,20 @@ signs faults deferrals put_off = record {
   put_off = put_off;
 }
 
--- the conversation failed for good
+-- the conversation returned Gone
 pub record Failed (old new : Signs) : Type 0 where
   pub faults : Rose old.faults new.faults
   pub deferrals : new.deferrals ≡ old.deferrals
   pub put_off : new.put_off ≡ old.put_off
 
--- it asked to be called again later
+-- the conversation returned Again
 pub record Deferred (old new : Signs) : Type 0 where
   pub faults : new.faults ≡ old.faults
   pub deferrals : Rose old.deferrals new.deferrals
   pub put_off : new.put_off ≡ true
 
--- With real objects too: CONV_ERR is returned if and only if the conversation failed or deferred, and nothing else is
--- counted.
+-- With real objects too: CONV_ERR is returned if and only if the conversation returned Gone or
+-- Again, and neither count rises otherwise.
 abbrev pub ConvErrIsCounted : {T : Type 0} → Result T (Refuse ConvErr) → Signs → Signs → Type 0
 ConvErrIsCounted (Ok v) old new = new ≡ old
 ConvErrIsCounted (Err refusals.NoMemory) old new = new ≡ old
@@ -86,7 +87,7 @@ ConvErrIsCounted (Err (refusals.Named e)) old new = Failed old new ⊎ Deferred 
 
 -- ---- one prompt, whose reply becomes an item
 
--- whether it ended by CONV_ERR, and the room after it
+-- whether it ended with CONV_ERR, and the room after it
 pub record Asked : Type 0 where
   pub refused : Bool
   pub room : SeenRoom
@@ -130,7 +131,8 @@ token_of false = AuthTok
 abbrev pub token_asked : Bool → List ℕ → SeenRoom → Asked
 token_asked old prompt room = ask_item (token_of old) EchoOff prompt room
 
--- the result of such a call, if the conversation is modelled; if an allocation fails nothing is said of it
+-- the result of such a call, if the conversation is modelled; nothing is stated if an allocation
+-- fails
 abbrev pub Asks : {T : Type 0} → Result T (Refuse ConvErr) → Asked → SeenRoom → Type 0
 Asks (Ok v) a new = (a.refused ≡ false) × (new ≡ a.room)
 Asks (Err (refusals.Named e)) a new = (a.refused ≡ true) × (new ≡ a.room)

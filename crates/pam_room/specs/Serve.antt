@@ -41,7 +41,8 @@ swept note s = record {
 abbrev pub answer_or_incomplete : Bool → Code → Code
 answer_or_incomplete put_off code = if put_off then Incomplete else code
 
--- a player serves a call: it plays, and the data that it replaced are cleaned up
+-- a module serves a call: it does what its definition says, and the data that it replaced are
+-- cleaned up
 abbrev pub played_by : List Player → Player → PlainCall → State → Answered
 played_by players player call s =
     let p = played_in player.plays call (scene_in s) in
@@ -88,13 +89,14 @@ pub record AnswersAs (a : Answered) (code : Code) (state : State) : Type 0 where
   pub answer_is : code ≡ a.answer
   pub state_is : state ≡ a.state
 
--- a player ran out of memory when it served with this number, and left what it may leave then
+-- a module with this number ran out of memory while it served, and left what it may then leave
 abbrev pub PlayerBreaks : Option Player → ℕ → PlainCall → State → State → Type 0
 PlayerBreaks (Some player) number call old new =
     BreaksIn player.breaks call (scene_in (at_work number old)) (scene_in new)
 PlayerBreaks None number call old new = ⊥
 
--- the module with this number did; a line whose module doesn't exist doesn't allocate
+-- the same for the module with this number, if it exists; a line whose module doesn't exist doesn't
+-- allocate
 abbrev pub LineBreaks : List Player → Option ℕ → PlainCall → State → State → Type 0
 LineBreaks players (Some number) call old new =
     PlayerBreaks (slice_get players number) number call old new

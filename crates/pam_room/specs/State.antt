@@ -22,7 +22,7 @@ pub record PlainTransaction : Type 0 where
   pub serving : ℕ
   pub put_off : Bool
 
--- one in which nothing is set, no message was sent and no line run
+-- a transaction in which nothing is set, no message was sent and no line run
 abbrev pub new_transaction : ℕ → PlainTransaction
 new_transaction handle = record {
   items = no_texts;
@@ -47,7 +47,7 @@ pub record PlainProcess : Type 0 where
   pub root : List ℕ
   pub caller : ℕ
 
--- that, and what is modelled of its files, its clock and its sleep
+-- the shared state, and what is modelled of its files, its clock and its sleep
 pub record PlainWorld : Type 0 where
   pub vault : VaultState
   pub clock : ClockState
@@ -79,7 +79,7 @@ pub record Seen : Type 0 where
   pub lent_tells : Bool
   pub tells : Bool
 
--- what a module gets: all of that except the sleep
+-- what a module gets: all of the state except the sleep
 pub record Scene : Type 0 where
   pub room : PlainRoom
   pub vault : VaultState
@@ -97,7 +97,7 @@ scene_of room vault clock process = record {
 abbrev pub scene_in : State → Scene
 scene_in s = scene_of s.room s.world.vault s.world.clock s.world.process
 
--- a state in which this takes the place of what the module got
+-- a state in which this replaces what the module got
 abbrev pub with_scene : Scene → State → State
 with_scene scene s = record {
   room = scene.room;

@@ -29,7 +29,7 @@ pub record IsReady (modules : ℕ) (transaction : PlainTransaction) (process : P
   pub awaiting : AwaitCleanup modules process.ledger transaction.datums.live
 
 module _ {C X Y Z : Type 0} {T : C → Type 0} {U : X → Type 0} {V : Y → Type 0} {W : Z → Type 0} where
-  -- the same of a room and a world
+  -- the same for a room and a world
   abbrev pub BothStay : Room C T → Room C T → World X Y Z U V W → World X Y Z U V W → Type 0
   BothStay old new before after =
       Stays (plain_transaction old.transaction) (plain_transaction new.transaction)

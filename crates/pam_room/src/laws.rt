@@ -7,7 +7,7 @@ ghost use Rattle.pam_room.specs.State.{PlainTransaction, PlainProcess, Scene};
 ghost use Rattle.pam_room.specs.Stays.{Stays};
 ghost use Rattle.pam_room.specs.Module.{HasSet, LeavesAs, NamedData, Played, same_files, with_played};
 
-// Laws about the definitions, for proofs that cite them; these functions do nothing.
+// Laws about the definitions, for the proofs of callers.
 
 /// If no data were set, nothing changed.
 pub fn nothing_is_set()
@@ -32,14 +32,14 @@ pub fn set_data_are_sets()
         HasSet owner ds x a y b → y.handle ≡ x.handle }
 {}
 
-/// What a module leaves is what it played, if each part of it is.
+/// What a module leaves is what its definition says, if that holds for each part of it.
 pub fn parts_are_played()
     ensures { (p : Played) (old new : Scene) →
         old.room.transaction.datums.handle ≡ old.room.transaction.handle →
         LeavesAs p old new → new ≡ with_played p old }
 {}
 
-/// What stays, and stays again, has stayed.
+/// What two calls one after the other leave as it was, both together do.
 pub fn staying_is_transitive()
     ensures { (x y z : PlainTransaction) (a b c : PlainProcess) → Stays x y a b → Stays y z b c →
         Stays x z a c }

@@ -7,7 +7,7 @@ pub struct Room {
     pub conv: Box<dyn Conv>,
 }
 
-/// Names what a room holds and what is modelled of its conversation, for contracts.
+/// Names what a room holds, and what contracts know of its conversation.
 pub trait RoomTold {
     ghost use Rattle.std.specs.Prelude.{Bool};
     ghost use Rattle.pam_room.specs.State.{PlainRoom};

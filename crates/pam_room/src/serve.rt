@@ -31,12 +31,12 @@ pub struct StackLine {
 /// Runs one line of a stack: its module serves the call, all data that it replaced are cleaned up
 /// by their owners with `DATA_REPLACE`, and the line run is added to the trace. A line whose module
 /// doesn't exist returns MODULE_UNKNOWN and changes nothing else. If the module's conversation
-/// asked to be called again later, INCOMPLETE is returned, whatever the module made of it.
+/// asked to be called again later, INCOMPLETE is returned, whatever the module returned.
 ///
-/// With spare room in the trace it does not allocate itself. If an allocation of the module's
-/// fails, no line run is recorded, but replaced data are cleaned up, and the module's number is
-/// still the one at work; what modules see of the transaction and the files is what the module may
-/// leave then.
+/// With spare room in the trace it does not allocate itself. If an allocation of the module fails,
+/// the line isn't recorded as run, but replaced data are cleaned up, and the transaction still
+/// names this module as the one at work; what modules see of the transaction and the files is what
+/// the module may then leave.
 pub fn serve_line(
     alloc: Global,
     mods: &[Box<dyn Module>],
@@ -125,7 +125,7 @@ fn unless_put_off(put_off: bool, code: Code) -> Code
     if put_off { Code::Incomplete } else { code }
 }
 
-// A module serves, on the parts of room and world.
+// A module serves; it gets parts of the room and of the world.
 fn play(
     handler: &Box<dyn Module>,
     alloc: Global,

@@ -15,7 +15,7 @@ pub struct Transaction {
     pub items: Items,
     pub env: EnvList,
     pub datums: DataList,
-    /// The longest delay requested since it was last forgotten.
+    /// The longest delay requested since requests were last forgotten.
     pub delay: Delay,
     /// The messages that were sent to the conversation.
     pub said: Messages,
@@ -25,7 +25,7 @@ pub struct Transaction {
     pub handle: u32,
     /// The number of the module at work.
     pub serving: u32,
-    /// Whether the conversation asked the module at work to come again later.
+    /// Whether the conversation returned Again to the module at work.
     pub put_off: bool,
 }
 

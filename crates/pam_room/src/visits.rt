@@ -13,8 +13,8 @@ pub struct Visit {
     pub answer: Code,
 }
 
-/// The lines that were run, in order. Contracts see these, and the spare room: how many more can be
-/// added without an allocation.
+/// The lines that were run, in order. Contracts see these, and the spare room: how many more lines
+/// can be added without an allocation.
 #[derive(Debug, Drop)]
 pub struct Visits {
     vec: Vec<Visit>,

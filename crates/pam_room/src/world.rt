@@ -10,7 +10,7 @@ pub struct World {
     pub process: Process,
 }
 
-/// Names what a world holds and what is modelled of its objects, for contracts.
+/// Names what a world holds, and what contracts know of its objects.
 pub trait WorldTold {
     ghost use Rattle.std.specs.Prelude.{Bool};
     ghost use Rattle.pam_room.specs.State.{PlainWorld};

@@ -7,8 +7,8 @@ use pam_room::{Call, Module, Process, Transaction, laws, spend_by_length};
 use std::alloc::Global;
 use std::test::Fail;
 
-// Sets data twice, the second in place of the first, writes whether the time 5 has come into the
-// file /stamp, and then runs out of memory.
+// Sets data twice, the second replacing the first; writes into the file /stamp whether the time is
+// at least 5; and then runs out of memory.
 #[derive(Drop)]
 struct Forgetful;
 

@@ -36,7 +36,7 @@ pub struct Outcome {
     pub swept: usize,
     /// The variables that are set, `NAME=VALUE` each.
     pub variables: Texts,
-    /// What the file holds, nothing if there is none.
+    /// What the file holds; nothing if it doesn't exist.
     pub file: Text,
     /// The id, status and result of each cleanup record, those of the end among them.
     pub receipts: Vec<(u64, u32, u32)>,
