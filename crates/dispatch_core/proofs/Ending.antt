@@ -22,7 +22,7 @@ module _ {State : Type 0} (w : Walked (PassState State)) (opinion : Opinion) (pa
   walks_to code decided is =
       subst (λ (x : Walked (PassState State)). WalksAs x (Some code) kept given state) is (record { end_is = ap (λ (c : Code). Some c) decided; kept_is = keeps; taken_is = taken; state_is = refl })
 
--- a turn more, of a chain whose stack stayed
+-- one more turn, over a chain whose stack has not changed
 pub turn_more : {State : Type 0} (kind : PassKind) (serve : Serving State) (now start : Stack) (old : Walker) (s : State) (all : Walked State) (behind : Stack → Walked State)
     → now ≡ start → walk_on kind serve now old s ≡ behind now → walk_on kind serve start old s ≡ all → behind start ≡ all
 turn_more kind serve now start old s all behind same turn so_far =

@@ -17,13 +17,13 @@ use Rattle.dispatch_core.specs.Failing.{BreaksAt, IsAtWork, visited_at}
 use Rattle.dispatch_core.specs.Lines.{answers_by, names_of}
 use Rattle.dispatch_core.proofs.Standing.{standing, at_line-stands}
 
--- the names of modules are those of their players
+-- the names of modules are those of their definitions
 names_are : {M : Type 0} (label : M → List ℕ) (plays : M → Plays) (note : M → Note) (breaks : M → Breaks) (mods : List M)
     → map label mods ≡ names_of (map (player_of label plays note breaks) mods)
 names_are label plays note breaks [] = refl
 names_are label plays note breaks (m ∷ ms) = ap (λ (names : List (List ℕ)). label m ∷ names) (names_are label plays note breaks ms)
 
--- a number that is found is that of a name
+-- a number that is found is the number of a name
 found_if : (b : Bool) (x y : Option ℕ) (limit : ℕ) → IfSome x (λ n. n < limit) → IfSome y (λ n. n < limit) → IfSome (if b then x else y) (λ n. n < limit)
 found_if true x y limit first second = first
 found_if false x y limit first second = second
@@ -39,7 +39,7 @@ module_is stack names i within =
     at_line-stands None (λ (l : FlatLine). module_of names l.rule) stack i at.line _ at.stands
     ∙ ap (module_of names) (sym (at_line-stands no_rule (λ (l : FlatLine). l.rule) stack i at.line _ at.stands))
 
--- there are as many modules as names of them
+-- there are as many modules as names
 pub few_modules : {M : Type 0} (label : M → List ℕ) (mods : List M) (names : List (List ℕ)) (limit : ℕ)
     → names ≡ map label mods → length names < limit → length mods < limit
 few_modules label mods names limit is few = omega (arith, ap length is, length-map mods label, few)
@@ -52,7 +52,7 @@ module_there label mods stack names i number within is found =
     subst (λ (o : Option ℕ). IfSome o (λ n. n < length mods)) (sym (found ∙ module_is stack names i within))
     (found_within (name_of_module (rule_at stack i).path) 0 (length mods) names few)
 
--- the module of a line is the one that is found of a player's name
+-- the module of a line is the first one of that name
 number_is : {M : Type 0} (label : M → List ℕ) (plays : M → Plays) (note : M → Note) (breaks : M → Breaks) (mods : List M) (stack : Stack) (names : List (List ℕ)) (i : ℕ) (number : Option ℕ)
     → i < lines_in stack → names ≡ map label mods → number ≡ module_at stack names i
     → number ≡ module_of (names_of (map (player_of label plays note breaks) mods)) (rule_at stack i)

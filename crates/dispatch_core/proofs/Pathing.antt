@@ -9,6 +9,6 @@ pub record Shared (stack : Stack) (paths : List (List ℕ)) (n : ℕ) : Type 0 w
   pub count : length paths ≡ n
   pub each : (i : ℕ) → i < n → path_in paths i ≡ (rule_at stack i).path
 
--- further on, fewer have to be there
+-- at a later index, fewer paths have to be there
 pub paths_ahead : (stack : Stack) (paths : List (List ℕ)) (i next : ℕ) → i ≤ next → HasPaths stack i paths → HasPaths stack next paths
 paths_ahead stack paths i next ahead has = record { whole = has.whole; each = λ j from within. has.each j (omega (arith, from, ahead)) within }

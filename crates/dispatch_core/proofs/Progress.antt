@@ -1,4 +1,4 @@
--- What a pass that caches has cached, as more of its lines are run.
+-- What a first run has cached, as more of its lines are run.
 use Rattle.std.proofs.Common.{◌≡◌, ◌≢◌, ℕ, zero, suc, ◌+◌, ◌<◌, Bool, true, false, nat_eq, if◌then◌else◌, List, [], ◌∷◌, ◌++◌, length, Option, Some, None, is_some, slice_get, slice_set, inl, inr, refl, sym, ◌∙◌, ap, arith, eq-eqb, ne_eqb}
 use Rattle.std.specs.Option.{option_flatten}
 use Rattle.std.proofs.lemmas.Bool.{cases_eq}
@@ -60,7 +60,7 @@ answers-more (v ∷ vs) at answer = ap (λ (cs : List Code). v.answer ∷ cs) (a
 
 -- ---- both
 
--- what was cached and taken is of these lines, and no line from index `at` on was run
+-- what was cached and taken belongs to these lines, and no line from index `at` on was run
 pub record Progress (kept : Answers) (taken : List Code) (at : ℕ) (visits : List Visit) : Type 0 where
   pub taken_is : taken ≡ answers_of visits
   pub kept_is : is_some kept ≡ true → Keeps kept visits

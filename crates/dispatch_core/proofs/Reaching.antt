@@ -156,7 +156,7 @@ module _ (players : List Player) (func : Func) (flags : ℕ) (stack : Stack) whe
       played = λ told. (now, far.played told, record { left = left told; sound = sound; trail = work.1; nap = nap });
     }
 
-    -- the same of a chain whose stack stayed, by the turn's result
+    -- the same for a chain whose stack has not changed, given the result of the turn
     pub far_later : (nodes : Stack) (walker new : Walker) (past left : List Code) (code : Code) (now later : State) (answer : Option Code) → nodes ≡ stack → (still : Bool) → (IsTrue tells → IsTrue still)
         → Far walker past now → GoesBy kind kept nodes code walker new → Takes players func flags nodes still walker.at answer past left now later → answer ≡ Some code
         → Far new left later
@@ -177,7 +177,8 @@ module _ (players : List Player) (func : Func) (flags : ℕ) (stack : Stack) whe
         (subst (λ n. GoesSoundly (notes_of players) n now.room.transaction end.room.transaction now.world.process end.world.process) (sym count) sound) nap
         (λ told. subst (λ (t : Stack). BreaksAt players func flags t walker.at now end) same (left (tell told)))
 
--- where a pass stopped is where it stopped after it allocated its memory, which changed nothing that is seen
+-- allocating the memory of a pass changes nothing that is seen, so it doesn't matter for where the
+-- pass stopped
 pub stopped_as : (players : List Player) (func : Func) (flags : ℕ) (stack : Stack) (kind : PassKind) (kept : KeptAnswers) (given past : List Code) (now first world : Bool) (new old : PlainRoom) (w : PlainWorld) (end : State) (U : Type 0)
     → given ≡ past → now ≡ first → new ≡ old → StopsAt players func flags stack kind kept given (now && world) (state_of new w) end
     → U ⊎ StopsAt players func flags stack kind kept past (first && world) (state_of old w) end

@@ -29,7 +29,7 @@ standing stack i within =
     let x : FlatLine = get_or lines i other in
     record { line = x; stands = drop_more lines i x there ∙ ap (λ (y : FlatLine). y ∷ drop (i + 1) lines) (read_same lines i x other there) }
 
--- what is said of the line of an index is said of the line that is there
+-- what holds for the line of an index holds for the line at that index
 pub at_line-stands : {A : Type 0} (other : A) (of : FlatLine → A) (stack : Stack) (i : ℕ) (l : FlatLine) (rest : List FlatLine)
     → drop i (flat_lines 0 0 stack) ≡ l ∷ rest → at_line other of stack i ≡ of l
 at_line-stands other of stack i l rest stands = ap (of_first other of) stands

@@ -1,4 +1,4 @@
--- What is modelled at first is modelled later on.
+-- What is modelled before is modelled after.
 use Rattle.std.proofs.Common.{◌≡◌, Bool, ◌&&◌, IsTrue}
 
 pub both_tell : (a b c d : Bool) → a ≡ b → c ≡ d → IsTrue (b && d) → IsTrue (a && c)

@@ -84,7 +84,7 @@ module _ (kind : PassKind) (kept : KeptAnswers) (stack : Stack) (given : List Co
     leads = λ rest. begun kind (serving kind kept replaying) stack walker (pass_state given [] (telling rest)) at opinion entries;
   }
 
-  -- one line more, and the walk with all of them
+  -- one more line, and the walk with all of them
   line_more : (walker : Walker) (past : List Code) (visits : List Visit) (now : List Visited) (w : Visited) (rest : List Seen) (traced : Traced walker past visits now) → past ≡ []
       → walk_on kind (serving kind kept replaying) stack walker (pass_state [] visits (telling (seen_of w ∷ rest))) ≡ pass_after kind kept replaying stack given (telling (seen_in (traced.more ++ w ∷ []) ++ rest))
   line_more walker past visits now w rest traced none =
@@ -114,7 +114,7 @@ module _ (kind : PassKind) (kept : KeptAnswers) (stack : Stack) (given : List Co
               ∙ line_more walker past visits now.room.transaction.trail w rest traced asked.none_before;
         }
 
-    -- the same of a chain whose stack stayed, by the turn's result
+    -- the same for a chain whose stack has not changed, given the result of the turn
     pub traced_later : (nodes : Stack) (new : Walker) (code : Code) (answer : Option Code) → nodes ≡ stack
         → GoesBy kind kept nodes code walker new → Takes players func flags nodes tells walker.at answer past left now later → answer ≡ Some code
         → Traced new left (visits ++ visit (walker.at + 1) code ∷ []) later.room.transaction.trail
@@ -200,7 +200,7 @@ leaves_as kind w (Some code) cells old new view paused t keeps at held walks =
       state_is = walks.state_is;
     }
 
--- the whole pass, by how its walk ended: what is cached and paused after it
+-- the whole pass, by how its walk ended: what is cached after it, and the codes to resume with
 module _ (kind : PassKind) (cells old new : Answers) (view : AnswersView) (paused : Option (List Code)) (held : kind ≡ kinds.Keep → is_some cells ≡ true) where
   pub pass_leaves : {T : Type 0} (w : Walked (PassState T)) (t : T) (ended : Result (Option Code) NoMemory) (result : Result Code NoMemory)
       → result ≡ code_by ended → new ≡ kept_behind kind (is_ok ended) cells old → paused ≡ paused_by ended view.taken

@@ -67,7 +67,7 @@ pub ended_at : (stack : Stack) (a : Action) (i next : ℕ) (new : Opinion) (s : 
     → LeadsTo a s.rest new i new next
 ended_at stack a i next new s is end stands = rw (end ∙ at_line-stands 0 (λ s. i + 1 + lines_in s.rest) stack i s _ stands) (ended a i new s.rest is)
 
--- wherever a list goes on, it is further on
+-- a list always goes on at a later line
 pub goes_ahead : (stack : Stack) (a : Action) (i next : ℕ) (new opinion : Opinion) → i < lines_in stack
     → ((s : FlatLine) → Stands stack i s → LeadsTo a s.rest new i opinion next) → i < next
 goes_ahead stack a i next new opinion within goes = let at = standing stack i within in omega (arith, (goes at.line at.stands).next_is)
@@ -106,7 +106,7 @@ module _ {State : Type 0} (kind : PassKind) (serve : Serving State) where
   served_line stack i l s s' answer deciding stopped stands served =
       subst (λ (r : Rule). ServedAs (serve r (i + 1) s) answer deciding stopped s') (at_line-stands no_rule (λ l. l.rule) stack i l _ stands) served
 
-  -- the line puts the walk off
+  -- the line leaves the walk incomplete
   pub halted_there : (stack : Stack) (w : Walker) (s s' : State) (answer deciding : Code) (stopped : Bool)
       → w.at < lines_in stack → ServedAs (serve (rule_at stack w.at) (w.at + 1) s) answer deciding stopped s' → stopped ≡ true
       → walk_on kind serve stack w s ≡ halted w.opinion s'

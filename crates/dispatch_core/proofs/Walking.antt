@@ -15,7 +15,7 @@ use Rattle.dispatch_core.specs.EntryStates.{Entries, entered}
 use Rattle.dispatch_core.specs.Index.{passed, run, run_from}
 use Rattle.dispatch_core.proofs.Entering.{entered_none, entered_under, entered_first, entered_closed, pending_none, pending_line, pending_sum}
 
--- a list goes on within itself
+-- a list goes on with one of its own lines
 jump_fits : (b : Bool) (n left : ℕ) → (b ≡ true → n ≤ left) → passed (if b then after n else stop) left ≤ left
 jump_fits true n left fits = fits refl
 jump_fits false n left fits = omega arith

@@ -1,6 +1,6 @@
--- The passes of the six calls that run a stack, whatever the objects: which stacks they run, what they cache and
--- follow, how they are left incomplete and resumed (the Module Writers' Guide; INCOMPLETE with a resumption is this
--- project's own).
+-- The passes of the six calls that run a stack, whatever the objects: which stacks they run, which
+-- codes they cache and use, how they are left incomplete and resumed (the Module Writers' Guide;
+-- INCOMPLETE with a resumption is this project's own).
 use Rattle.std.specs.Prelude.{Bool, true, false, List, [], Option, Some, None}
 use Rattle.pam_base.specs.declared.code.Code.{Code}
 use Rattle.pam_base.specs.declared.code.Code.TheVariants as codes

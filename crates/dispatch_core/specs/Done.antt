@@ -23,7 +23,8 @@ use Rattle.dispatch_core.specs.Passes.{answer_in, taken_with, visits_with}
 use Rattle.dispatch_core.specs.Paths.{HasPaths}
 use Rattle.dispatch_core.specs.Trail.{ByTrail}
 
--- the code of a line, or that of an earlier call in its place, is what a walk gives there, whatever the kind of pass
+-- the code of a line, or an earlier call's code in its place, is what a walk gives there, whatever
+-- the kind of pass
 abbrev pub GivesLine : List Player → PassRequest → Stack → ℕ → Option Code → List Code → List Code
     → State → State → Type 0
 GivesLine players request stack i answer past left s t =
@@ -81,7 +82,7 @@ module _ {C World : Type 0} {T : C → Type 0} where
     pub looks : OnOk result (later.looks + 4 * length old.transaction.trail.visits
         ≤ chain.looks + 4 * (length new.transaction.trail.visits + length past))
 
-  -- where a pass stopped that ran out of memory in a module
+  -- where a pass stopped in which a module ran out of memory
   abbrev pub PassStops : List Player → PassRequest → Stack → KeptAnswers → List Code
       → (Room C T → Bool) → (Room C T → PlainRoom) → (World → Bool) → (World → PlainWorld)
       → Room C T → Room C T → World → World → Type 0

@@ -22,7 +22,7 @@ use Rattle.dispatch_core.specs.Index.{walk_on}
 use Rattle.dispatch_core.specs.Lines.{answers_by, call_of, names_of}
 use Rattle.dispatch_core.specs.Trail.{seen_of}
 
--- a line that isn't run: it leaves the pass incomplete there, and its rule number is recorded
+-- a line that isn't run: it leaves the pass incomplete at that line, whose rule number is recorded
 abbrev pub unasked : Answering (Option ℕ)
 unasked rule place noted = record { answer = codes.Incomplete; state = Some place }
 

@@ -33,13 +33,13 @@ run kind serve (line ∷ lines) zero at entries opinion state =
     else run kind serve lines (lines_in_first (passed (next_of action left new) left) line.rest) (at
     + 1) now (settled action left new) served.state
 
--- from an index on
+-- the walk from an index on
 abbrev pub run_from : {State : Type 0} → PassKind → Serving State → Stack → ℕ → Entries → Opinion
     → State → Walked State
 run_from kind serve stack i entries opinion state =
     run kind serve (drop i (flat_lines 0 0 stack)) 0 (i + 1) entries opinion state
 
--- from where a walker is
+-- the walk from where a walker is
 abbrev pub walk_on : {State : Type 0} → PassKind → Serving State → Stack → Walker → State
     → Walked State
 walk_on kind serve stack walker state =

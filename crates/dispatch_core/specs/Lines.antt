@@ -16,7 +16,7 @@ names_of players = map (λ (p : Player). p.name) players
 abbrev pub call_of : Func → ℕ → Rule → PlainCall
 call_of func flags rule = record { func = func; flags = flags; args = rule.args }
 
--- the line of a rule with this number is run: the first player that its path names serves the call
+-- the line of a rule with this number is run: the first module that its path names serves the call
 abbrev pub answers_by : List Player → Func → ℕ → Answering State
 answers_by players func flags rule place s =
     let a = serve_line players (module_of (names_of players) rule) place rule.path

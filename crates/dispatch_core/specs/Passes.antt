@@ -47,11 +47,11 @@ end_of w = if w.stopped then None else Some (verdict w.opinion)
 abbrev pub Keeps : Answers → List Visit → Type 0
 Keeps kept visits = (place : ℕ) → by_place kept place ≡ kept_in visits place
 
--- cells are open, and have the codes of lines that were run
+-- codes are cached: there are cells, and they have the codes of lines that were run
 abbrev pub KeepsAll : Answers → List Visit → Type 0
 KeepsAll kept visits = (is_some kept ≡ true) × Keeps kept visits
 
--- what a walk over all lines gave, cached and took is that of a walk
+-- what a walk over all lines returned, cached and took is that of a walk
 pub record WalksAs {State : Type 0} (w : Walked (PassState State)) (ended : Option Code)
     (kept : Answers) (given : AnswersView) (state : State) : Type 0 where
   pub end_is : ended ≡ end_of w
@@ -68,7 +68,7 @@ abbrev pub code_by : Result (Option Code) NoMemory → Result Code NoMemory
 code_by (Ok end) = Ok (answer_in end)
 code_by (Err failure) = Err failure
 
--- what is paused after it: the codes so far, if the walk is incomplete
+-- the codes to resume it with: the codes so far, if the walk is incomplete
 abbrev pub paused_by : Result (Option Code) NoMemory → List Code → Option (List Code)
 paused_by (Ok None) taken = Some taken
 paused_by (Ok (Some code)) taken = None
@@ -91,7 +91,7 @@ kept_behind kinds.Keep answered keeps old = if answered then keeps else None
 kept_behind kinds.Follow answered keeps old = old
 kept_behind kinds.Loose answered keeps old = if answered then None else old
 
--- a code, what is cached, what is paused and a state are those of a pass
+-- a code, the cached codes, the codes to resume with and a state are those of a pass
 pub record LeavesAs {State : Type 0} (kind : PassKind) (w : Walked (PassState State))
     (before : Answers) (code : Code) (kept : Answers) (paused : Option (List Code))
     (state : State) : Type 0 where

@@ -1,5 +1,5 @@
 //! One pass over a flattened stack, libpam's `_pam_dispatch`: each line's module serves the call,
-//! and the walker goes on where the line's list does. Whatever the modules do, the pass is the walk
+//! and the walker goes on as the line's list does. Whatever the modules do, the pass is the walk
 //! over the nested stack of `stack_walk`.
 //!
 //! Begin at pass.rt; turn.rt is one line, and walker.rt with next_line.rt decides where the pass goes

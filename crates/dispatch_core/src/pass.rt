@@ -85,7 +85,7 @@ fn keep_answers(kind: PassKind, kept: &mut Kept, keeps: Kept, answered: bool)
     }
 }
 
-// What is cached and paused after the walk of a pass, and the code of the pass.
+// What is cached after the walk of a pass, the codes to resume it with, and its code.
 fn end_pass(
     kind: PassKind,
     kept: &mut Kept,
@@ -114,17 +114,17 @@ fn end_pass(
 }
 
 /// One pass over a stack (`pam.conf(5)`; libpam: `_pam_dispatch` and `_pam_dispatch_aux`): the
-/// module of each line on its way serves the call, and the line run is added to the trace. A pass
-/// that follows acts by the cached return codes; an incomplete one is resumed after the lines that
-/// it ran. The code is INCOMPLETE if a line is; then the codes of the pass are paused, and after
-/// any other code none are. After a pass that caches, its codes are cached; after one that neither
-/// caches nor follows, none are.
+/// module of each line on its way serves the call, and the line run is added to the trace. A run by
+/// cached codes acts by these; an incomplete pass is resumed after the lines that it ran. The code
+/// is INCOMPLETE if a line is; then the codes of the pass are kept to resume it with, and after any
+/// other code none are. After a first run its codes may be cached; a run without cached codes
+/// leaves none.
 ///
 /// It allocates everything that it needs itself before the first module serves. `NoMemory`
 /// therefore means one of two things: either nothing happened, or the pass stopped in a module that
 /// ran out of memory; with modelled objects, the state is then one that this module's `breaks`
-/// allows. After it a pass that caches has nothing cached, any other leaves what was cached,
-/// nothing is paused, and all replaced data have been cleaned up.
+/// allows. After it a pass whose codes are to be cached has nothing cached, any other leaves what
+/// was cached; no pass is incomplete, and all replaced data have been cleaned up.
 pub fn dispatch(
     alloc: Global,
     chain: &mut Chain,

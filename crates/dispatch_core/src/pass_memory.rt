@@ -13,7 +13,7 @@ use pam_room::{Room, RoomTold};
 use stack_walk::PassKind;
 use std::alloc::Global;
 
-/// What a pass uses up, so that it does not allocate between two modules.
+/// Memory that a pass uses up, allocated before, so that it does not allocate between two modules.
 #[derive(Drop)]
 pub struct PassMemory {
     pub answers: AnswersSoFar,
@@ -21,8 +21,8 @@ pub struct PassMemory {
 }
 
 impl PassMemory {
-    /// Allocates everything for a pass: also the cells of one that caches, and in the room spare
-    /// room for lines run. After it no pass is incomplete, even if an allocation fails.
+    /// Allocates everything for a pass: also the cells for codes that it caches, and spare room in
+    /// the trace. After it no pass is incomplete, even if an allocation fails.
     pub fn take(
         alloc: Global,
         chain: &Chain,

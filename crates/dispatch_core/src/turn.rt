@@ -95,7 +95,7 @@ pub fn next_answer(
     Ok(Some(answer))
 }
 
-/// The code of the walker's line is cached if cells are open, and the walker acts on it.
+/// Caches the code of the walker's line, if codes are cached, and has the walker act on it.
 pub fn act_on(
     chain: &mut Chain,
     kind: PassKind,

@@ -34,7 +34,8 @@ impl Walker {
         }
     }
 
-    /// Acts on the next line, which has returned, and goes on to where its list goes on after it.
+    /// Acts on the next line, which has returned, and moves to the line with which its list
+    /// continues.
     pub fn go_on(&mut self, chain: &mut Chain, kind: PassKind, answer: Code, deciding: Code)
         requires { self.old.at < lines_in chain.old.nodes }
         ensures goes { (line : FlatLine) → Stands chain.old.nodes self.old.at line →

@@ -10,7 +10,7 @@ use std::alloc::Global;
 pub type Paused = Cached<Code>;
 
 impl Cached<Code> {
-    /// Those of a pass that is to be resumed.
+    /// The codes of a pass that is to be resumed.
     pub fn of(answers: Vec<Code>) -> Self
         ensures { result ≡ Some answers.items }
     {

@@ -110,7 +110,7 @@ module _ (names : List (List ℕ)) where
         (subst (λ n. AreLines names ps' n (flat_lines level (pending (lines_in inner) opens) rest) second.more) (ap length first.added ∙ length-append es first.more) second.are);
   }
 
-  -- how far a list has been adds: `here` is what is left of it
+  -- a list of which the first nodes have been added: `here` is what is left of it
   pub record IsAdding (level opens : ℕ) (whole : Stack) (old : List ChainLine) (before : List ℕ) (here : Stack) (now : List ChainLine) (positions : List ℕ) (behind pend left : ℕ) : Type 0 where
     pub adds : (es : List ChainLine) (ps : List ℕ) → AddsList names level pend here now es positions ps → AddsList names level opens whole old es before ps
     pub block : IsBlock positions behind (length now) here

@@ -1,4 +1,4 @@
--- A chain's line with an index is that of the stack at that index.
+-- The line of a chain at an index is the line of the stack at that index.
 use Rattle.std.proofs.Common.{◌≡◌, ℕ, zero, suc, ◌+◌, ◌<◌, ◌≤◌, Some, None, if◌then◌else◌, true, false, nat_le, List, [], ◌∷◌, length, get_or, drop, refl, sym, ◌∙◌, ap, subst, zero-add, add-zero, add-one, arith}
 use Rattle.std.proofs.lemmas.Bool.Decides.{nat_tests}
 use Rattle.control_words.specs.Stack.{Stack, none, line, sub, count, lines_in}
@@ -81,7 +81,7 @@ answers stack names lines positions i e flat within is =
           rw (at_line-stands None (λ s. if nat_le n (count s.rest) then Some (i + 1 + lines_in_first n s.rest) else None) stack i s _ stands, test) refl;
     }
 
--- the same, of what contracts see
+-- the same, for what contracts see
 abbrev view_of : Stack → List (List ℕ) → ℕ → ChainView
 view_of nodes names looks = record { nodes = nodes; names = names; looks = looks }
 

@@ -1,4 +1,4 @@
--- The stack of the nodes from an index on, by what the node there is.
+-- The stack of the nodes from an index on, by the kind of the node at that index.
 use Rattle.std.proofs.Common.{◌≡◌, ℕ, ◌+◌, ◌<◌, List, ◌∷◌, length, drop, get_or, refl, sym, ◌∙◌, ap, ◌++◌, append_assoc, [], arith}
 use Rattle.std.proofs.lemmas.List.{drop_more}
 use Rattle.control_words.specs.declared.nodes.Node.{Node, Line, Sub}
@@ -32,7 +32,7 @@ next_line here behind rule width is one = rw (is, one) (record { lines = omega a
 pub next_sub : (here inner behind : Stack) (width : ℕ) → here ≡ sub inner behind → width ≡ lines_in inner → IsNext here behind width
 next_sub here inner behind width is counted = rw (is, counted) (record { lines = refl; marks = λ first. refl })
 
--- one position more was added
+-- one more position was added
 pub marked : (all now new : List ℕ) (first width : ℕ) (here behind : Stack) → IsNext here behind width → now ++ positions_behind first here ≡ all
     → new ≡ now ++ (first + width) ∷ []
     → new ++ positions_behind (first + width) behind ≡ all

@@ -1,4 +1,5 @@
--- The worked example: a line, a substack with an empty one inside, an empty one, a substack of one line, a line.
+-- A test case: a line, a substack with an empty one inside, an empty one, a substack of one line, a
+-- line.
 use Rattle.std.proofs.Common.{◌≡◌, Some, None, [], ◌∷◌, refl, map}
 use Rattle.control_words.specs.declared.nodes.Rule.{Rule}
 use Rattle.control_words.specs.Stack.{Stack, none, line, sub, depth}

@@ -9,7 +9,7 @@ flat_lines-count (line rule rest) level opens = omega (arith, flat_lines-count r
 flat_lines-count (sub inner rest) level opens =
     omega (arith, length-append (flat_lines (level + 1) (opens + 1) inner) (flat_lines level (pending (lines_in inner) opens) rest), flat_lines-count inner (level + 1) (opens + 1), flat_lines-count rest level (pending (lines_in inner) opens))
 
--- what holds of the line with an index holds of the line at that index
+-- what holds for the line with an index holds for the line at that index
 pub at_line-stands : {A : Type 0} (other : A) (of : FlatLine → A) (stack : Stack) (i : ℕ) (s : FlatLine) (rest : List FlatLine)
     → drop i (flat_lines 0 0 stack) ≡ s ∷ rest → at_line other of stack i ≡ of s
 at_line-stands other of stack i s rest stands = ap (of_first other of) stands

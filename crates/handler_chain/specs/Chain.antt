@@ -2,7 +2,8 @@
 use Rattle.std.specs.Prelude.{ℕ, ◌+◌, ◌-◌, ◌^◌, min, List}
 use Rattle.control_words.specs.Stack.{Stack}
 
--- the nested list and the names that it was made from, and how often it was asked how its lines are nested
+-- the nested list and the names that it was made from, and how often the nesting of its lines was
+-- looked up
 pub record ChainView : Type 0 where
   pub nodes : Stack
   pub names : List (List ℕ)
@@ -12,6 +13,6 @@ pub record ChainView : Type 0 where
 abbrev pub fresh_chain : Stack → List (List ℕ) → ChainView
 fresh_chain nodes names = record { nodes = nodes; names = names; looks = 0 }
 
--- a chain after one look more; the count stays at the last value of its type
+-- a chain after one more lookup; the count saturates
 abbrev pub looked : ChainView → ChainView
 looked chain = record chain { looks = min (chain.looks + 1) (2 ^ 64 - 1) }

@@ -20,7 +20,7 @@ pub record IsChainLine (names : List (List ℕ)) (positions : List ℕ) (i : ℕ
   pub left : line.left ≡ count flat_line.rest
   pub behind : IsBlock positions line.behind (i + 1) flat_line.rest
 
--- so are all, from index i on
+-- all lines from index i on are such lines
 abbrev pub AreLines : List (List ℕ) → List ℕ → ℕ → List FlatLine → List ChainLine → Type 0
 AreLines names positions i [] [] = Unit {0}
 AreLines names positions i (s ∷ ss) (e ∷ es) = IsChainLine names positions i s e

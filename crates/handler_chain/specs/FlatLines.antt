@@ -35,12 +35,12 @@ lines_in_first (suc n) none = 0
 lines_in_first (suc n) (line rule rest) = lines_in_first n rest + 1
 lines_in_first (suc n) (sub inner rest) = lines_in inner + lines_in_first n rest
 
--- what is said of the first of several lines, if there is one
+-- this holds for the first of several lines, if there is one
 abbrev pub of_first : {A : Type 0} → A → (FlatLine → A) → List FlatLine → A
 of_first other of [] = other
 of_first other of (l ∷ ls) = of l
 
--- what is said of the line of an index, if there is one
+-- this holds for the line at an index, if there is one
 abbrev pub at_line : {A : Type 0} → A → (FlatLine → A) → Stack → ℕ → A
 at_line other of stack i = of_first other of (drop i (flat_lines 0 0 stack))
 

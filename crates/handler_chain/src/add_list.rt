@@ -40,7 +40,7 @@ fn add_positions(positions: &mut Vec<usize>, nodes: &Nodes, first: usize) -> Res
     Ok(())
 }
 
-/// Adds the lines of a list at a level; n substacks were opened since the last line before it.
+/// Adds the lines of a list at a level; n substacks were opened after the last line before it.
 pub fn add_list(
     alloc: Global,
     nodes: &Nodes,

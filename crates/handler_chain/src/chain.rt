@@ -68,7 +68,7 @@ pub fn flatten(alloc: Global, nodes: &Nodes, names: &Texts) -> Result<Chain, NoM
 }
 
 impl Chain {
-    /// A stack without a line, for modules with these names.
+    /// An empty stack, for modules with these names.
     pub fn new(alloc: Global, names: &Texts) -> Self
         requires { length names.now < 2 ^ 32 }
         ensures { result ≡ fresh_chain none names.now }

@@ -8,7 +8,7 @@ use Rattle.stack_walk.specs.Pass.{Visit, visit, answers_of, kept_in}
 use Rattle.pass_replay.specs.declared.visited.Visited.{Visited}
 use Rattle.pass_replay.specs.Kept.{answers_in, visits_of}
 
--- one code more, for its line alone
+-- one more code, for its line alone
 abbrev pub one_at : ℕ → Code → ℕ → Option Code
 one_at place answer other = if nat_eq other place then Some answer else None
 
@@ -47,12 +47,12 @@ answers_more visits i d answers within sofar =
     ∙ sym (ap answers_of (one_more visits i d within)
     ∙ answers_of-append (visits_of (take i visits)) (visit v.place v.answer ∷ []))
 
--- nothing more is kept
+-- no more codes are kept
 or_none : (o : Option Code) → option_or o None ≡ o
 or_none None = refl
 or_none (Some answer) = refl
 
--- a cell for one line more, if it had none
+-- a cell for one more line, if it had none
 cells_more : (old new : List (Option Code)) (at : ℕ) (answer : Code) (place : ℕ)
     → answers_in new at ≡ option_or (answers_in old at) (Some answer)
     → ((other : ℕ) → other ≢ at → answers_in new other ≡ answers_in old other)

@@ -1,4 +1,4 @@
--- The stack of the nodes from an index on, by what the node there is.
+-- The stack of the nodes from an index on, by the kind of the node at that index.
 use Rattle.std.proofs.Common.{◌≡◌, ℕ, ◌+◌, ◌<◌, ◌≤◌, add-zero, arith, List, ◌∷◌, length, drop, get_or, refl, sym, ◌∙◌, ap}
 use Rattle.std.proofs.lemmas.List.{drop_more}
 use mathlib.Core.Former.{Count}

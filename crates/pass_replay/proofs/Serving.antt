@@ -16,7 +16,7 @@ use Rattle.pass_replay.specs.Walk.{state_in}
 use Rattle.pass_replay.proofs.Dropping.{drop_next, drop_past}
 use Rattle.pass_replay.proofs.Keeping.{visits_of-append}
 
--- a code that was given before
+-- the code of an earlier call
 pub given : (kind : PassKind) (kept : KeptAnswers) (rule : Rule) (past : List Code) (told : List (Option Seen))
     (old new : Replay) (answer : Code) → slice_get past old.used ≡ Some answer
     → new ≡ record old { used = old.used + 1; visits = old.visits ++ record { place = old.at + 1; answer = answer } ∷ [] }
@@ -38,7 +38,7 @@ given kind kept rule past told old new answer is new_is =
       state_is = state ∙ sym (ap (λ (s : Served (PassState Telling)). s.state) served);
     }
 
--- a code that a line gave when it was run
+-- the code of a line that was run
 asked_once : {State : Type 0} (kind : PassKind) (kept : KeptAnswers) (at : ℕ) (visits : List Visit) (a : Answered State)
     (answer : Code) (state : State) → AnswersAs a answer state → is_incomplete answer ≡ false
     → ServedAs (served_now kind kept at visits a) answer (decides kind kept at answer) false (pass_state [] (visits ++ visit at answer ∷ []) state)

@@ -47,7 +47,7 @@ pub left_end : (told : List (Option Seen)) (n : ℕ) → visits_in (drop n told)
     → length told ≡ lines_before (length (visits_in told) - length (visits_in (drop n told))) told
 left_end told n none = before_end told _ (omega (arith, ap length none))
 
--- a line that was run is this one
+-- the line that was run is this one
 pub visit_here : (told : List (Option Seen)) (n : ℕ) (v : Seen) → slice_get told n ≡ Some (Some v)
     → visits_in (drop n told) ≡ seen_of v ∷ visits_in (drop (n + 1) told)
 visit_here told n v is = ap visits_in (drop_next told n (Some v) is)

@@ -16,7 +16,7 @@ use Rattle.pass_replay.specs.Walk.{skip_of, WalkEnds}
 use Rattle.pass_replay.proofs.Peeling.{count_node, lines_node, depth_node}
 
 module _ {State : Type 0} (kind : PassKind) (serve : Serving State) where
-  -- a list all of whose nodes are passed over
+  -- a list all of whose nodes are skipped
   skip_all : (rest : Stack) (at : ℕ) (entry opinion : Opinion) (state : State) → walk kind serve (count rest) rest at entry opinion state ≡ walked opinion state
   skip_all none at entry opinion state = refl
   skip_all (line rule rest) at entry opinion state = rw add-one (skip_all rest (at + 1) entry opinion state)
@@ -54,7 +54,7 @@ module _ {State : Type 0} (kind : PassKind) (serve : Serving State) where
 
   -- ---- all nodes
 
-  -- `here` is left of a walk over all
+  -- a walk over the whole list, of which `here` is left
   pub record IsWalking (all : Stack) (first : ℕ) (entry : Opinion) (start : State) (here : Stack) (skip at left : ℕ) (opinion : Opinion) (state : State) : Type 0 where
     pub goes : walk kind serve skip here (at + 1) entry opinion state ≡ walk kind serve 0 all (first + 1) entry entry start
     pub placed : at + lines_in here ≡ first + lines_in all

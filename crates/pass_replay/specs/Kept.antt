@@ -10,7 +10,7 @@ use Rattle.pass_replay.specs.declared.visited.Visited.{Visited}
 abbrev pub answers_in : List (Option Code) → KeptAnswers
 answers_in cells place = option_flatten (slice_get cells place)
 
--- if nothing is held, and if cells are
+-- the codes in cells; None if nothing is held
 abbrev pub kept_answers : Option (List (Option Code)) → Option KeptAnswers
 kept_answers None = None
 kept_answers (Some cells) = Some (answers_in cells)

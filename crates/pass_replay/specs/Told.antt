@@ -1,5 +1,5 @@
--- The recorded lines of a call: a line that was run, or another, of which nothing matters here
--- (this project's own).
+-- The recorded lines of a call: a line that was run, or another one, whose content doesn't matter
+-- here (this project's own).
 use Rattle.std.specs.Prelude.{ℕ, zero, suc, ◌+◌, Bool, List, [], ◌∷◌, Option, Some, None, drop}
 use Rattle.stack_walk.specs.declared.seen.Seen.{Seen}
 use Rattle.stack_walk.specs.Retell as retell

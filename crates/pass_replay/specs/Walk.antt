@@ -23,12 +23,12 @@ abbrev pub skip_of : Next → ℕ → ℕ
 skip_of (after n) left = n
 skip_of stop left = left
 
--- what is left of a walk after a line: it goes on, or None if it pauses there
+-- what is left of a walk after a line: it goes on, or None if it is incomplete there
 abbrev pub after_line : {State : Type 0} → PassKind → Serving State → Stack → ℕ → Opinion → Opinion → Option NextNode → State → Walked State
 after_line kind serve rest at entry opinion None state = halted opinion state
 after_line kind serve rest at entry opinion (Some onward) state = walk kind serve onward.skip rest at entry onward.opinion state
 
--- a walk ended in this state and with this replay, or paused at this replay
+-- a walk ended in this state and with this replay, or is incomplete at this replay
 abbrev pub WalkEnds : {State : Type 0} → Walked State → Option Opinion → State → Type 0
 WalkEnds w (Some opinion) state = w ≡ walked opinion state
 WalkEnds w None state = w ≡ halted w.opinion state

@@ -1,6 +1,6 @@
-//! Replays a stack call from its report: each line returns what the next recorded line has, if that
-//! is of this line. A checker of reports trusts nothing of the program that printed them, so this
-//! depends on the loaded stacks alone.
+//! Replays a stack call from its report: each line returns the code of the next recorded line, if
+//! that belongs to this line. A checker of reports trusts nothing of the program that printed them,
+//! so this depends on the loaded stacks alone.
 //!
 //! Begin at `retelling.rt`; `pass.rt` has one pass, `walk.rt` the walk over a list, `replay.rt` the
 //! code of a line.

@@ -93,7 +93,8 @@ fn visit(answer: Code, replay: &mut Replay) -> Result<(), NoMemory>
     })
 }
 
-// The present line returns the next recorded code, if that is of this line; else the replay stops.
+// The present line returns the next recorded code, if that belongs to this line; else the replay
+// stops.
 fn ask(rule: &Rule, told: &[Option<Seen>], replay: &mut Replay) -> Code
     requires few { replay.old.at < 4096 }
     ensures answers { AnswersAs (replaying rule.now (replay.old.at + 1)

@@ -26,9 +26,8 @@ use stack_walk::{PassKind, Seen};
 use std::alloc::Global;
 
 /// Replays a stack call, while no other one is pending, by the recorded lines of its block: lines
-/// that were run, and None for others. An incomplete call is resumed. The call itself doesn't test
-/// which recorded lines it took: `astray` and `next` say whether they are all those that the call
-/// runs.
+/// that were run, and None for others. An incomplete call is resumed. The replay doesn't judge
+/// which recorded lines it took: `astray` and `next` say whether the call runs exactly these.
 ///
 /// Fails only if an allocation fails. The time is linear in the lines of the stack and in the
 /// recorded lines.
@@ -53,7 +52,7 @@ pub fn retell(
     Ok(retold)
 }
 
-// What a replay reads: the stacks and the recorded lines; and where it allocates.
+// What a replay reads: the stacks and the recorded lines; and the allocator.
 #[derive(Clone, Copy)]
 struct Source<'a> {
     alloc: Global,
@@ -91,7 +90,7 @@ fn resumed_from(alloc: Global, pending: Option<Pending>) -> (Sequence<Code>, Opt
     }
 }
 
-// The kind of a call's first pass: setcred and close_session follow cached codes, if any are held.
+// The kind of a call's first pass: setcred and close_session use cached codes, if any are held.
 fn kind_of(func: Func, kept: &Option<Answers>) -> PassKind
     ensures { result ≡ kind_of func (kept_answers kept.now) }
 {
@@ -113,7 +112,7 @@ fn following(kept: &Option<Answers>) -> PassKind
     }
 }
 
-// What is pending after a pass: its call, if it is incomplete.
+// What is pending after a pass: its call, if the pass is incomplete.
 fn pending_after(
     func: Func,
     first: Option<Answers>,
@@ -155,7 +154,7 @@ fn take_cached(func: Func, held: &mut Held) -> Option<Answers>
     }
 }
 
-// The first pass of a call, after the codes of its earlier calls, by what is cached for it.
+// The first pass of a call, after the codes of its earlier calls, with the codes cached for it.
 fn first_pass(
     source: &Source,
     func: Func,
@@ -183,7 +182,7 @@ fn first_pass(
     )
 }
 
-// The result of a call whose last pass is its first: what the call caches is put in its place.
+// The result of a call of one pass: the codes that the call caches are stored.
 fn ended(func: Func, passed: Passed, held: Held) -> Retold
     ensures { (told : List (Option Seen)) → went_of told result ≡ went passed.code
         (held_behind func None (passed_of told passed) (held_of held))

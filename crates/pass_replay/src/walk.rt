@@ -93,7 +93,7 @@ fn walk_line(
 
 /// Walks a list from a state, which is also that at its entry; None if the walk is incomplete.
 ///
-/// Each line of the list is looked at once.
+/// Each line of the list is walked once.
 pub fn walk_nodes(
     nodes: &Nodes,
     kind: PassKind,

@@ -1,5 +1,5 @@
-//! Tests of a flattened stack: what its copy takes, and how often a run looks at it. It has no
-//! functions of its own.
+//! Tests of a flattened stack: how often a run looks lines up, and that this doesn't grow with the
+//! lines that it doesn't reach. It has no functions of its own.
 #![tactic(auto)]
 
 #[cfg(test)]

@@ -1,4 +1,4 @@
--- A walk whose lines act by cached codes goes along the route of these codes.
+-- A walk whose lines act by cached codes follows the route of these codes.
 use Rattle.std.proofs.Common.{◌≡◌, ℕ, zero, suc, ◌+◌, ◌<◌, ◌≤◌, Bool, true, false, true≢false, ◌⊎◌, inl, inr, if◌then◌else◌, List, [], ◌∷◌, ◌++◌, length, length-append, Option, Some, None, refl, sym, ◌∙◌, ap, subst, append_assoc, append-nil, arith}
 use Rattle.pam_base.specs.declared.code.Code.{Code}
 use Rattle.control_words.specs.declared.control.Action.{Action}
@@ -23,7 +23,7 @@ module _ (State : Type 0) where
   state_onward stop f h P each here = here
 
 module _ (State : Type 0) (kind : PassKind) (serve : Serving State) where
-  -- what each line keeps, a walk keeps
+  -- what each line leaves unchanged, a walk leaves unchanged
   pub walk_keeps : (P : ℕ → State → Type 0) → ((rule : Rule) (at : ℕ) (s : State) → P at s → P (at + 1) (serve rule at s).state)
       → ((at later : ℕ) (s : State) → at ≤ later → P at s → P later s)
       → (t : Stack) (n at : ℕ) (entry o : Opinion) (s : State) → P at s → P (at + lines_in t) (walk kind serve n t at entry o s).state
@@ -47,8 +47,9 @@ module _ (State : Type 0) (kind : PassKind) (serve : Serving State) where
       state_if State w.stopped _ _ (P later) (up (at + lines_in inner) later w.state (omega arith) inside)
       (up (at + lines_in inner + lines_in rest) later _ (omega arith) (walk_keeps P step up rest zero (at + lines_in inner) entry w.opinion w.state inside))
 
--- What is known of a serving: which lines a state has seen, and, if a walk ends in a state that is
--- Ok, that a line that was run acts by its cached code. Low says what holds before a line.
+-- What is known of how lines are served: which lines a state has seen; and, if a walk ends in a
+-- state that is Ok, that each line that was run acts by its cached code. `Low` says what holds
+-- before a line.
 pub record Tells (State : Type 0) (serve : Serving State) (kept : KeptAnswers) (seen : State → List ℕ) (Low : ℕ → State → Type 0) (Ok : State → Type 0) : Type 0 where
   pub on : (rule : Rule) (at : ℕ) (s : State) → (serve rule at s).stopped ≡ false → seen (serve rule at s).state ≡ seen s ++ at ∷ []
   pub off : (rule : Rule) (at : ℕ) (s : State) → (serve rule at s).stopped ≡ true → seen (serve rule at s).state ≡ seen s
@@ -62,7 +63,8 @@ pub record Tells (State : Type 0) (serve : Serving State) (kept : KeptAnswers) (
 abbrev pub Finds : (State : Type 0) (serve : Serving State) (kept : KeptAnswers) (Low : ℕ → State → Type 0) (Ok : State → Type 0) → Type 0
 Finds State serve kept Low Ok = (rule : Rule) (at : ℕ) (s : State) → Low at s → Ok (serve rule at s).state → (serve rule at s).stopped ≡ false → kept at ≡ None → ⊥
 
--- A walk goes along: what it saw is a prefix of what is met, and once it has ended, all of it.
+-- A walk follows its route: the lines that it saw are a prefix of the route and, once it has ended,
+-- all of it.
 pub record Goes (State : Type 0) (seen : State → List ℕ) (before : List ℕ) (m : Met) (w : Walked State) : Type 0 where
   pub left : List ℕ
   pub places : before ++ m.places ≡ seen w.state ++ left
@@ -110,7 +112,7 @@ module _ (State : Type 0) (kind : PassKind) (serve : Serving State) (kept : Kept
   goes_next (after n) f g w m before each here ok sure = each n ok sure
   goes_next stop f g w m before each here ok sure = here
 
-  -- paused at a line
+  -- incomplete at a line
   goes_if : (b : Bool) (m : Met) (w : Walked State) (o : Opinion) (s : State) (before : List ℕ)
       → 0 < length m.places → (b ≡ true → seen s ≡ before) → (b ≡ false → Ok w.state → Along before m w)
       → Ok (if b then halted o s else w).state → Along before m (if b then halted o s else w)

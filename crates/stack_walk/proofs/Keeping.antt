@@ -8,7 +8,7 @@ pub places-add : (vs : List Visit) (at : ℕ) (p : Code) → places_of (vs ++ vi
 places-add [] at p = refl
 places-add (v ∷ vs) at p = ap (λ (xs : List ℕ). v.place ∷ xs) (places-add vs at p)
 
--- what is kept stays
+-- a cached code stays
 still_if : (b : Bool) (x : Code) (first second : Option Code) (k : Code) → (first ≡ Some k → second ≡ Some k) → (if b then Some x else first) ≡ Some k
     → (if b then Some x else second) ≡ Some k
 still_if true x first second k goes is = is
@@ -18,7 +18,7 @@ pub kept-still : (vs ws : List Visit) (place : ℕ) (k : Code) → kept_in vs pl
 kept-still [] ws place k is = cc
 kept-still (v ∷ vs) ws place k is = still_if (nat_eq place v.place) v.answer _ _ k (kept-still vs ws place k) is
 
--- what isn't kept is what comes next
+-- if nothing is found before, the result is what comes next
 next_if : (b : Bool) (x : Code) (first second third : Option Code) → (first ≡ None → second ≡ third) → (if b then Some x else first) ≡ None
     → (if b then Some x else second) ≡ third
 next_if true x first second third goes is = cc

@@ -44,7 +44,7 @@ module _ (State : Type 0) (kind : PassKind) (kept : KeptAnswers) where
       walk_keeps (PassState State) kind (serving kind kept answering) (λ (at : ℕ) (x : PassState State). Grown g.visits x.visits)
       (λ rule at x grown. grown_by g.visits x.visits _ grown (line_grows answering rule at x _ refl)) (λ at later x le grown. grown) t n at entry o g (grown_same _ _ refl)
 
-  -- what a second walk does that has the first one's codes, and then others, as its past
+  -- a second walk, whose earlier codes are those of the first one and then others
   record Again (w second : Walked (PassState State)) (rest : List Code) (s : State) : Type 0 where
     ended : w.stopped ≡ false → second ≡ walked w.opinion (pass_state rest w.state.visits s)
     put_off : w.stopped ≡ true → Grown w.state.visits second.state.visits

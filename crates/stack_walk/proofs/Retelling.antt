@@ -35,7 +35,8 @@ abbrev pub walked_again : {State : Type 0} → Walked (PassState State) → List
 walked_again w more = record { opinion = w.opinion; state = pass_state w.state.past w.state.visits (telling more); stopped = w.stopped }
 
 module _ (State : Type 0) (trail : State → List Seen) where
-  -- what a line and a walk add to the trace, and that replayed by these lines they are the same again
+  -- what a line and a walk add to the trace, and that they are the same when replayed by these
+  -- lines
   pub record ServedTold (v : Served (PassState State)) (before : List Seen) (again : List Seen → Served (PassState Telling)) : Type 0 where
     pub news : List Seen
     pub adds : trail v.state.state ≡ before ++ news

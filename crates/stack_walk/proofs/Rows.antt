@@ -1,4 +1,5 @@
--- Worked stacks, computed on the definitions, over modules whose codes are fixed by the rule numbers of their lines.
+-- Test cases: stacks, computed on the definitions, with modules whose codes are fixed by the rule
+-- numbers of their lines.
 use Rattle.std.proofs.Common.{◌≡◌, ℕ, ◌-◌, false, nat_eq, if◌then◌else◌, List, [], ◌∷◌, None, get_or, refl}
 use Rattle.pam_base.specs.declared.code.Code.{Code}
 use Rattle.pam_base.specs.declared.code.Code.TheVariants.{Success, PermDenied, AuthErr, CredUnavail, CredErr, SessionErr, MaxTries, TryAgain, Ignore, Incomplete}
@@ -27,7 +28,8 @@ jump n = usual (actions.Jump n) actions.Ignore actions.Ignore
 abbrev always : Action → List Action
 always action = usual action action action
 
--- the lines 1, 2, .. return these; the state is the lines that are still to pause a pass, once each
+-- the lines 1, 2, .. return these; the state is the list of lines that still have to return
+-- INCOMPLETE, once each
 abbrev fixed : List Code → Answering (List ℕ)
 fixed codes rule at [] = record { answer = get_or codes (at - 1) Success; state = [] }
 fixed codes rule at (later ∷ others) =
@@ -40,7 +42,7 @@ Passed = Walked (PassState (List ℕ))
 abbrev keep : Stack → List Code → Passed
 keep stack codes = pass_after Keep (λ place. None) (fixed codes) stack [] []
 
--- a pass that follows the one that cached the first codes
+-- a run by the codes that a first run cached
 abbrev follow : Stack → List Code → List Code → Passed
 follow stack first codes = pass_after Follow (kept_in (keep stack first).state.visits) (fixed codes) stack [] []
 
@@ -84,7 +86,7 @@ failed_twice-code = refl
 failed_twice-visits : (keep failed (AuthErr ∷ Success ∷ MaxTries ∷ [])).state.visits ≡ visit 1 AuthErr ∷ visit 2 Success ∷ visit 3 MaxTries ∷ []
 failed_twice-visits = refl
 
--- a substack is one node for a jump, and its lines count for the places
+-- a substack is one node for a jump, and its lines count for the rule numbers
 abbrev over_substack : Stack
 over_substack = line (by (jump 1)) (sub (line (by required) (line (by required) (line (by required) none))) (line (by required) none))
 
@@ -104,7 +106,7 @@ second_substack-code = refl
 second_substack-visits : (keep second_substack (Success ∷ AuthErr ∷ Success ∷ [])).state.visits ≡ visit 1 Success ∷ visit 3 Success ∷ []
 second_substack-visits = refl
 
--- a substack without lines is a node as any other
+-- a substack without lines is a node like any other
 abbrev over_empty : Stack
 over_empty = line (by required) (line (by (jump 1)) (sub none none))
 
@@ -124,7 +126,7 @@ overrun-code = refl
 overrun-visits : (keep overrun (AuthErr ∷ Success ∷ Success ∷ [])).state.visits ≡ visit 1 AuthErr ∷ visit 2 Success ∷ []
 overrun-visits = refl
 
--- a jump that ends at the end of its list is no overrun
+-- a jump to the end of its list is allowed
 abbrev to_the_end : Stack
 to_the_end = line (by required) (line (by (jump 1)) (line (by required) none))
 
@@ -154,7 +156,8 @@ reset_inside-code = refl
 reset_inside-visits : (keep reset_inside (Success ∷ AuthErr ∷ Success ∷ AuthErr ∷ [])).state.visits ≡ visit 1 Success ∷ visit 2 AuthErr ∷ visit 3 Success ∷ visit 4 AuthErr ∷ []
 reset_inside-visits = refl
 
--- a pass that follows takes the way of the one that cached: a failure now does not lead it to another line
+-- a run by cached codes runs the lines of the first run: a failure now does not lead it to another
+-- line
 abbrev enough : Stack
 enough = line (by sufficient) (line (by required) none)
 
@@ -164,7 +167,7 @@ enough-code = refl
 enough-visits : (keep enough (Success ∷ Success ∷ [])).state.visits ≡ visit 1 Success ∷ []
 enough-visits = refl
 
--- the same, followed
+-- the same in a run by cached codes
 enough_followed-code : code_of (follow enough (Success ∷ Success ∷ []) (CredErr ∷ Success ∷ [])) ≡ CredErr
 enough_followed-code = refl
 
@@ -202,7 +205,7 @@ one_followed-code = refl
 one_followed-visits : (follow one (Success ∷ []) (Success ∷ [])).state.visits ≡ visit 1 Success ∷ []
 one_followed-visits = refl
 
--- in a pass that follows a jump counts as ok, unless the code is IGNORE
+-- in a run by cached codes a jump counts as ok, unless the code is IGNORE
 abbrev over_line : Stack
 over_line = line (by (jump 1)) (line (by required) (line (by required) none))
 
@@ -212,7 +215,7 @@ over_line-code = refl
 over_line-visits : (keep over_line (Success ∷ Success ∷ Success ∷ [])).state.visits ≡ visit 1 Success ∷ visit 3 Success ∷ []
 over_line-visits = refl
 
--- the same, followed
+-- the same in a run by cached codes
 over_line_followed-code : code_of (follow over_line (Success ∷ Success ∷ Success ∷ []) (CredErr ∷ Success ∷ Success ∷ [])) ≡ CredErr
 over_line_followed-code = refl
 
@@ -229,7 +232,7 @@ session-code = refl
 session-visits : (keep session (Success ∷ [])).state.visits ≡ visit 1 Success ∷ []
 session-visits = refl
 
--- the same, followed
+-- the same in a run by cached codes
 session_followed-code : code_of (follow session (Success ∷ []) (SessionErr ∷ [])) ≡ SessionErr
 session_followed-code = refl
 
@@ -243,7 +246,8 @@ session_loose-code = refl
 session_loose-visits : (loose session (SessionErr ∷ [])).state.visits ≡ visit 1 SessionErr ∷ []
 session_loose-visits = refl
 
--- a line pauses the pass inside a substack, whose entry state still holds when it is resumed
+-- a line inside a substack leaves the pass incomplete; the substack's entry state still holds when
+-- the pass is resumed
 abbrev waiting : Stack
 waiting = line (by required) (sub (line (by required) (line (by required) (line (by (always actions.Reset)) none))) none)
 
@@ -265,14 +269,14 @@ second_call-code = refl
 second_call-visits : second_call.state.visits ≡ visit 1 Success ∷ visit 2 AuthErr ∷ visit 3 Success ∷ visit 4 Success ∷ []
 second_call-visits = refl
 
--- a module that returns INCOMPLETE pauses the pass each time
+-- a module that returns INCOMPLETE leaves the pass incomplete each time
 incomplete-code : code_of (keep one (Incomplete ∷ [])) ≡ Incomplete
 incomplete-code = refl
 
 incomplete-visits : (keep one (Incomplete ∷ [])).state.visits ≡ []
 incomplete-visits = refl
 
--- the route of cached codes: a done in a substack ends the substack alone
+-- the route of cached codes: a done in a substack ends only the substack
 in_substack : route (sub (line (by sufficient) (line (by required) none)) (line (by required) none)) (kept_in (visit 1 Success ∷ visit 3 Success ∷ [])) ≡ 1 ∷ 3 ∷ []
 in_substack = refl
 
@@ -284,7 +288,7 @@ after_bad = refl
 around_substack : route over_substack (kept_in (visit 1 Success ∷ visit 5 Success ∷ [])) ≡ 1 ∷ 5 ∷ []
 around_substack = refl
 
--- a place without a cached code is the last, even in a substack
+-- a line without a cached code is the last, even in a substack
 lacking : route ended_inside (kept_in []) ≡ 1 ∷ []
 lacking = refl
 

@@ -18,7 +18,7 @@ if_true true x y is = refl
 if_true false x y is = absurd (true≢false (sym is))
 
 module _ (State : Type 0) (kind : PassKind) (kept : KeptAnswers) (answering : Answering State) where
-  -- a line that doesn't pause counts as run, with its present code; one that does doesn't
+  -- a line counts as run, with its present code, unless it leaves the pass incomplete
   pub visited : (rule : Rule) (at : ℕ) (past : List Code) (vs : List Visit) (s : State) → (served_past kind kept answering rule at past vs s).stopped ≡ false
       → (served_past kind kept answering rule at past vs s).state.visits ≡ vs ++ visit at (served_past kind kept answering rule at past vs s).answer ∷ []
   visited rule at [] vs s is = if_false (is_incomplete (answering rule at s).answer) vs _ is
@@ -29,11 +29,11 @@ module _ (State : Type 0) (kind : PassKind) (kept : KeptAnswers) (answering : An
   unvisited rule at [] vs s is = if_true (is_incomplete (answering rule at s).answer) vs _ is
   unvisited rule at (p ∷ past) vs s is = absurd (true≢false (sym is))
 
--- the places that a state has seen
+-- the rule numbers that a state has seen
 abbrev pub seen : {State : Type 0} → PassState State → List ℕ
 seen g = places_of g.visits
 
--- nothing is said
+-- nothing is stated
 abbrev pub Any_at : (State : Type 0) → ℕ → PassState State → Type 0
 Any_at State at g = Unit {0}
 
@@ -44,7 +44,7 @@ Any State g = Unit {0}
 abbrev pub Below : (State : Type 0) → ℕ → PassState State → Type 0
 Below State at g = (place : ℕ) → at ≤ place → kept_in g.visits place ≡ None
 
--- what was run is cached
+-- each line that was run has its code cached
 abbrev pub Agrees : (State : Type 0) → KeptAnswers → PassState State → Type 0
 Agrees State kept g = (place : ℕ) (k : Code) → kept_in g.visits place ≡ Some k → kept place ≡ Some k
 
@@ -64,7 +64,7 @@ follow_tells State kept answering = record {
   agrees = λ rule at g k low ok runs is. decides_kept State kept answering rule at g.past g.visits g.state k is;
 }
 
--- a pass that caches; `kept` is what it will have run
+-- a first run; `kept` has the codes of the lines that it will have run
 decides_present : (State : Type 0) (before : KeptAnswers) (answering : Answering State) (rule : Rule) (at : ℕ) (past : List Code) (vs : List Visit) (s : State)
     → (served_past kinds.Keep before answering rule at past vs s).deciding ≡ (served_past kinds.Keep before answering rule at past vs s).answer
 decides_present State before answering rule at [] vs s = refl

@@ -1,4 +1,4 @@
--- An incomplete walk, and a later one by what it was given, to which nothing more is recorded.
+-- An incomplete walk, and a later one that has its codes and for which no more lines are recorded.
 use Rattle.std.proofs.Common.{◌≡◌, ℕ, zero, suc, ◌+◌, Bool, true, false, true≢false, if◌then◌else◌, List, [], ◌∷◌, ◌++◌, refl, sym, ◌∙◌, ap, subst, append_assoc, append-nil}
 use Rattle.pam_base.specs.declared.code.Code.{Code}
 use Rattle.control_words.specs.declared.nodes.Rule.{Rule}
@@ -21,8 +21,8 @@ abbrev pub Strays : Walked (PassState Telling) → Type 0
 Strays w = (w.stopped ≡ true) × (w.state.state.astray ≡ true)
 
 module _ (State : Type 0) where
-  -- The lines that a walk runs, and a later one that uses the codes of these lines: the same if it ended, and one that
-  -- strays if it was paused.
+  -- The lines that a walk runs, and a later one that uses the codes of these lines: the same walk
+  -- if the first one ended; if that was incomplete, one that runs a line that isn't recorded.
   record Resumes (w : Walked (PassState State)) (before : List Visit) (again : List Code → Walked (PassState Telling)) : Type 0 where
     news : List Visit
     adds : w.state.visits ≡ before ++ news
@@ -69,7 +69,7 @@ module _ (State : Type 0) where
     abbrev served_later : Rule → ℕ → List Code → List Visit → Served (PassState Telling)
     served_later rule at past visits = served_past kind later replaying rule at past visits (telling [])
 
-    -- what is known of a line that is run, and of one that pauses
+    -- what is known of a line that is run, and of one that leaves the walk incomplete
     record LineResumes (v : Served (PassState State)) (rule : Rule) (at : ℕ) (visits : List Visit) : Type 0 where
       on : v.stopped ≡ false → v.state.visits ≡ visits ++ visit at v.answer ∷ []
       off : v.stopped ≡ true → v.state.visits ≡ visits

@@ -21,7 +21,7 @@ opening = opinion_of Undefined codes.PermDenied
 abbrev pub overrun : Opinion
 overrun = opinion_of Negative codes.PermDenied
 
--- a good code decides if nothing else did, or only a SUCCESS
+-- a good code decides if nothing or only a SUCCESS has decided before
 abbrev pub good : Impression → Code → Code → Opinion
 good Undefined status answer = opinion_of Positive answer
 good Positive codes.Success answer = opinion_of Positive answer
@@ -32,18 +32,18 @@ abbrev pub is_ignore : Code → Bool
 is_ignore codes.Ignore = true
 is_ignore code = false
 
--- a present IGNORE is skipped if the deciding code is another
+-- a present IGNORE changes nothing if the deciding code is another one
 abbrev pub good_by : Code → Impression → Code → Code → Opinion
 good_by deciding impression status answer = if is_ignore answer && not (is_ignore deciding)
     then opinion_of impression status else good impression status answer
 
--- a bad code decides if no bad one did; an IGNORE counts as PERM_DENIED
+-- a bad code decides if no bad one has decided before; an IGNORE counts as PERM_DENIED
 abbrev pub bad : Impression → Code → Code → Opinion
 bad Negative status answer = opinion_of Negative status
 bad impression status codes.Ignore = opinion_of Negative codes.PermDenied
 bad impression status answer = opinion_of Negative answer
 
--- a jump decides nothing in a first run, and is as ok in the others
+-- a jump decides nothing in a first run, and acts as ok in the others
 abbrev pub jumped : PassKind → Impression → Code → Code → Opinion
 jumped kinds.Keep impression status answer = opinion_of impression status
 jumped kind impression status answer = if is_ignore answer then opinion_of impression status

@@ -25,7 +25,7 @@ pub record AnswersAs {State : Type 0} (a : Answered State) (answer : Code) (stat
   pub answer_is : answer ≡ a.answer
   pub state_is : state ≡ a.state
 
--- the code that pauses a run: it is resumed at this line later
+-- the code that leaves a run incomplete, to be resumed at this line later
 abbrev pub is_incomplete : Code → Bool
 is_incomplete codes.Incomplete = true
 is_incomplete answer = false
@@ -66,7 +66,7 @@ pub record PassState (State : Type 0) : Type 0 where
 abbrev pub pass_state : {State : Type 0} → List Code → List Visit → State → PassState State
 pass_state past visits state = record { past = past; visits = visits; state = state }
 
--- a line that was run; one that pauses the run doesn't count
+-- a line that was run; one that leaves the run incomplete doesn't count
 abbrev pub served_now : {State : Type 0} → PassKind → KeptAnswers → ℕ → List Visit → Answered State
     → Served (PassState State)
 served_now kind kept at visits a = record {

@@ -1,4 +1,4 @@
--- A pass that follows meets the lines that the pass met which it follows.
+-- A run by cached codes runs the lines of the run that cached them.
 use Rattle.std.specs.Prelude.{◌≡◌, ℕ, ◌<◌, Bool, false, true, nat_eq, List, [], ◌++◌, length, is_some}
 use Rattle.std.specs.List.{list_any}
 use Rattle.pam_base.specs.declared.code.Code.{Code}

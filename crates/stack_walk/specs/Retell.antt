@@ -35,13 +35,14 @@ strays left = record { answer = codes.Incomplete; state = record { left = left; 
 abbrev pub is_of : Seen → Rule → ℕ → Bool
 is_of v rule place = nat_eq v.place place && bytes_eq v.name (name_of_module rule.path)
 
--- a line returns what the next recorded line has, if that is of this line; else the replay stops
+-- a line returns the code of the next recorded line, if that belongs to this line; else the replay
+-- stops
 abbrev pub answer_told : Rule → ℕ → List Seen → Answered Telling
 answer_told rule place [] = strays []
 answer_told rule place (v ∷ vs) = if is_of v rule place
     then record { answer = v.answer; state = telling vs } else strays (v ∷ vs)
 
--- lines return so
+-- what lines return in a replay
 abbrev pub replaying : Answering Telling
 replaying rule place t = answer_told rule place t.left
 
@@ -60,8 +61,8 @@ told_again w left = record {
   stopped = w.stopped;
 }
 
--- A run that records its lines in a trace: replayed by these lines it is the same again, and takes
--- no more of them.
+-- A run that records its lines in a trace: replayed by these lines it is the same, and takes no
+-- more lines.
 pub record Retold {State : Type 0} (trail : State → List Seen) (before : List Seen)
     (w : Walked (PassState State)) (again : List Seen → Walked (PassState Telling)) : Type 0 where
   pub news : List Seen

@@ -46,7 +46,7 @@ pub record Met : Type 0 where
 abbrev pub met : Bool → Met
 met negative = record { places = []; negative = negative; lacks = false }
 
--- with places met before
+-- with lines that were met before
 abbrev pub behind : List ℕ → Met → Met
 behind places m = record { places = places ++ m.places; negative = m.negative; lacks = m.lacks }
 
@@ -54,14 +54,14 @@ abbrev pub onto : Next → (ℕ → Met) → Met → Met
 onto (after n) rest here = rest n
 onto stop rest here = here
 
--- a line, by its cached code
+-- a line that acts by its cached code
 abbrev pub met_at : ℕ → Option Code → Bool → (Code → Met) → Met
 met_at at None negative on = record { places = at ∷ []; negative = negative; lacks = true }
 met_at at (Some answer) negative on = behind (at ∷ []) (on answer)
 
 -- The lines that are run of a stack whose first line has the rule number `at`, with its first n
--- nodes skipped. Only whether the state is negative is tracked, and each line acts by its cached
--- code. A line without one is the last.
+-- nodes skipped. Of the state only whether it is negative is tracked, and each line acts by its
+-- cached code. A line without one is the last.
 abbrev pub route_from : KeptAnswers → ℕ → Stack → ℕ → Bool → Bool → Met
 route_from kept skip none at entry now = met now
 route_from kept (suc skip) (line rule rest) at entry now =
@@ -79,7 +79,7 @@ route_from kept zero (sub inner rest) at entry now =
     else behind inside.places (route_from kept zero rest (at + lines_in inner) entry
     inside.negative)
 
--- the places that a whole stack's pass meets, in order
+-- the rule numbers of the lines that a run of a whole stack meets, in order
 abbrev pub route : Stack → KeptAnswers → List ℕ
 route stack kept = (route_from kept 0 stack 1 false false).places
 

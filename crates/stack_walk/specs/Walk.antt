@@ -13,15 +13,15 @@ use Rattle.stack_walk.specs.declared.opinion.Opinion.{Opinion}
 use Rattle.stack_walk.specs.declared.pass_kind.PassKind.{PassKind}
 use Rattle.stack_walk.specs.Opinion.{acted, opening, overrun, verdict}
 
--- what a line returned, the code that picks its action, whether the walk pauses there, and the
--- state after it
+-- what a line returned, the code that picks its action, whether the walk is incomplete there, and
+-- the state after it
 pub record Served (State : Type 0) : Type 0 where
   pub answer : Code
   pub deciding : Code
   pub stopped : Bool
   pub state : State
 
--- how the line of a rule at a place is served
+-- how the line of a rule with a rule number is served
 abbrev pub Serving : Type 0 → Type 0
 Serving State = Rule → ℕ → State → Served State
 
@@ -58,7 +58,7 @@ abbrev pub next_of : Action → ℕ → Opinion → Next
 next_of (actions.Jump n) left new = if nat_le n left then after n else stop
 next_of action left new = if ends action new then stop else after 0
 
--- the state after a line; a jump over more nodes than are left overruns
+-- the state after a line; a jump over more nodes than are left fails
 abbrev pub settled : Action → ℕ → Opinion → Opinion
 settled (actions.Jump n) left new = if nat_le n left then new else overrun
 settled action left new = new
@@ -69,8 +69,8 @@ onward (after n) rest here = rest n
 onward stop rest here = here
 
 -- The walk over a stack whose first line has the rule number `at`, with its first n nodes skipped.
--- A substack is walked with the present state as its entry; what ends it ends only itself, but a
--- line that pauses pauses everything.
+-- A substack is walked with the present state as its entry; what ends it ends only itself, but if a
+-- line is incomplete, so is the whole walk.
 abbrev pub walk : {State : Type 0} → PassKind → Serving State → ℕ → Stack → ℕ → Opinion → Opinion
     → State → Walked State
 walk kind serve skip none at entry opinion state = walked opinion state
@@ -91,7 +91,7 @@ walk kind serve zero (sub inner rest) at entry opinion state =
     if inside.stopped then inside
     else walk kind serve zero rest (at + lines_in inner) entry inside.opinion inside.state
 
--- the walk of a whole stack, from place 1
+-- the walk of a whole stack, from rule number 1
 abbrev pub pass : {State : Type 0} → PassKind → Serving State → Stack → State → Walked State
 pass kind serve stack state = walk kind serve 0 stack 1 opening opening state
 

@@ -12,8 +12,8 @@ pub fn keeps_complete<S>()
 {}
 
 /// A run by complete cached codes runs the lines that these lead to, in order, whatever the modules
-/// return now: all of them if it has ended, a prefix of them if it is incomplete. So it finds each
-/// cached code that it needs.
+/// return now: all of them if it has ended, a prefix of them if it is incomplete. So there is a
+/// cached code for each line that it runs.
 pub fn follows_route<S>()
     ensures route { FollowsRoute S }
     ensures found { FindsKept S }
@@ -36,7 +36,7 @@ pub fn retells<S>()
     ensures { Retells S }
 {}
 
-/// Replaying the return codes of an incomplete run, and no more, ends at the line that paused it.
+/// Replaying just the return codes of an incomplete run ends at the line that left it incomplete.
 pub fn resumes_asking<S>()
     ensures { ResumesAsking S }
 {}

@@ -17,7 +17,7 @@ use stack_walk::PassKind;
 use std::alloc::Global;
 use std::test::Fail;
 
-/// What a run of a stack returned, and what it took.
+/// What a run of a stack returned, and how often it looked lines up.
 #[derive(Clone, Copy, Debug, PartialEq, Eq)]
 struct Passed {
     code: Code,
