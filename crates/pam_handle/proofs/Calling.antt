@@ -120,7 +120,7 @@ module _ (players : List Player) (number : Code → ℕ → ℕ) (flags : ℕ) w
       let p = calls.first_pass (asking_by players flags) h.stacks Authenticate past (held_in h) (state_of h.room w) in
       ap (λ (o : Option (List Code)). authenticated number o p.code (record h { room = p.state.room; authenticated = p.kept; pending = pending_after Authenticate None p.paused }) p.state.world) (paused_is Authenticate None p.paused)
 
-  -- the four others: `with_kept` puts what is cached after the pass
+  -- the four others: `with_kept` stores the codes that are cached after the pass
   ended_once : (func : Func) (p : calls.Passed State) (h : PlainHandle)
       → called p.code (record h { room = request_behind p.paused p.state.room; pending = pending_after func None p.paused }) p.state.world
       ≡ called p.code (record h { room = request_behind (paused_in (pending_after func None p.paused)) p.state.room; pending = pending_after func None p.paused }) p.state.world

@@ -44,7 +44,7 @@ kept_of OpenSession authenticated opened pending = refl
 kept_of CloseSession authenticated opened pending = refl
 kept_of ChAuthTok authenticated opened pending = refl
 
--- what was swapped in before the first pass and out after it
+-- the cached codes that were swapped in before the first pass and out after it
 with_authenticated : (h mid : PlainHandle) (room : PlainRoom) (before cached : Option KeptAnswers) → mid ≡ in_room room (record h { authenticated = before })
     → record mid { authenticated = cached } ≡ record h { room = room; authenticated = cached }
 with_authenticated h mid room before cached e = ap (λ (k : PlainHandle). record k { authenticated = cached }) e
@@ -178,7 +178,7 @@ module _ {Conv World : Type 0} (result : Result Code NoMemory) (players : List P
   pub second_gives : request ≡ second_request flags → SecondGives request → SecondGives (second_request flags)
   second_gives asks g = subst (λ (r : PassRequest). SecondGives r) asks g
 
--- resumed
+-- a change of token that is resumed
 pub give_second : {Conv World : Type 0} (result : Result Code NoMemory) (players : List Player) (func : Func) (flags : ℕ) (tells : Bool) (first kept : Answers) (past : List Code) (paused : Option (List Code)) (h new : PlainHandle) (room : PlainRoom) (w v : PlainWorld) (conv next : Conv) (before after : World) (request : PassRequest)
     → is_second func first ≡ true → request ≡ second_request flags → new ≡ in_room room h
     → PassGives players request (stack_at h.stacks (stack_type request.func)) tells first kept past paused result h.room room w v conv next before after

@@ -41,7 +41,7 @@ went_first func p h code kept paused t e =
     ∙ ap (λ (o : Option (List Code)). held (authenticated_with func kept h.authenticated) (opened_with func kept h.opened) (pending_after func None o)) (sym e.paused_is))
     (sym e.state_is)
 
--- a second pass follows a change of token with SUCCESS alone
+-- a second pass follows only a first one that returned SUCCESS
 pub followed : (func : Func) (code : Code) → is_followed func code ≡ true → (func ≡ ChAuthTok) × (code ≡ Success)
 followed ChAuthTok Success e = (refl, refl)
 followed ChAuthTok code e = absurd (false_true e)
@@ -50,7 +50,7 @@ followed func code e = absurd (false_true e)
 success_incomplete : (code : Code) → code ≡ Success → code ≡ Incomplete → ⊥
 success_incomplete code s i = (cc)
 
--- after it no codes of a paused pass are left
+-- after it there are no codes to resume with
 pub over : (func : Func) (code : Code) (paused : Option (List Code)) → is_followed func code ≡ true → (IsTrue (is_some paused) → code ≡ Incomplete) → paused ≡ None
 over func code None e i = refl
 over func code (Some past) e i = absurd (success_incomplete code (followed func code e).1 (i refl))

@@ -47,7 +47,7 @@ lines_from names (suc i) (l ∷ ls) within = lines_from names i ls (omega (arith
 pub module_is : (names : List (List ℕ)) (stack : Stack) (i : ℕ) → i < lines_in stack → module_at stack names i ≡ module_of names (rule_at stack i)
 module_is names stack i within = (lines_from names i (flat_lines 0 0 stack) (omega (arith, flat_length 0 0 stack, within))).1
 
--- one line more
+-- one more line
 pub one_line : (names : List (List ℕ)) (stack : Stack) (i : ℕ) (now next all : List (List ℕ)) → i < lines_in stack
     → next ≡ now ++ missing_of names (rule_at stack i)
     → now ++ missing_lines names (drop i (flat_lines 0 0 stack)) ≡ all → next ++ missing_lines names (drop (i + 1) (flat_lines 0 0 stack)) ≡ all

@@ -31,7 +31,7 @@ none_by_place : (place : ℕ) → by_place None place ≡ None
 none_by_place zero = refl
 none_by_place (suc i) = refl
 
--- the cached codes in an array, also if there are none
+-- the cached codes in an array, even if there are none
 held_by_place : (cells : Answers) → by_place cells ≡ answers_held (kept_answers cells)
 held_by_place None = fun_ext (λ place. none_by_place place)
 held_by_place (Some cells) = refl
@@ -69,7 +69,7 @@ leaves_to : {T : Type 0} (kind : PassKind) (old new : Answers) (w : Walked (Pass
     → PassesTo (passed_by kind (kept_answers old) w) code (kept_answers new) paused t
 leaves_to kind old new w code paused t l = record { code_is = l.code_is; kept_is = kept_after kind _ old new l.kept_is; paused_is = l.paused_is; state_is = l.state_is }
 
--- the same of a pass by the lines that it added to the trace
+-- the same for a pass by the lines that it added to the trace
 pub pass_by_trail : (result : Result Code NoMemory) (kind : PassKind) (old new : Answers) (stack : Stack) (past : List Code) (before after : List Visited) (paused : Option (List Code))
     → IfOk result (λ code. ByTrail kind (by_place old) stack past before after (λ w told. LeavesAs kind w old code new paused told))
     → IfOk result (λ code. ByTrail kind (answers_held (kept_answers old)) stack past before after (λ w told. PassesTo (passed_by kind (kept_answers old) w) code (kept_answers new) paused told))
@@ -87,7 +87,7 @@ pub names_of_players : {M : Type 0} (label : M → List ℕ) (plays : M → Play
 names_of_players label plays note breaks [] = refl
 names_of_players label plays note breaks (m ∷ mods) = ap (λ (names : List (List ℕ)). label m ∷ names) (names_of_players label plays note breaks mods)
 
--- what a pass keeps, said of the modules, holds of their meanings
+-- what a pass keeps, stated for the modules, holds for their definitions
 module _ {M : Type 0} (label : M → List ℕ) (plays : M → Plays) (note : M → Note) (breaks : M → Breaks) (found mods : List M) (same : found ≡ mods) where
   pub pass_sound : (x y : PlainTransaction) (a b : PlainProcess) → GoesSoundly (notes_of (map (player_of label plays note breaks) found)) (length found) x y a b
       → GoesSoundly (notes_of (map (player_of label plays note breaks) mods)) (length (map (player_of label plays note breaks) mods)) x y a b

@@ -36,18 +36,19 @@ use Rattle.pam_handle.specs.StackCalls.{authenticate, chauthtok, close_session, 
 
 -- ---- modules
 
--- one whose code depends on the function and on whether it is the first pass of a change of token
+-- a module whose code depends on the function and on whether it is the first pass of a change of
+-- token
 abbrev answers : (Func → Bool → Code) → Plays
 answers f call room held sight = answered (f call.func (has_flag call.flags prelim_check)) room sight
 
--- one that sets some data
+-- a module that sets some data
 abbrev sets : List NamedData → Plays
 sets ds call room held sight = record (answered returns.Success room sight) { births = ds }
 
 abbrev asked_for : List NamedData → Spoken → Sight → Played
 asked_for ds spoken sight = record (answered (if is_ok spoken.answer then returns.Success else returns.ConvErr) spoken.room sight) { births = ds }
 
--- one that sets some data and then asks
+-- a module that sets some data and then asks
 abbrev sets_and_asks : List NamedData → Plays
 sets_and_asks ds call room held sight = asked_for ds (speak (record { style = EchoOn; text = codes "Q" } ∷ []) room) sight
 
@@ -87,7 +88,7 @@ answers_of c = map (λ (v : Visit). v.answer) c.handle.room.transaction.trail
 abbrev places_of : Called → List ℕ
 places_of c = map (λ (v : Visit). v.place) c.handle.room.transaction.trail
 
--- after taking everything that was to report
+-- after its record was taken
 abbrev told : Called → PlainHandle
 told c = all_told c.handle
 
@@ -299,7 +300,7 @@ delayed-wait = refl
 delayed-rest : delayed.world.nap.sum ≡ 3000000
 delayed-rest = refl
 
--- the request is dropped, and the function is asked all the same
+-- the request is dropped; a delay function that is on is called all the same
 delayed_again-wait : (denied (told delayed) 1).handle.waited ≡ Some (wait 0 0)
 delayed_again-wait = refl
 

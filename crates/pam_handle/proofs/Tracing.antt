@@ -1,4 +1,4 @@
--- What a stack call gives by the lines that it added to the trace, by what its passes do.
+-- What a stack call returns, by the lines that it added to the trace, from what its passes do.
 use Rattle.std.proofs.Common.{◌≡◌, List, [], ◌∷◌, ◌++◌, append_assoc, Option, Some, None, Result, Ok, Err, IfOk, true, false, refl, sym, ◌∙◌, ap}
 use Rattle.pam_base.specs.declared.code.Code.{Code}
 use Rattle.pam_base.specs.declared.call.Func.{Func}
@@ -72,7 +72,7 @@ trail_twice (Ok last) stacks func past first h before middle after code kept lat
 
 -- ---- the whole call
 
--- what was pending isn't asked for, once its codes are taken out of it
+-- once the codes of a pending call are taken out, that it was pending doesn't matter any more
 aside : {State : Type 0} (asking : Asking State) (stacks : Stacks) (func : Func) (past : List Code) (first : Option KeptAnswers) (authenticated opened : Option KeptAnswers) (p q : Option Pending) (s : State)
     → calls.call_after asking stacks func past first (held authenticated opened p) s ≡ calls.call_after asking stacks func past first (held authenticated opened q) s
 aside asking stacks Authenticate past first authenticated opened p q s = refl

@@ -20,7 +20,7 @@ use Rattle.pam_handle.specs.StackCalls.{authenticated}
 false_true : false ≡ true → ⊥
 false_true e = (cc)
 
--- two objects that are modelled are modelled together
+-- if each of two objects is modelled, both are
 pub tells_beside : (a b c : Bool) → c ≡ b → IsTrue (a && b) → IsTrue c
 tells_beside true b c e t = subst (λ (x : Bool). IsTrue x) (sym e) t
 tells_beside false b c e t = absurd (false_true t)
@@ -60,7 +60,7 @@ pub not_waited : (ended : Option Code) (on : Bool) (old new : Option Wait) (tell
 not_waited None on old new tells before after e = e
 not_waited (Some code) on old new tells before after e = tt
 
--- what holds of two objects that are the same, holds of what they hold
+-- what holds for two equal objects holds for their contents
 pub none_plain : {A B : Type 0} (f : A → B) (ended : Option Code) (x y : A) → IfNone ended (x ≡ y) → IfNone ended (f x ≡ f y)
 none_plain f None x y e = ap f e
 none_plain f (Some code) x y e = tt
@@ -68,7 +68,7 @@ none_plain f (Some code) x y e = tt
 some_none : (p : Pending) → ◌≡◌ {A = Option Pending} (Some p) None → ⊥
 some_none p e = (cc)
 
--- a call that isn't pending any more has waited; its passes left the sleep as it was
+-- a call that isn't pending any more has waited; its passes didn't sleep
 pub waited_at_end : {Nap : Type 0} (holds : Nap → NapState) (tells : Nap → Bool) (nap mid : Nap) (after : NapState) (result : Result Code NoMemory) (func : Func) (first : Option KeptAnswers) (paused : Option (List Code)) (ended : Option Code) (h new : PlainHandle) (waited : Option Wait)
     → func ≡ Authenticate → mid ≡ nap → new.pending ≡ pending_after func first paused → new.waited ≡ waited → ended ≡ code_waited func paused result
     → WaitsOnlyAtEnd ended h.delay_on h.waited waited (tells mid) (holds mid) after → IfOk result (λ code. new.pending ≡ None → Waits code h new (tells nap) (holds nap) after)
@@ -84,7 +84,7 @@ waits_for_none Authenticate None none = refl
 waits_for_none Authenticate (Some past) none = refl
 waits_for_none func paused none = refl
 
--- if memory runs out, nothing is slept after passes that left the sleep as it was
+-- if memory runs out, there is no sleep after passes that didn't sleep
 pub not_rested : {A : Type 0} (result : Result Code NoMemory) (func : Func) (paused : Option (List Code)) (ended : Option Code) (x y z : A)
     → ended ≡ code_waited func paused result → y ≡ x → IfNone ended (z ≡ y) → OnErr result (z ≡ x)
 not_rested (Ok code) func paused ended x y z is same rest = tt

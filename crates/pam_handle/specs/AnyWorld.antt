@@ -50,7 +50,7 @@ pub record LeavesOthers (func : Func) (old new : PlainHandle) : Type 0 where
   pub opened : LeavesOpened func old.opened new.opened
   pub waited : LeavesWait func old new
 
--- ---- what follows a code
+-- ---- what holds after a code
 
 abbrev pub AreUnset : ItemTexts → Type 0
 AreUnset items = (items.auth_tok ≡ None) × (items.old_auth_tok ≡ None)
@@ -70,9 +70,10 @@ LeavesPending func code old new (Some p) =
     (p.func ≡ func) × (code ≡ codes.Incomplete)
     × (old.room.transaction.delay ≤ new.room.transaction.delay) × (new.waited ≡ old.waited)
 
--- Of the wait after an authentication only two things aren't known: which delay was requested, and what the
--- application's delay function made of it; if that is off, the requested delay was waited. What is reported of the wait
--- is what was slept, once, if the sleep alone is modelled (`tells`, `before`, `after`).
+-- Of the wait after an authentication only two things aren't known: which delay was requested, and
+-- what the application's delay function returned for it; if that function is off, the requested
+-- delay was waited. The reported wait is what was slept, once, if at least the sleep is modelled
+-- (`tells`, `before`, `after`).
 pub record WaitsFor (code : Code) (delay_on : Bool) (old new : Option Wait) (tells : Bool)
     (before after : NapState) : Type 0 where
   pub asked : ℕ
@@ -87,7 +88,7 @@ abbrev pub Waits : Code → PlainHandle → PlainHandle → Bool → NapState �
 Waits code old new tells before after =
     WaitsFor code old.delay_on old.waited new.waited tells before after
 
--- after a call that has ended with a code, or that hasn't ended
+-- the wait after a call that has ended with a code, or that hasn't ended
 abbrev pub WaitsOnlyAtEnd : Option Code → Bool → Option Wait → Option Wait → Bool → NapState
     → NapState → Type 0
 WaitsOnlyAtEnd None delay_on old new tells before after = new ≡ old

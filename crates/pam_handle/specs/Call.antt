@@ -67,7 +67,7 @@ abbrev pub request_behind : Option (List Code) → PlainRoom → PlainRoom
 request_behind None r = without_request r
 request_behind (Some past) r = r
 
--- and so are the tokens of a call that clears them
+-- the tokens after a pass: a call that clears them clears them when the pass has ended
 abbrev pub items_behind : Option (List Code) → ItemTexts → ItemTexts
 items_behind None items = without_tokens items
 items_behind (Some past) items = items

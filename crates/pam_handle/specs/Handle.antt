@@ -19,6 +19,6 @@ pub record PlainHandle : Type 0 where
   pub pending : Option Pending
   pub waited : Option Wait
 
--- with another room
+-- the transaction with another room
 abbrev pub in_room : PlainRoom → PlainHandle → PlainHandle
 in_room room h = record h { room = room }

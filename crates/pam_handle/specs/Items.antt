@@ -34,7 +34,7 @@ with_delay_function on h = record h { delay_on = on }
 abbrev pub with_conversation : ConvState → PlainHandle → PlainHandle
 with_conversation conv h = in_room (record h.room { conv = conv }) h
 
--- with no message, line or wait left to report
+-- the transaction with no message, line or wait left to report
 abbrev pub all_told : PlainHandle → PlainHandle
 all_told h = record (with_transaction (record h.room.transaction { said = []; trail = [] }) h)
     { waited = None }

@@ -18,7 +18,8 @@ use Rattle.dispatch_core.specs.pam_room.specs.Module.{Player}
 abbrev pub kept_answers : Answers → Option KeptAnswers
 kept_answers cells = if is_some cells then Some (by_place cells) else None
 
--- the code of a pass, what is cached after it, its codes so far if it is incomplete, and the room and world after it
+-- the code of a pass, the codes that are cached after it, its codes so far if it is incomplete, and
+-- the room and world after it
 abbrev pub Passed : Type 0
 Passed = calls.Passed State
 
@@ -29,7 +30,7 @@ passed players func flags kind kept stack past s =
     passed_by kind kept (pass_after kind (answers_held kept) (answers_by players func flags) stack
     past s)
 
--- a code, the cached codes, the codes of a paused pass, and a state are those of a pass
+-- a code, the cached codes, the codes to resume with, and a state are those of a pass
 pub record PassesTo {T : Type 0} (p : calls.Passed T) (code : Code) (kept : Option KeptAnswers)
     (paused : Option (List Code)) (state : T) : Type 0 where
   pub code_is : code ≡ p.code

@@ -57,7 +57,7 @@ cached_of OpenSession authenticated opened others = opened
 cached_of CloseSession authenticated opened others = opened
 cached_of func authenticated opened others = others
 
--- with other codes in their place
+-- the transaction with other codes in their place
 abbrev pub authenticated_with : {A : Type 0} → Func → A → A → A
 authenticated_with Authenticate cached old = cached
 authenticated_with SetCred cached old = cached
@@ -68,7 +68,7 @@ opened_with OpenSession cached old = cached
 opened_with CloseSession cached old = cached
 opened_with func cached old = old
 
--- whether the first pass of a call caches its codes, or follows cached ones
+-- whether the first pass of a call caches its codes, or uses cached ones
 abbrev pub kind_of : Func → Option KeptAnswers → PassKind
 kind_of SetCred cached = following cached
 kind_of CloseSession cached = following cached
@@ -94,7 +94,7 @@ abbrev pub is_second : {A : Type 0} → Func → Option A → Bool
 is_second ChAuthTok first = is_some first
 is_second func first = false
 
--- only in a change of token a second pass follows, after SUCCESS
+-- a second pass follows only in a change of token, after SUCCESS
 abbrev pub is_followed : Func → Code → Bool
 is_followed ChAuthTok codes.Success = true
 is_followed func code = false

@@ -33,11 +33,11 @@ nodes_in c type = (at_type c.by_type type).nodes
 abbrev pub pending_of : PutOff → Pending
 pending_of p = record { func = p.func; past = past_of p.paused; first = kept_answers p.first }
 
--- what is said of two values is the same
+-- a function has the same result for two values
 abbrev pub Keeps : {A B : Type 0} → (A → B) → A → A → Type 0
 Keeps says old new = says new ≡ says old
 
--- what a box holds, with its type
+-- the value in a box, with its type
 abbrev pub in_box : {X : Type 0} {V : X → Type 0} → DynBox X Global V → (x : X) × V x
 in_box b = (b.vtable, b.value)
 
@@ -46,8 +46,8 @@ module _ {X : Type 0} {V : X → Type 0} where
   abbrev pub room_in : Handle X V → Room X V
   room_in h = h.room
 
-  -- its content, from that of its room: all of it is right with a real conversation too, except what the conversation
-  -- holds
+  -- its content, from that of its room; with a real conversation, too, all of it is exact except
+  -- the content of the conversation
   abbrev pub plain_handle : (Room X V → PlainRoom) → Handle X V → PlainHandle
   plain_handle room h = record {
     room = room h.room;

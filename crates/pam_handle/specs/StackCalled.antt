@@ -21,7 +21,8 @@ use Rattle.pam_handle.specs.StackCalls.{held_in, is_refused_for_flags, stack_cal
 use Rattle.pam_handle.specs.Stopping.{StopsChanging, StopsOnce}
 use Rattle.pam_handle.specs.Trail.{CallsByTrail, as_traced}
 
--- only authenticate asks the application's delay function; the other five have the same result whatever it returns
+-- only authenticate calls the application's delay function; the other five have the same result
+-- whatever it returns
 abbrev pub DelayGives : Func → ((Code → ℕ → ℕ) → Type 0) → (Code → ℕ → ℕ) → Type 0
 DelayGives Authenticate gives number = gives number
 DelayGives func gives number = Unit {0}

@@ -83,7 +83,7 @@ changed (Some past) code h w = called code h w
 changed None code h w = called code (request_forgotten (tokens_cleared h)) w
 
 module _ (players : List Player) where
-  -- lines return what the meanings of their modules say
+  -- lines return what the definitions of their modules say
   abbrev pub asking_by : ℕ → Asking State
   asking_by flags func second = answers_by players func (flags_seen func second flags)
 

@@ -77,7 +77,7 @@ pub record Opens (s : Started) (handle : PlainHandle) (world : PlainWorld) : Typ
   pub handle_is : s.answer ≡ Ok handle
   pub world_is : world ≡ s.world
 
--- why it is refused, and the world after it; nothing is said of a start that runs out of memory
+-- why it is refused, and the world after it; nothing is stated for a start that runs out of memory
 abbrev pub Refuses : Started → Refuse LoadFault → PlainWorld → Type 0
 Refuses s (Named fault) world = (s.answer ≡ Err fault) × (world ≡ s.world)
 Refuses s NoMemory world = Unit {0}

@@ -60,14 +60,15 @@ room_failed Authenticate r = without_request (without_its_tokens r)
 room_failed ChAuthTok r = without_request (without_its_tokens r)
 room_failed func r = without_request r
 
--- nothing happened in a pass
+-- nothing happened in the pass
 pub record PassedNothing {World : Type 0} (start end : PlainRoom) (before after : World) : Type
     0 where
   pub room : end ≡ start
   pub world : after ≡ before
 
--- A call of one pass ran out of memory. The call only cleared the tokens and the requested delay in the room in which
--- the pass stopped; and in the pass nothing happened, or it stopped at a line.
+-- A call of one pass ran out of memory. In the room in which the pass stopped, the call itself only
+-- cleared the tokens and the requested delay; in the pass nothing happened, or it stopped at a
+-- line.
 pub record StopsOnce {World : Type 0} (players : List Player) (func : Func) (flags : ℕ)
     (tells : Bool) (old new : PlainHandle) (w v : PlainWorld) (before after : World) : Type 0 where
   pub room : PlainRoom
@@ -110,7 +111,8 @@ module _ {World : Type 0} (players : List Player) (flags : ℕ) (stack : Stack) 
   StopsInChange (Some first) past start end before after =
       StopsInUpdate (Some first) past start end before after
 
--- The same of the whole call: it only cleared the tokens and the requested delay in the room in which it stopped.
+-- The same for the whole call: in the room in which it stopped, it only cleared the tokens and the
+-- requested delay.
 pub record StopsChanging {World : Type 0} (players : List Player) (flags : ℕ) (tells : Bool)
     (old new : PlainHandle) (w v : PlainWorld) (before after : World) : Type 0 where
   pub room : PlainRoom

@@ -15,7 +15,7 @@ use std::alloc::Global;
 impl Handle {
     /// Authenticates the user (`pam_authenticate(3)`): one pass over the auth stack. Its return
     /// codes are cached for `setcred`. The tokens are cleared before and after it. Then the call
-    /// waits (`pam_fail_delay(3)`): if the application has set a delay function, as long as that
+    /// waits (`pam_fail_delay(3)`): if the application's delay function is on, for as long as it
     /// says, even after SUCCESS; otherwise, after any code except SUCCESS, for the longest
     /// requested delay, varied at random.
     ///

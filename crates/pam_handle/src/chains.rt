@@ -43,7 +43,7 @@ impl Chains {
         self.by_type.of(rule_type)
     }
 
-    /// Sets the stack of a type, flattened for the same modules.
+    /// Sets the stack of a type; it was flattened for the same modules.
     pub(crate) fn put(&mut self, rule_type: RuleType, chain: Chain)
         requires { chain.names ≡ self.old.by_type.auth.names }
         ensures stacks { stacks_in self.new

@@ -47,7 +47,8 @@ fn wait(
     }
 }
 
-/// Waits after an authentication that has ended with this code, and not after one that hasn't ended.
+/// Waits after an authentication that has ended with this code; doesn't wait after one that hasn't
+/// ended.
 pub(crate) fn sleep_after(
     gear: &Gear,
     world: &mut World,

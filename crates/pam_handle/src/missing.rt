@@ -15,8 +15,8 @@ use std::alloc::Global;
 impl Handle {
     /// The names of the modules that lines name and that weren't among those of the start, in the
     /// order of the stacks auth, account, password and session, and in each in written order. A
-    /// name is listed as often as it is missing; a line that is silent about its module (a `-`
-    /// before its type, `pam.conf(5)`) adds none.
+    /// name is listed once for each line that names it; a line that is silent about its module (a
+    /// `-` before its type, `pam.conf(5)`) adds none.
     pub fn missing(&self, alloc: Global) -> Result<Texts, NoMemory>
         ensures { IfOk result (λ names. names
             ≡ missing_from (plain_handle ⟦<Room as RoomTold>⟧.plain self.now).names

@@ -19,8 +19,8 @@ use pam_base::{Code, Func, NoMemory};
 use std::alloc::Global;
 
 impl Handle {
-    /// One pass of a stack call over its stack, with its cached return codes, and if it is resumed, with the codes it
-    /// has so far.
+    /// One pass of a stack call over its stack, with the cached return codes that belong to the
+    /// call and, if the pass is resumed, with the codes it has so far.
     pub(crate) fn pass(
         &mut self,
         alloc: Global,
@@ -67,7 +67,7 @@ fn stack_type(func: Func) -> RuleType
     }
 }
 
-/// Whether the first pass of a call caches its codes, or follows cached ones, if there are any.
+/// Whether the first pass of a call caches its codes, or uses cached ones, if there are any.
 pub(crate) fn kind_of(func: Func, cached: &Kept) -> PassKind
     ensures { result ≡ kind_of func (kept_answers cached.now) }
 {

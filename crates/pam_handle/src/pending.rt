@@ -26,7 +26,7 @@ impl Handle {
         }
     }
 
-    // Whether another call than this one is pending.
+    // Whether a call other than this one is pending.
     pub(crate) fn is_other_pending(&self, func: Func) -> bool
         ensures { result ≡ is_other_pending
             (plain_handle ⟦<Room as RoomTold>⟧.plain self.now).pending func }
@@ -59,8 +59,8 @@ impl Handle {
     }
 }
 
-/// What a pending call is resumed with: its codes so far, and for the second pass of a change of token those that the
-/// first one cached. Both are empty if nothing is pending.
+/// What a pending call is resumed with: its codes so far and, in the second pass of a change of
+/// token, those that the first one cached. Both are empty if nothing is pending.
 pub(crate) fn resumed_from(pending: Option<PutOff>) -> (Paused, Kept)
     ensures past { past_of result.0 ≡ past_in (option_map pending_of pending) }
     ensures first { kept_answers result.1 ≡ first_in (option_map pending_of pending) }
@@ -71,7 +71,7 @@ pub(crate) fn resumed_from(pending: Option<PutOff>) -> (Paused, Kept)
     }
 }
 
-/// Clears the tokens before a call that clears them, if it begins, and not if it is resumed.
+/// Clears the tokens before a call that clears them, unless the call is resumed.
 pub(crate) fn clear_before(func: Func, items: &mut Items, pending: &Option<PutOff>)
     ensures { items.new ≡ items_before func (option_map pending_of pending.now) items.old }
 {
@@ -80,7 +80,7 @@ pub(crate) fn clear_before(func: Func, items: &mut Items, pending: &Option<PutOf
     }
 }
 
-/// Clears the tokens after a call that clears them, if it has ended, and not if it is incomplete.
+/// Clears the tokens after a call that clears them, unless the call is incomplete.
 pub(crate) fn clear_after(func: Func, items: &mut Items, paused: &Paused)
     ensures { items.new ≡ items_after func paused.now items.old }
 {
@@ -96,8 +96,8 @@ fn clears_tokens(func: Func) -> bool
     func == Func::Authenticate || func == Func::ChAuthTok
 }
 
-/// The code after which a call waits: that of an authentication that has ended; none if it is incomplete or ran out of
-/// memory.
+/// The code after which a call waits: that of an authentication that has ended; None if it is
+/// incomplete or ran out of memory.
 pub(crate) fn code_waited(
     func: Func,
     answer: &Result<Code, NoMemory>,

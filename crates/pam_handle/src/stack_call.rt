@@ -30,9 +30,9 @@ impl Handle {
     /// `pam_acct_mgmt(3)`, `pam_open_session(3)`, `pam_close_session(3)` or `pam_chauthtok(3)`. The
     /// methods `authenticate` to `chauthtok` say what each of them does.
     ///
-    /// It returns SYSTEM_ERR for a change of token with flags of its two passes, and otherwise ABORT
-    /// while another call is pending; then nothing changes. If memory runs out, nothing is pending,
-    /// no delay is requested and nothing was waited.
+    /// It returns SYSTEM_ERR for a change of token with one of the flags of its two passes, and
+    /// otherwise ABORT while another call is pending; in both cases nothing changes. If memory runs
+    /// out, nothing is pending, no delay is requested and nothing was waited.
     pub fn call(
         &mut self,
         alloc: Global,
@@ -119,8 +119,8 @@ impl Handle {
         self.pass(alloc, gear, world, second_request(flags), first, paused)
     }
 
-    // Puts codes in the place of the cached ones that belong to a call, and returns those. If none belong to it, it
-    // returns the codes themselves.
+    // Replaces the cached codes that belong to a call, and returns the old ones. If none belong to
+    // it, it returns the new codes themselves.
     fn swap_cached(&mut self, func: Func, kept: Kept) -> Kept
         ensures cached { result ≡ cached_of func self.old.authenticated self.old.opened kept }
         ensures new { self.new ≡ record self.old {

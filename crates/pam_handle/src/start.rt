@@ -38,7 +38,7 @@ impl Handle {
     /// earlier starts kept.
     ///
     /// It is refused exactly if `load` is, or if memory runs out; then it returns the conversation.
-    /// In either case, of the world only the number of file accesses changes.
+    /// In either case nothing of the world changes except the number of file accesses.
     pub fn start(
         alloc: Global,
         gear: &Gear,

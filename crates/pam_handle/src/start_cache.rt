@@ -3,7 +3,7 @@ use pam_base::Texts;
 use std::alloc::Global;
 
 /// What starts keep for the next one: the names of the modules, and the texts of service files with
-/// what their rules say. Each start reads its files nevertheless.
+/// what their rules say. Each start still reads its files.
 #[derive(Drop)]
 pub struct StartCache {
     pub(crate) names: Texts,
@@ -11,7 +11,7 @@ pub struct StartCache {
 }
 
 impl StartCache {
-    /// Keeps nothing yet. It takes no memory.
+    /// Keeps nothing yet. Allocates nothing.
     pub fn new(alloc: Global) -> StartCache {
         StartCache {
             names: Texts::new(alloc),

@@ -15,7 +15,7 @@ use Rattle.pam_handle.specs.stack_walk.specs.Route.{KeptAnswers}
 -- ---- any walk
 
 module _ {State : Type 0} (R : State → State → Type 0) where
-  -- the same except for the state, and the states are related
+  -- two results are the same except for their states, which are related
   pub record ServedTwins (a b : Served State) : Type 0 where
     pub rest : record a { state = b.state } ≡ b
     pub state : R a.state b.state

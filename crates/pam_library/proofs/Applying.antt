@@ -61,7 +61,7 @@ all-at p [] i x is all = absurd (cc)
 all-at p (z ∷ xs) zero x is all = let e : z ≡ x = cc in ap p (sym e) ∙ and_first (p z) (list_all p xs) all
 all-at p (z ∷ xs) (suc i) x is all = all-at p xs i x is (and_second (p z) (list_all p xs) all)
 
--- one element of a list was taken out, and another put back at the same index
+-- an element of a list was taken out, and another one put back at the same index
 pub record IsReplaced {A : Type 0} (xs ys : List A) (number : ℕ) (x y : A) : Type 0 where
   pub there : slice_get xs (number - 1) ≡ Some x
   pub ys_is : ys ≡ slice_set xs (number - 1) y

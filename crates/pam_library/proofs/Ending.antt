@@ -65,7 +65,7 @@ open_from n (closed conv ∷ slots) (suc i) h e =
 open_from n (opened k ∷ slots) zero h e = let f : k ≡ h = (some_pair_parts n (n + 0) k h e).1 in ap (λ (j : PlainHandle). Some (opened j)) f
 open_from n (opened k ∷ slots) (suc i) h e = let f : n ≡ n + suc i = (some_pair_parts n (n + suc i) k h e).0 in absurd (omega arith)
 
--- of the first open slot from 0
+-- the first open slot, counted from 0
 open_place : (slots : List PlainSlot) (place : ℕ) (h : PlainHandle) → first_open 1 slots ≡ Some (place + 1, h) → slice_get slots place ≡ Some (opened h)
 open_place slots place h e = let same : place + 1 ≡ 1 + place = omega arith in open_from 1 slots place h (e ∙ ap (λ (m : ℕ). Some (m, h)) same)
 
@@ -90,7 +90,7 @@ found_at result found place is e = subst (λ (r : Option ℕ). IsFirstOpen r fou
 pub found_none : (result : Option ℕ) (found : Option (ℕ × PlainHandle)) → IsFirstOpen result found → result ≡ None → found ≡ None
 found_none result found is e = subst (λ (r : Option ℕ). IsFirstOpen r found) e is
 
--- what was found is what the slot holds
+-- the slot holds the transaction that was found
 pub found_as : (slot : PlainSlot) (found : Option (ℕ × PlainHandle)) (number : ℕ) (h k : PlainHandle) → slot ≡ opened h → slot ≡ opened k
     → found ≡ Some (number, h) → found ≡ Some (number, k)
 found_as slot found number h k is also e = let same : h ≡ k = cc in e ∙ ap (λ (j : PlainHandle). Some (number, j)) same
@@ -113,7 +113,7 @@ module _ {A : Type 0} (f : A → PlainSlot) (xs : List A) (place : ℕ) (h : Pla
   pub place_there : slot_at (map f xs) (place + 1) ≡ Some (opened h)
   place_there = at_place (map f xs) place ∙ open_place (map f xs) place h found
 
-  -- the slot holds another now
+  -- the slot now holds something else
   pub put_there : (rest ys : List A) (x y : A) → x ≡ get_or xs place x → length rest + 1 ≡ length xs → length ys ≡ length rest + 1
       → ((d : A) → place + 1 < length xs → get_or rest place d ≡ get_or xs (length xs - 1) d)
       → ((k : ℕ) (d : A) → k ≢ place → k + 1 < length xs → get_or rest k d ≡ get_or xs k d)

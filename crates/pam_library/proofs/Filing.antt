@@ -1,4 +1,4 @@
--- What a step runs, one line after another, and how it changes files.
+-- The lines that a step runs, one after another, and how they change files.
 use Rattle.std.proofs.Common.{◌≡◌, inl, inr, ℕ, zero, suc, ◌+◌, ◌==◌, Bool, true, false, cond, if◌then◌else◌, List, [], ◌∷◌, ◌++◌, map, Option, Some, None, slice_get, Result, Ok, Err, refl, sym, ap, ◌∙◌, subst}
 use Rattle.std.specs.List.{AllByRecursion}
 use Rattle.std.proofs.lemmas.List.{map_push}
@@ -64,7 +64,7 @@ module _ {State : Type 0} (K : State → Type 0) where
   onward_keeps stop rest here k l = l
 
   module _ (whole : Stack) (kind : PassKind) (serve : Serving State) (serves : (rule : Rule) (at : ℕ) (s : State) → StandsAt rule at whole 1 → K s → K (serve rule at s).state) where
-    -- a walk over a part of the stack, whose lines stand in it
+    -- a walk over a part of the stack, whose lines belong to it
     pub walk_keeps : (skip : ℕ) (stack : Stack) (at : ℕ) (entry opinion : Opinion) (s : State) → ((rule : Rule) (place : ℕ) → StandsAt rule place stack at → StandsAt rule place whole 1)
         → K s → K (walk kind serve skip stack at entry opinion s).state
     walk_keeps skip none at entry opinion s within k = k
@@ -91,7 +91,7 @@ module _ {State : Type 0} (K : State → Type 0) where
 abbrev pub KeptWithin : {State : Type 0} → (State → Type 0) → PassState State → Type 0
 KeptWithin K p = K p.state
 
--- ---- one line more
+-- ---- one more line
 
 module _ (players : List Player) where
   run_last : (ls : List LineRun) (l : LineRun) (s t : State) → RunOn players ls s t → l.visit ≡ visit_of l.visit.place l.rule.path (run_in players l t).answer
@@ -194,7 +194,7 @@ module _ (players : List Player) (call : StackCall) (stacks : Stacks) (first : S
 
 -- ---- the stack calls
 
--- the transaction as a call takes it up that clears the tokens
+-- the transaction in which a call begins that clears the tokens
 abbrev taken_up : Option Pending → PlainHandle → PlainRoom
 taken_up pending h = record h.room { transaction = record h.room.transaction { items = items_begun pending h.room.transaction.items } }
 
@@ -362,7 +362,7 @@ module _ (players : List Player) (number : Code → ℕ → ℕ) where
   abbrev pub RunsSlot : PlainWorld → Option PlainSlot → Option StackCall → SlotStepped → Type 0
   RunsSlot w slot call s = (asked : List AskedLine) × RunsBy players w slot call s.outcome.trail asked s.world.vault.files
 
-  -- neither the trace nor the files show anything
+  -- neither the trace nor the files have changed
   abbrev pub IsQuiet : PlainWorld → SlotStepped → Type 0
   IsQuiet w s = (s.outcome.trail ≡ []) × (s.world.vault.files ≡ w.vault.files)
 
@@ -427,7 +427,7 @@ module _ (players : List Player) (number : Code → ℕ → ℕ) where
 
 -- ---- files
 
--- a line leads to what more follows from
+-- what a line leads to may be replaced by what follows from it
 lead_on : (o : Option Player) (l : AskedLine) (before : List File) (next more : List File → Type 0) → ((files : List File) → next files → more files)
     → LineLeads o l before next → LineLeads o l before more
 lead_on None l before next more on v = (v.0, on before v.1)

@@ -1,4 +1,4 @@
--- The events that a list of calls means.
+-- The events of a list of calls.
 use Rattle.std.proofs.Common.{◌≡◌, ℕ, List, [], ◌∷◌, ◌++◌, length, map, drop, refl, sym, ap, ◌∙◌, subst, append_assoc}
 use Rattle.std.proofs.lemmas.List.{append-nil}
 use Rattle.data_cleanup.specs.Ledger.{PlainLedger}

@@ -52,7 +52,7 @@ bad_answers step s o none only = record {
   faults = subst (λ (a : Answer). CountsRefusal a s.faults s.faults) (sym only.answer_is) tt;
 }
 
--- an outcome, or out of memory
+-- an outcome, or the step ran out of memory
 module _ (step : Step) (old new : Seen) where
   pub answers_with : (result : Result Outcome NoMemory)
       → IfOk result (λ o. AnswersBy (refusal (slot_of step old) step.call) step.call o.answer) → IfOk result (λ o. o.filed_from ≡ length old.world.process.ledger.filed)

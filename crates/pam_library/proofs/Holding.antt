@@ -29,7 +29,7 @@ module _ {A : Type 0} (plain : A → PlainSlot) where
   map-slice_set (x ∷ slots) zero s = refl
   map-slice_set (x ∷ slots) (suc i) s = ap (λ (t : List PlainSlot). plain x ∷ t) (map-slice_set slots i s)
 
-  -- another is put into the slot of a number
+  -- the slot of a number gets another content
   pub put_at : (slots : List A) (number : ℕ) (s : A) (now : PlainSlot) → 0 < number → plain s ≡ now
       → map plain (slice_set slots (number - 1) s) ≡ with_slot (map plain slots) number now
   put_at slots zero s now positive is = absurd (omega arith)
@@ -69,7 +69,7 @@ pub empty_of : {A : Type 0} (xs : List A) → length xs ≡ 0 → xs ≡ []
 empty_of [] none = refl
 empty_of (x ∷ xs) none = absurd (omega arith)
 
--- ---- another is put into a slot
+-- ---- a slot gets another content
 
 module _ {A : Type 0} (plain : A → PlainSlot) where
   was_held : (slots : List A) (number : ℕ) (was : A) (slot : PlainSlot) → 0 < number → number - 1 < length slots → was ≡ get_or slots (number - 1) was

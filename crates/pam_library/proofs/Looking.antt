@@ -25,7 +25,7 @@ one_more : (fails : List ℕ) (calls : ℕ) → QuietAt fails calls → QuietAt 
 one_more fails calls quiet = quiet_counted (record { files = []; calls = calls; fails = fails }) quiet
 
 module _ (some others : List ℕ) where
-  -- the same except for the number of accesses
+  -- two results are the same except for the number of accesses
   pub record CountsTwins (c d : Counts) : Type 0 where
     pub rest : record c { calls = d.calls } ≡ d
     pub first : QuietAt some c.calls
@@ -132,6 +132,6 @@ loaded_twins v w root root' service files roots first second =
     (subst (λ (r : List ℕ). LookTwins v.fails w.fails (loaded v root service) (loaded (record w { files = v.files }) r service)) roots
     (same_files v w root service first second))
 
--- only the number of accesses
+-- a file store without a planned failure has none with another number of accesses either
 pub quiet_with_calls : (v : VaultState) (calls : ℕ) → QuietAt v.fails calls → NoCallFails (record v { calls = calls })
 quiet_with_calls v calls quiet = quiet_with_files v.files (record { files = []; calls = calls; fails = v.fails }) quiet

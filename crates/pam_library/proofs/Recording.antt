@@ -207,7 +207,7 @@ cleaned_then n before after added more births filed old own =
     ∙ (λ i. front i ++ own_as_cleaned n after.births more own i)
     ∙ ap (λ (fs : List Filed). receipts_on n before ++ flat_map (cleaned_as after.births) fs) (sym behind)
 
--- in the other order
+-- the same in the other order
 pub turned_recorded : (number : ℕ) (births : List Birth) (ds : List PlainDatum) → AllByRecursion (IsRecorded number births) ds
     → AllByRecursion (IsRecorded number births) (reverse ds)
 turned_recorded number births ds a = all_turned (IsRecorded number births) ds a

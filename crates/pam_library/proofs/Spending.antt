@@ -60,7 +60,7 @@ owned-append : (births added : List Birth) (modules handle : ℕ) → AllByRecur
 owned-append (b ∷ births) added modules handle owned each = (owned.0, owned-append births added modules handle owned.1 each)
 owned-append [] added modules handle owned each = owned_of added modules handle each
 
--- ---- another in the slot of a number
+-- ---- another content in the slot of a number
 
 -- what is known after something was done in one slot
 pub record IsDone (names : List (List ℕ)) (modules : ℕ) (slots : List PlainSlot) (number : ℕ) (old new : PlainSlot) (before after : PlainLedger) : Type 0 where

@@ -92,7 +92,7 @@ module _ (players : List Player) (tells all : Bool) (known : IsTrue all → IsTr
   stops_when (calls.ChAuthTok flags) result old new w v s = failed_by result _ _ (stack_when funcs.ChAuthTok flags old new w v) s
   stops_when call result old new w v s = s
 
--- by the result
+-- the same, by the result
 pub stops_on : (result : Result Outcome NoMemory) (players : List Player) (tells : Bool) (call : AppCall) (old new : PlainSlot) (w v : PlainWorld) → StopsBy players tells call result old new w v → OnErr result (StopsOn players tells call old new w v)
 stops_on (Ok o) players tells call old new w v s = tt
 stops_on (Err e) players tells (calls.Authenticate flags) old new w v s = s
@@ -103,7 +103,7 @@ stops_on (Err e) players tells (calls.CloseSession flags) old new w v s = s
 stops_on (Err e) players tells (calls.ChAuthTok flags) old new w v s = s
 stops_on (Err e) players tells call old new w v s = tt
 
--- the same by what the world holds
+-- the same, by the content of the world
 module _ {World : Type 0} (plain : World → PlainWorld) (players : List Player) (tells : Bool) where
   nothing_plain : (start end : PlainRoom) (a b : World) → PassedNothing start end a b → PassedNothing start end (plain a) (plain b)
   nothing_plain start end a b s = record { room = s.room; world = ap plain s.world }

@@ -28,7 +28,7 @@ draws_pass : (n : ℕ) (s : ClockState) → time_of (after_draws n s) ≡ time_o
 draws_pass zero s = refl
 draws_pass (suc n) s = draws_pass n (drawn s)
 
--- n is the number that is compared, `number` that of the call
+-- n is the number for which the two runs are compared, `number` that of the call
 module _ (n number : ℕ) where
   -- what a call keeps of the world in which it began, and what another number sees of its cleanup log
   pub record Kept (start : PlainWorld) (vault : VaultState) (clock : ClockState) (p : PlainProcess) : Type 0 where
@@ -88,7 +88,7 @@ module _ (n number : ℕ) where
 
   -- ---- a module is called
 
-  -- its result, by what is the same in both
+  -- its result, given what is the same in both
   abbrev played_of : Plays → PlainCall → PlainRoom → Shown → Played
   played_of plays call r shown = plays call (seen_of r) (named_data r.transaction.datums.live) (record { files = shown.files; failing = λ (k : ℕ). false; clock = shown.clock; root = shown.root; caller = shown.caller })
 
@@ -111,7 +111,7 @@ module _ (n number : ℕ) where
   abbrev births_after : Played → State → List Birth
   births_after p s = s.world.process.ledger.births ++ born p s
 
-  -- the same for what has no ids
+  -- the data list and the room after a module's call, without ids
   abbrev list_next : Played → PlainRoom → PlainDataList
   list_next p r = hold_all r.transaction.datums (unnumbered r.transaction.handle r.transaction.serving p.births)
 

@@ -144,7 +144,7 @@ module _ (n number : ℕ) (first second : PlainWorld) where
   changed_twins None code x r v w t = record { rest = refl; state = no_request (state_of (without_its_tokens x.room) v) (state_of (without_its_tokens r) w) (no_tokens (state_of x.room v) (state_of r w) t) }
 
   module _ (delay : Code → ℕ → ℕ) where
-    -- after an authentication that waits, for the requested time
+    -- an authentication that waits for the requested time
     abbrev behind_wait : Code → PlainHandle → PlainWorld → ℕ → Called
     behind_wait code h w asked = let c = waits code asked (wait_of h.delay_on delay code asked) (tokens_cleared h) w in called code (request_forgotten c.handle) c.world
 

@@ -78,7 +78,7 @@ own_filed number births f = own_receipt number (slice_get births f.receipt.id) f
 abbrev pub receipts_on : ℕ → PlainLedger → List Cleaned
 receipts_on number ledger = flat_map (own_filed number ledger.births) ledger.filed
 
--- a cleanup record, whatever number its set is of
+-- a cleanup record, whichever number its set belongs to
 abbrev pub cleaned_by : Option Birth → Receipt → List Cleaned
 cleaned_by None receipt = []
 cleaned_by (Some b) receipt = record {
@@ -160,7 +160,8 @@ pub record AreAlike (number : ℕ) (slots : List PlainSlot) (w : PlainWorld) (ot
   pub first_quiet : NoCallFails w.vault
   pub second_quiet : NoCallFails v.vault
 
--- a call on a number has the same result: what it reported and returned, what it cleaned up, and what it left are alike
+-- a call on a number has the same result in both: what it reported and returned, what it cleaned
+-- up, and what it left are alike
 pub record ComeToSame (number : ℕ) (a b : Stepped) : Type 0 where
   pub told : told_in a.outcome ≡ told_in b.outcome
   pub cleaned : cleaned_behind a.outcome.filed_from a.world.process.ledger

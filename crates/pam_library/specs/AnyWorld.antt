@@ -125,8 +125,8 @@ CanAnswer (calls.DelayFn on) answer = answer ≡ answers.Code codes.Success
 CanAnswer (calls.Reply text) answer = answer ≡ answers.Nothing
 CanAnswer call answer = IsTrue (is_code answer)
 
--- the result of a step, with real objects too: by number, slot and pending call if they refuse it, else one of its
--- call's
+-- the result of a step, with real objects too: if number, slot or pending call refuse it, what they
+-- say; else one of those that its call can have
 abbrev pub AnswersBy : Option Answer → AppCall → Answer → Type 0
 AnswersBy (Some refused) call answer = answer ≡ refused
 AnswersBy None call answer = CanAnswer call answer
@@ -156,7 +156,7 @@ is_free call = false
 abbrev pub takes_no_memory : Option PlainSlot → AppCall → Bool
 takes_no_memory slot call = if is_some (refusal slot call) then true else is_free call
 
--- what an open transaction had to report before counts as reported
+-- the record of an open transaction from before the step counts as taken
 abbrev pub told_slot : PlainSlot → PlainSlot
 told_slot (closed conv) = closed conv
 told_slot (opened h) = opened (all_told h)
@@ -198,7 +198,7 @@ StackStops func flags players tells (opened old) (opened new) w v =
     Stops func players flags tells (all_told old) new w v w v
 StackStops func flags players tells old new w v = ⊥
 
--- the same of a step by its result, for the private functions that make it
+-- the same for a step by its result, for the private functions that make it
 abbrev pub StopsBy : List Player → Bool → AppCall → Result Outcome NoMemory → PlainSlot
     → PlainSlot → PlainWorld → PlainWorld → Type 0
 StopsBy players tells (calls.Authenticate flags) result old new w v =
@@ -215,12 +215,12 @@ StopsBy players tells (calls.ChAuthTok flags) result old new w v =
     OnErr result (StackStops funcs.ChAuthTok flags players tells old new w v)
 StopsBy players tells call result old new w v = Unit {0}
 
--- the same of the slot with a number, which must exist
+-- the same for the slot with a number, which must exist
 abbrev pub FailsAt : Bool → AppCall → Option PlainSlot → Option PlainSlot → Type 0
 FailsAt tells call (Some old) (Some new) = Fails tells call old new
 FailsAt tells call old new = ⊥
 
--- a step ran out of memory: what a stack call had done by then
+-- what a stack call had done by the time its step ran out of memory
 abbrev pub StopsOn : List Player → Bool → AppCall → PlainSlot → PlainSlot → PlainWorld → PlainWorld
     → Type 0
 StopsOn players tells (calls.Authenticate flags) old new w v =

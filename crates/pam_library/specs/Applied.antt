@@ -24,7 +24,7 @@ pub record Keeps (ended : List Event) (old new : Seen) : Type 0 where
   pub moves : Moves (notes_of old.players) handle_limit ended old.world.process.ledger
       (lists_of old.slots) new.world.process.ledger (lists_of new.slots)
 
--- the end, if the step is one
+-- the end that the step makes, if it makes one
 abbrev pub ended_by : Step → Seen → List Event
 ended_by step old = end_at (slot_of step old) step.number step.call
 
@@ -64,7 +64,7 @@ pub record RunsOut {Nap : Type 0} (step : Step) (old new : Seen) (nap_before nap
   pub no_nap : nap_after ≡ nap_before
   pub hides_none : HidesNoFault step.call old.faults new.faults
 
--- ending the lowest open transaction returned and left this
+-- ending the lowest open transaction returned this and left this
 abbrev pub ClosesIn : ℕ → Option ℕ → Seen → Seen → Type 0
 ClosesIn status result old new =
     ClosesAs (closed_one (notes_of old.players) status old.slots old.world) result old.slots

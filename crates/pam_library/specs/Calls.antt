@@ -7,7 +7,7 @@ use Rattle.data_cleanup.specs.declared.datum.Birth.{Birth}
 use Rattle.data_due.specs.Stands.{Lists}
 use Rattle.data_due.specs.Moves.{Moves}
 
--- a call: its end, if it was one, and the cleanup log and data lists after it
+-- a call: the end that it made, if it made one, and the cleanup log and data lists after it
 pub record Moved : Type 0 where
   pub ended : List Event
   pub ledger : PlainLedger

@@ -108,7 +108,8 @@ abbrev pub CallsOpen : {World : Type 0} → AppCall → SlotSeen → World → R
 CallsOpen call old before result new after =
     CallsPlace (number_in old.slot) call old before result new after
 
--- A step, which may be a start: a call that counts failed accesses as its result says.
+-- A step, which may be a start: a call after which the count of failed accesses is as its result
+-- says.
 pub record StepsPlace {World : Type 0} (number : ℕ) (call : AppCall) (old : SlotSeen)
     (before : World) (result : Result Outcome NoMemory) (new : SlotSeen) (after : World)
     : Type 0 where

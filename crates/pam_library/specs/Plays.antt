@@ -1,5 +1,5 @@
--- How a step changes files: by the meanings of the modules of the lines that it runs, each in the state that the line
--- before it left, and by nothing else (this project's own).
+-- How a step changes files: only by the definitions of the modules of the lines that it runs, each
+-- in the state that the line before it left (this project's own).
 use Rattle.std.specs.Prelude.{◌≡◌, ◌⊎◌, ℕ, ◌+◌, Bool, List, [], ◌∷◌, map, Option, Some, None, slice_get, unwrap_or}
 use Rattle.std.specs.List.{AllByRecursion}
 use Rattle.pam_base.specs.declared.code.Code.{Code}
@@ -65,7 +65,7 @@ pub record LineRun : Type 0 where
 abbrev pub visit_of : ℕ → List ℕ → Code → Visit
 visit_of place path answer = record { place = place; path = path; answer = answer }
 
--- a line that was run, and what its module got, if it is there
+-- a line that was run, and what its module got, if it exists
 pub record AskedLine : Type 0 where
   pub visit : Visit
   pub asked : Asked
@@ -94,7 +94,7 @@ module _ (players : List Player) where
     sight = sight_of (scene_in s);
   }
 
-  -- what the modules of lines get that are run one after another
+  -- what the modules of lines that are run one after another get
   abbrev pub asked_along : List LineRun → State → List AskedLine
   asked_along [] s = []
   asked_along (l ∷ ls) s = record {
@@ -129,15 +129,16 @@ stack_call_of (calls.CloseSession flags) =
 stack_call_of (calls.ChAuthTok flags) = Some (record { func = funcs.ChAuthTok; flags = flags })
 stack_call_of call = None
 
--- A line is one of the stack of a call, and was run with the flags of one of its passes.
+-- A line belongs to the stack of a call, and was run with the flags of one of its passes.
 pub record IsLineOf (call : StackCall) (stacks : Stacks) (l : LineRun) : Type 0 where
   pub func_is : l.func ≡ call.func
   pub second : Bool
   pub flags_are : l.flags ≡ flags_seen call.func second call.flags
   pub stands : StandsAt l.rule l.visit.place (first_stack call.func stacks) 1
 
--- A stack call in a transaction ran these lines, one after another, from the state on in which it found the transaction
--- and the world; and the files after the call are those that the last line left.
+-- A stack call in a transaction ran these lines, one after another, beginning in the state in which
+-- it found the transaction and the world; the files after the call are those that the last line
+-- left.
 pub record RunsLines (players : List Player) (h : PlainHandle) (w : PlainWorld) (call : StackCall)
     (trail : List Visit) (asked : List AskedLine) (after : List File) : Type 0 where
   pub lines : List LineRun
@@ -155,14 +156,14 @@ pub record RunsNothing (w : PlainWorld) (trail : List Visit) (asked : List Asked
   pub asked_are : asked ≡ []
   pub left : after ≡ w.vault.files
 
--- by the slot, and by the stack call if it is one
+-- by the slot and, for a stack call, by its flags
 abbrev pub RunsBy : List Player → PlainWorld → Option PlainSlot → Option StackCall → List Visit
     → List AskedLine → List File → Type 0
 RunsBy players w (Some (opened h)) (Some call) trail asked after =
     RunsLines players (all_told h) w call trail asked after
 RunsBy players w slot call trail asked after = RunsNothing w trail asked after
 
--- what the modules got of the lines that a step ran, and that their calls alone changed the files
+-- what the modules of the lines that a step ran got, and that only their calls changed the files
 abbrev pub StepAsks : List Player → (Code → ℕ → ℕ) → List PlainSlot → PlainWorld → Step
     → List AskedLine → Type 0
 StepAsks players number_of slots w step asked =
@@ -172,8 +173,9 @@ StepAsks players number_of slots w step asked =
 
 -- ---- files
 
--- The module of a line that was run saw these files, and its meaning gives what the line returned; what follows holds
--- of the files that it left. If no module is there, the code was MODULE_UNKNOWN, and it holds of the same files.
+-- The module of a line that was run saw these files, and its definition gives what the line
+-- returned; the rest holds for the files that it left. If there is no such module, the code was
+-- MODULE_UNKNOWN, and the rest holds for the same files.
 abbrev pub LineLeads : Option Player → AskedLine → List File → (List File → Type 0) → Type 0
 LineLeads None l before next = (l.visit.answer ≡ ModuleUnknown) × next before
 LineLeads (Some p) l before next = (l.asked.sight.files ≡ before)

@@ -33,7 +33,7 @@ module _ (players : List Player) (number_of : Code → ℕ → ℕ) where
       if nat_eq m.step.number number then s.outcome ∷ outcomes_on number s.slots steps
       else outcomes_on number s.slots steps
 
-  -- one slot alone, after some steps in it
+  -- a slot by itself, after some steps in it
   abbrev pub alone : ℕ → PlainSlot → List Met → PlainSlot
   alone number slot [] = slot
   alone number slot (m ∷ steps) =

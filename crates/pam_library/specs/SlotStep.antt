@@ -85,7 +85,7 @@ opened_by names conv filed w (Err fault) =
 
 -- ---- the stack calls
 
--- what the transaction has to report is handed out
+-- what the transaction has to report is taken
 abbrev pub told_by : ℕ → Answer → Called → SlotStepped
 told_by filed answer c = record {
   slot = opened (all_told c.handle);
@@ -159,7 +159,8 @@ module _ (players : List Player) (number : Code → ℕ → ℕ) where
       answered (closed (offered text conv)) w answers.Nothing
   closed_step place conv w call = answered (closed conv) w answers.NotOpen
 
-  -- a call in the slot of this number; what an open transaction had to report before counts as reported
+  -- a call in the slot of this number; the record of an open transaction from before the step
+  -- counts as taken
   abbrev pub slot_step : ℕ → PlainSlot → PlainWorld → AppCall → SlotStepped
   slot_step place (closed conv) w call = closed_step place conv w call
   slot_step place (opened h) w call = open_step (all_told h) w call

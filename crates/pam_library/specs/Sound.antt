@@ -14,7 +14,7 @@ pub record IsPlaced (names : List (List ℕ)) (number : ℕ) (h : PlainHandle) :
   pub handle : h.room.transaction.handle ≡ number
   pub started_with : h.names ≡ names
 
--- the same of a slot, open or closed
+-- the same for a slot, open or closed
 abbrev pub IsAtPlace : List (List ℕ) → ℕ → PlainSlot → Type 0
 IsAtPlace names number (closed conv) = Unit {0}
 IsAtPlace names number (opened h) = IsPlaced names number h
@@ -33,6 +33,6 @@ pub record IsSound (names : List (List ℕ)) (modules : ℕ) (slots : List Plain
   pub held : AreHeld modules handle_limit ledger (lists_of slots)
   pub owned : AllByRecursion (λ (b : Birth). b.owner < modules) ledger.births
 
--- the same of a library with these modules
+-- the same for a library with these modules
 abbrev pub IsSoundFor : List Player → List PlainSlot → PlainLedger → Type 0
 IsSoundFor players slots ledger = IsSound (names_of players) (length players) slots ledger

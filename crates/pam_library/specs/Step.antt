@@ -25,7 +25,7 @@ stepped_in slots number s = record {
 }
 
 module _ (players : List Player) (number_of : Code → ℕ → ℕ) where
-  -- by the slot of that number, if there is one
+  -- the step in the slot of that number, if there is one
   abbrev pub stepped_at : List PlainSlot → PlainWorld → ℕ → AppCall → Option PlainSlot → Stepped
   stepped_at slots w number call None =
       record { slots = slots; world = w; outcome = answers_only (filed_in w) answers.BadNumber }

@@ -27,8 +27,8 @@ impl Library {
     /// bad number; a start needs a closed slot, and any other call except a reply an open one. Then
     /// a change of token with one of the library's own flags returns SYSTEM_ERR, and a stack call
     /// is refused while another one is pending. In all these cases nothing changes and nothing is
-    /// allocated; nor does an end, a requested delay, or switching the delay function on or off
-    /// allocate.
+    /// allocated. An end, a requested delay, and switching the delay function on or off don't
+    /// allocate either.
     ///
     /// A start names a service, and is refused exactly if its configuration is; a reply has at most
     /// 512 bytes. If memory runs out, a start leaves its slot closed with its conversation, a stack
@@ -58,12 +58,13 @@ impl Library {
             (slot_of step.now (⟦<Session as Told>⟧.seen self.old world.old)) step.now.call ≡ true →
             world.new ≡ world.old }
 
-        // The outcome, with real objects too: by number, slot and pending call, else one of those that the call has.
+        // The outcome, with real objects too: by number, slot and pending call, else one of those
+        // that the call can have.
         ensures answers { let seen = ⟦<Session as Told>⟧.seen in IfOk result (λ outcome.
             Answers step.now (seen self.old world.old) (seen self.new world.new) outcome) }
 
-        // The result of a step: with real objects too if it uses nothing outside, else if everything that it uses is
-        // modelled.
+        // The result of a step: if it uses nothing outside, with real objects too; else if
+        // everything that it uses is modelled.
         ensures inside { let seen = ⟦<Session as Told>⟧.seen in (delay : Code → ℕ → ℕ) →
             stays_inside (slot_of step.now (seen self.old world.old)) step.now.call ≡ true →
             IfOk result (λ outcome. StepsIn delay step.now (seen self.old world.old)

@@ -22,7 +22,8 @@ ghost use Rattle.pam_library.specs.SideBySide.{Met, alone, outcomes_alone, outco
 
 // The laws of this crate, for the proofs of its callers.
 
-/// A call in one slot keeps all slots and the cleanup log sound; it adds its sets and, if it is an end, that end.
+/// A call in one slot keeps all slots and the cleanup log sound; it adds its sets to the events
+/// and, if it is an end, that end.
 pub fn one_place_moves()
     ensures sound { (note : Notes) (names : List (List ℕ)) (modules : ℕ) (slots : List PlainSlot)
         (number : ℕ) (old new : PlainSlot) (call : AppCall) (before after : PlainLedger) →
@@ -74,8 +75,8 @@ pub fn calls_stand_for_their_events()
         (events ++ events_of ledger calls) }
 {}
 
-/// Whatever steps a run has, the content of one slot after them, and the outcomes of the steps in it, are the results
-/// of its own steps alone, each with the world before it.
+/// Whatever steps a run has: the content of one slot after them, and the outcomes of the steps in
+/// that slot, are the results of these steps alone, each from the world as it was before it.
 pub fn places_stand_side_by_side()
     ensures slot { (players : List Player) (number_of : Code → ℕ → ℕ) (number : ℕ)
         (steps : List Met) (slots : List PlainSlot) (slot : PlainSlot) →
@@ -121,11 +122,11 @@ pub fn calls_keep_to_themselves()
         (stepped players number_of slots w step).world others v }
 {}
 
-/// Of each step it is said what the modules of the lines that it runs get (`asks`): each line is one
-/// of its function's stack, and its module gets the arguments of its rule, and the room and the
-/// world as the line before left them. They are the lines that are recorded (`visits`), and their
-/// modules' meanings change files, one after another, and nothing else does (`step`). What some
-/// lines lead to, and others lead on from, both lead to together (`together`).
+/// For each step, what the modules of the lines that it runs get (`asks`): each line belongs to the
+/// stack of the step's function, and its module gets the arguments of its rule, and the room and
+/// the world as the line before left them. These are the lines that are recorded (`visits`). Their
+/// modules' definitions change files, one after another, and nothing else does (`step`). Two lists
+/// of lines, one run after the other, are one list of lines (`together`).
 pub fn steps_change_files_by_plays()
     ensures asks { (players : List Player) (number_of : Code → ℕ → ℕ) (slots : List PlainSlot)
         (w : PlainWorld) (step : Step) →

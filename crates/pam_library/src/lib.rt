@@ -1,5 +1,6 @@
-//! libpam's `pam_start(3)` to `pam_end(3)`, for sixteen transactions over one world, each with its conversation. A step
-//! is one call of an application on one of them; it leaves every other as it was.
+//! libpam's `pam_start(3)` to `pam_end(3)`, for sixteen transactions that share one world, each
+//! with its conversation. A step is one call of an application on one of them; it leaves every
+//! other as it was.
 //!
 //! Begin at `apply.rt`; `step.rt` distinguishes closed slots from open ones, and `calls.rt` and `stack_call.rt` make
 //! the calls.

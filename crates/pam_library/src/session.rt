@@ -7,8 +7,8 @@ use pam_handle::pam_room::{Module, World};
 use pam_outside::{Clock, Nap, Vault};
 use std::marker::PhantomData;
 
-/// Names what a library and its world show together, for contracts. Its field has no size: it names the objects that
-/// both hold in boxes.
+/// Names what a library and its world show together, for contracts. Its field has no size; it names
+/// the objects that both hold in boxes.
 pub struct Session {
     boxed: PhantomData<
         (

@@ -24,7 +24,7 @@ fn coded(
     }
 }
 
-// Each of these calls is one on a transaction without anything to report.
+// Each of these is a call on a transaction without anything to report.
 
 pub(crate) fn set_item(
     alloc: Global,

@@ -12,7 +12,7 @@ use pam_room::{Call, Module, Process, Transaction, laws, spend_by_length};
 use std::alloc::Global;
 use std::test::Fail;
 
-// Answers whether it is called with PAM_ESTABLISH_CRED.
+// Returns by whether it is called with PAM_ESTABLISH_CRED.
 struct Establisher;
 
 impl AtOnce for Establisher {

@@ -46,7 +46,7 @@ fn world(alloc: Global, file: &[u8]) -> Result<World, Fail> {
     })
 }
 
-/// Plays a scene in a new transaction, which is then ended.
+/// Runs a scene in a new transaction, which is then ended.
 pub fn play(alloc: Global, gear: &Gear, scene: &Scene) -> Result<Outcome, Fail> {
     let mut world = world(alloc, scene.file)?;
     let conv = Box::new(alloc, QueueConv::new(alloc))?;
