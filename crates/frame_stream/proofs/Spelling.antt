@@ -83,7 +83,7 @@ module _ (settles : FrontSettles) (reads : ReadsTable) (opens : OpensByTable) wh
   out_none : (rest : List ℕ) → front_of rest ≡ OutOfRange → HasNoFrame rest
   out_none rest e = λ step more has is. out_whole (front_of rest) _ e (framed_front rest step more has is)
 
-  -- a complete one that is no call
+  -- a complete one that isn't a call
   call_none : (rest : List ℕ) (size : ℕ) → front_of rest ≡ Whole size → step_of (take size rest) ≡ None → HasNoFrame rest
   call_none rest size w none = λ step more has is.
       let same : size ≡ length (frame_of step) = same_size (front_of rest) _ _ w (framed_front rest step more has is) in

@@ -24,6 +24,6 @@ looked_most (suc most) n (b ∷ bs) ended =
 unfoldable pub looked : ℕ → List ℕ → Bool → List (List ℕ)
 looked n bytes ended = looked_most (length bytes) n bytes ended
 
--- a frame that is one too many, or no call
+-- a frame that is one too many, or that isn't a call
 abbrev pub refuses : ℕ → List ℕ → Type 0
 refuses n frame = (65536 ≤ n) ⊎ (step_of frame ≡ None)

@@ -20,7 +20,8 @@ pub fn all_are_looked_at()
     pam_wire::laws::front_settles();
 }
 
-/// Some bytes are the frames of steps, at most 65,536, and a rest that begins a frame, or is refused.
+/// Some bytes are the frames of steps, at most 65,536, and a rest, which is the beginning of a
+/// frame or is refused.
 pub fn bytes_spell_steps()
     ensures { BytesSpell }
 {

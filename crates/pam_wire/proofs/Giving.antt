@@ -1,4 +1,4 @@
--- The steps that were given are those of the bytes fed.
+-- The steps that were returned are those of the bytes fed.
 use Rattle.std.proofs.Common.{◌≡◌, ℕ, ◌+◌, ◌<◌, true, List, [], ◌∷◌, ◌++◌, length, drop, sym, ap, ◌∙◌, arith, length-append, append_assoc}
 use Rattle.std.proofs.lemmas.List.{append-nil}
 use Rattle.std.proofs.lemmas.List.Elements.{All-drop, All-same}
@@ -19,7 +19,7 @@ framed-append : (steps : List Step) (step : Step) → AllByRecursion (λ (s : St
 framed-append [] step all e = (e, tt)
 framed-append (s ∷ steps) step all e = (all.0, framed-append steps step all.1 e)
 
--- the bytes after the steps given are bytes
+-- the numbers after the steps returned are bytes
 rest-bytes : (fed : List ℕ) (steps : List Step) (now : FramesState) → AreBytes fed → Gave fed steps now → AreBytes now.rest
 rest-bytes fed steps now all g =
     All-same (λ b. b < 256) now.rest (drop (length (frames_of steps)) fed) (sym (ap (drop (length (frames_of steps))) g.frames.parts ∙ drop-append_seam (frames_of steps) now.rest))

@@ -1,4 +1,4 @@
--- When the beginning of some bytes is open.
+-- When some bytes are an incomplete frame.
 use Rattle.std.proofs.Common.{◌≡◌, ℕ, ◌+◌, ◌*◌, ◌-◌, ◌<◌, ◌≤◌, ◌/◌, ◌%◌, Bool, true, false, ◌||◌, cond, List, [], ◌∷◌, ◌++◌, length, take, drop, Option, Some, None, nat_lt, nat_le, refl, sym, ap, ◌∙◌, arith, length-append, append_assoc, replicate}
 use Rattle.std.proofs.lemmas.Bool.{leb-false, ltb-false, lt-leb, le-ltb}
 use Rattle.std.proofs.lemmas.List.{length-replicate}
@@ -17,7 +17,7 @@ use Rattle.pam_wire.proofs.Framing.{two_back, said-size, in_range, frame-read}
 abbrev zeros : ℕ → List ℕ
 zeros n = replicate n 0
 
--- ---- an open prefix begins a frame
+-- ---- an incomplete frame is the beginning of a frame
 
 -- the length is `said`, and fewer bytes follow
 record IsShort (said follow : ℕ) : Type 0 where
@@ -48,7 +48,7 @@ opened a b more said a' b' s is =
       parts = ap (λ (t : List ℕ). t ++ body) two;
     }
 
--- a length of which one byte is there
+-- a length of which only one byte has come
 one_byte : (a b : ℕ) → a < 256 → b < 256 → 2 ≤ 256 * a + b → 256 * a + b ≤ 580 → IsOpen (a ∷ [])
 one_byte a b a' b' low high =
     let said : from_be_bytes w16 (a ∷ b ∷ []) ≡ 256 * a + b = omega arith in
@@ -65,7 +65,7 @@ front-open (a ∷ []) all e = one_by a _ (All-head (λ b. b < 256) a [] all) ref
 front-open (a ∷ b ∷ more) all e =
     opened a b more _ (All-head (λ b. b < 256) a (b ∷ more) all) (All-head (λ b. b < 256) b more (All-tail (λ b. b < 256) a (b ∷ more) all)) refl (short_of _ (length more) e)
 
--- ---- the beginning of a frame is open
+-- ---- the beginning of a frame is incomplete
 
 first_byte : (body : List ℕ) → length body ≤ 580 → length body / 256 % 256 ≤ 2
 first_byte body le = omega (arith, le)
@@ -115,7 +115,7 @@ not_frame rest step more size e f =
     let no : ◌≡◌ {A = Next} (next.Frame step size) next.Bad = sym f ∙ e in
     absurd cc
 
--- a frame at the beginning, as it is said of steps
+-- a frame at the beginning, as the frame of a step
 pub one-read : (rest : List ℕ) (step : Step) (more : List ℕ) → AreFramesOf rest (step ∷ []) more → (size : ℕ) × (next_of rest ≡ next.Frame step size)
 one-read rest step more is =
     let parts : rest ≡ frame_of step ++ more = is.parts ∙ append_assoc (frame_of step) [] more in

@@ -1,4 +1,4 @@
--- Worked rows: frames of each kind, and bytes that are no frame, each limit from both sides.
+-- Test cases: frames of each kind, and bytes that aren't a frame, each limit from both sides.
 use Rattle.std.proofs.Common.{◌≡◌, ℕ, true, false, List, [], ◌∷◌, ◌++◌, length, map, replicate, Some, None, codes, refl}
 use Rattle.pam_base.specs.declared.call.AppCall.{AppCall}
 use Rattle.pam_base.specs.declared.call.AppCall.TheVariants as calls
@@ -16,7 +16,7 @@ first call = record { number = 1; call = call }
 abbrev Is : AppCall → List ℕ → Type 0
 Is call bytes = (frame_of (first call) ≡ bytes) × (step_of bytes ≡ Some (first call))
 
--- byte strings that are whole frames by their lengths, and no call
+-- byte strings that are whole frames by their lengths, but not calls
 abbrev AreNone : List (List ℕ) → Type 0
 AreNone all = (map front_of all ≡ map (λ bytes. Whole (length bytes)) all)
     × (map step_of all ≡ replicate (length all) None)
@@ -77,7 +77,7 @@ putenv_of_nothing = (refl, refl)
 getenv : Is (calls.GetEnv (codes "A")) (0 ∷ 3 ∷ 1 ∷ 12 ∷ 65 ∷ [])
 getenv = (refl, refl)
 
--- the least length, 2
+-- the minimum length, 2
 envlist : Is calls.EnvList (0 ∷ 2 ∷ 1 ∷ 13 ∷ [])
 envlist = (refl, refl)
 
@@ -108,7 +108,7 @@ items_by_number : map step_of (map question (1 ∷ 2 ∷ 3 ∷ 4 ∷ 5 ∷ 6 ∷
     ∷ items.AuthTokType ∷ [])
 items_by_number = refl
 
--- ---- whole frames that are no call
+-- ---- whole frames that aren't a call
 
 -- kinds are 1 to 16
 kinds_of_none : AreNone ((0 ∷ 2 ∷ 1 ∷ 0 ∷ [])
@@ -188,7 +188,7 @@ set_item_to_512 : Is (calls.SetItem items.User (Some (replicate 512 97)))
     (2 ∷ 4 ∷ 1 ∷ 9 ∷ 2 ∷ 1 ∷ replicate 512 97)
 set_item_to_512 = (refl, refl)
 
--- the greatest length, 580
+-- the maximum length, 580
 start_of_64_and_512 : Is (calls.Start (replicate 64 97) (Some (replicate 512 97)))
     (2 ∷ 68 ∷ 1 ∷ 1 ∷ 64 ∷ replicate 64 97 ++ 1 ∷ replicate 512 97)
 start_of_64_and_512 = (refl, refl)

@@ -1,4 +1,4 @@
--- What some bytes begin with stays, whatever follows them.
+-- What some bytes begin with stays the same, whatever follows them.
 use Rattle.std.proofs.Common.{◌≡◌, ℕ, suc, ◌+◌, ◌≤◌, Bool, true, false, ◌||◌, cond, List, [], ◌∷◌, ◌++◌, length, nat_lt, nat_le, refl, arith, length-append}
 use Rattle.std.proofs.lemmas.Bool.{leb-true, leb-false, ltb-true, ltb-false, le-leb, lt-ltb}
 use Rattle.std.specs.Int.{w16, from_be_bytes}

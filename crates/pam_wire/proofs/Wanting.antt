@@ -1,4 +1,4 @@
--- Memory is taken for a step alone.
+-- Only a step allocates.
 use Rattle.std.proofs.Common.{◌≡◌, ℕ, ◌-◌, ◌≤◌, true, List, [], ◌∷◌, length, take, drop, Option, Some, None, is_some, slice_index_or, Result, Ok, Err, refl, subst, arith}
 use Rattle.std.proofs.lemmas.List.{take_all}
 use Rattle.std.specs.Prelude.{OnErr, option_map}
@@ -6,7 +6,7 @@ use Rattle.pam_base.specs.declared.call.CallName.{CallName}
 use Rattle.pam_wire.specs.Kind.{call_of_number}
 use Rattle.pam_wire.specs.Read.{call_in, call_of_kind, step_in, step_with}
 
--- what is made of a value is there if the value is
+-- if a value exists, so does what is made of it
 made_of : {A B : Type 0} (f : A → B) (o : Option A) → is_some o ≡ true → is_some (option_map f o) ≡ true
 made_of f None e = e
 made_of f (Some x) e = refl

@@ -1,4 +1,4 @@
--- What holds of frames, in words that no reader uses (this project's own).
+-- What holds for frames, in terms that no reader uses (this project's own).
 use Rattle.std.specs.Prelude.{◌≡◌, ◌<◌, ◌≤◌, ℕ, List, [], ◌++◌, length, Some}
 use Rattle.pam_base.specs.declared.call.Step.{Step}
 use Rattle.pam_wire.specs.declared.front.FirstFrame.{FirstFrame}
@@ -34,8 +34,8 @@ HasOneReading = (bytes : List ℕ) (steps others : List Step) (rest left : List 
     → AreFramesOf bytes steps rest → HasNoFrame rest
     → AreFramesOf bytes others left → HasNoFrame left → (steps ≡ others) × (rest ≡ left)
 
--- What some bytes begin with stays, whatever follows them: a frame, or a length that no frame has.
--- The beginning of a frame that isn't whole has at most 581 bytes.
+-- What some bytes begin with stays the same, whatever follows them: a frame, or a length that no
+-- frame has. An incomplete frame has at most 581 bytes.
 abbrev pub Settles : FirstFrame → List ℕ → List ℕ → Type 0
 Settles (Whole size) bytes more =
     (4 ≤ size) × (size ≤ length bytes) × (front_of (bytes ++ more) ≡ Whole size)
@@ -45,8 +45,8 @@ Settles Open bytes more = length bytes ≤ 581
 abbrev pub FrontSettles : Type 0
 FrontSettles = (bytes more : List ℕ) → Settles (front_of bytes) bytes more
 
--- Some bytes begin a frame that isn't whole if and only if they are the beginning of one whose
--- length is in range.
+-- Some bytes are an incomplete frame if and only if they are the beginning of one whose length is
+-- in range.
 abbrev pub OpensByTable : Type 0
 OpensByTable = (rest : List ℕ) → (AreBytes rest → front_of rest ≡ Open → IsOpen rest)
     × (IsOpen rest → front_of rest ≡ Open)

@@ -95,14 +95,15 @@ step_in body = None
 
 -- ---- how long a frame is
 
--- By the length that it begins with, and by how many bytes follow: from 2 to 580 may be said.
+-- How long a frame is, by the length that it begins with and by how many bytes follow; the length
+-- may be 2 to 580.
 abbrev pub front_by : ℕ → ℕ → FirstFrame
 front_by said follow =
     if nat_lt said 2 || nat_lt 580 said then OutOfRange
     else if nat_le said follow then Whole (said + 2) else Open
 
--- what some bytes begin with; if there is one byte, a length that it begins is at least 256 times
--- it
+-- what some bytes begin with; a first byte alone says that the length is at least 256 times that
+-- byte
 abbrev pub front_of : List ℕ → FirstFrame
 front_of [] = Open
 front_of (a ∷ []) = if nat_lt 2 a then OutOfRange else Open

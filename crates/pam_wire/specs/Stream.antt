@@ -68,19 +68,19 @@ pub record AreFramesOf (bytes : List ℕ) (steps : List Step) (rest : List ℕ) 
   pub framed : AllByRecursion (λ (step : Step). IsTrue (has_frame step)) steps
   pub parts : bytes ≡ frames_of steps ++ rest
 
--- it doesn't begin with a step's frame
+-- the rest doesn't begin with the frame of a step
 abbrev pub HasNoFrame : List ℕ → Type 0
 HasNoFrame rest = (step : Step) (more : List ℕ) → IsTrue (has_frame step)
     → AreFramesOf rest (step ∷ []) more → ⊥
 
--- what was fed, and the steps that were given of it
+-- what was fed, and the steps that were returned
 pub record Gave (fed : List ℕ) (steps : List Step) (now : FramesState) : Type 0 where
   pub frames : AreFramesOf fed steps now.rest
   pub place : now.place ≡ length (frames_of steps)
 
 -- The steps returned are those that the bytes fed begin with, and a step is returned if there is
--- one more; none if and only if what follows them is incomplete, and a fault names the first byte
--- after them.
+-- one more; None if and only if what follows them is incomplete; a fault names the first byte after
+-- them.
 abbrev pub GivesNext : Result (Option Step) (Refuse BadFrame) → List ℕ → List Step → FramesState
     → Type 0
 GivesNext (Ok (Some step)) fed steps new = Gave fed (steps ++ step ∷ []) new

@@ -59,7 +59,7 @@ impl Frames {
         Ok(())
     }
 
-    /// Takes the step of the next frame. Returns None if and only if nothing is left, or the
+    /// Takes the step of the next frame. Returns None if and only if what is left is empty, or the
     /// beginning of a frame whose length is in range; `BadFrame` if and only if the length is out
     /// of range, or the frame is whole and isn't a call, and then every later call returns the
     /// same. Only a step allocates; if that fails, nothing changes.

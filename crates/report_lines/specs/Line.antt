@@ -79,7 +79,7 @@ call_made replies = names.Reply
 abbrev pub command_word : Command → List ℕ
 command_word command = call_word (call_made command)
 
--- of a command, or of a transaction that the program ended
+-- the result of a command, or of a transaction that the program ended
 pub data Result : Type 0 where
   answered : Command → Shown → Result
   closed_by_program : Code → Result
@@ -232,7 +232,7 @@ bytes_of text = map byte_of text
 abbrev pub word_of : ℕ → ℕ
 word_of n = n % 2 ^ 32
 
--- and as one of 64
+-- and as a word of 64 bits
 abbrev pub long_of : ℕ → ℕ
 long_of n = n % 2 ^ 64
 

@@ -1,5 +1,5 @@
-//! The lines of a report, each by what it says: their texts, and the code that writes them. The
-//! code that prints reports and the code that reads them use the same. Begin at `answer.rt`.
+//! The lines of a report: what each says, its text, and the code that writes it. The code that
+//! prints reports and the code that reads them use the same. Begin at `answer.rt`.
 #![tactic(auto)]
 
 mod answer;

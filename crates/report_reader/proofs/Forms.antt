@@ -26,7 +26,7 @@ use Rattle.report_reader.proofs.Known.{KnownCode, known_code, KnownFault, known_
 
 -- ---- the words of a form
 
--- of a line before a result, its own word and those after it
+-- a line before a result: its own word and those after it
 abbrev pub told_word : Told → List ℕ
 told_word (told_message style text) = codes "say"
 told_word (told_visit v) = codes "line"
@@ -165,7 +165,7 @@ wait_is code asked wait is =
     ∙ ap (λ (x : ℕ). told_wait code x (guessed_number (after_space tail))) a.value
     ∙ ap (λ (x : List ℕ). told_wait code asked (guessed_number x)) (after_space-word (number_words asked) (number_words wait) a.one) ∙ ap (λ (x : ℕ). told_wait code asked x) w.value
 
--- what is guessed is printed alike, has a form, and is the same except for contents that don't
+-- what is guessed is printed the same, has a form, and is the same except for contents that don't
 -- count
 pub record FoundTold (number : ℕ) (t : Told) : Type 0 where
   pub found : Told

@@ -24,7 +24,7 @@ digit_is n lt = grind (arith, nat_tests)
 lacks_if : (b c : ℕ) → b < 48 → nat_le 48 c ≡ true → eqb c b ≡ false
 lacks_if b c lt le = grind (arith, nat_tests)
 
--- digits have no byte below that of 0
+-- no digit has a byte below that of 0
 pub digits_lack : (b : ℕ) (word : List ℕ) → b < 48 → list_all is_ascii_digit word ≡ true → has_byte b word ≡ false
 digits_lack b [] lt all = refl
 digits_lack b (c ∷ word) lt all =
@@ -57,7 +57,7 @@ one_more n word le w = record {
       ∙ ap (λ (x : ℕ). (x + (48 + n % 10 - 48)) % 2 ^ 64) tens ∙ ap (λ (x : ℕ). x % 2 ^ 64) same ∙ mod-eq_of_lt small;
 }
 
--- and where it is in a line
+-- and its position in a line
 pub record Numeral (n : ℕ) (word : List ℕ) : Type 0 where
   pub all : list_all is_ascii_digit word ≡ true
   pub value : guessed_number word ≡ n

@@ -1,4 +1,4 @@
--- Worked lines, computed: each form as the document on reports has it, and lines without a form.
+-- Test cases, computed: each form as docs/report.md has it, and lines without a form.
 use Rattle.std.specs.Prelude.{◌≡◌, [], codes, Some, None}
 use Rattle.std.proofs.Common.{refl}
 use Rattle.std.specs.Fmt.{digits}
@@ -91,7 +91,8 @@ faulty_script : read_line (codes "script 8 BadWord 1") ≡ Some (lasts (refused_
 unfolding digits if_printed
 faulty_script = refl
 
--- a code with another one's number, a leading zero, a number of 33 bits, a variable without `=`, two spaces, nothing
+-- a code with another code's number, a leading zero, a number of 33 bits, a variable without `=`,
+-- two spaces, nothing
 other_number : read_line (codes "1 setcred CRED_ERR 18") ≡ None
 unfolding digits if_printed
 other_number = refl

@@ -1,4 +1,4 @@
--- A form is read if it is printed as the line, and otherwise nothing is.
+-- A form is read if it is printed as the line; otherwise nothing is read.
 use Rattle.std.proofs.Common.{◌≡◌, Bool, true, false, if◌then◌else◌, List, ℕ, [], ◌∷◌, ◌++◌, Option, Some, None, refl, sym, ◌∙◌, ap}
 use Rattle.std.specs.Char.{is_ascii_digit}
 use Rattle.std.specs.List.{list_all}

@@ -1,4 +1,4 @@
--- Quoted texts mean their bytes.
+-- A quoted text is read as its bytes.
 use Rattle.std.proofs.Common.{◌≡◌, ℕ, ◌+◌, ◌*◌, ◌/◌, ◌%◌, ◌<◌, ◌≤◌, Bool, true, false, ◌&&◌, ◌||◌, nat_eq, nat_le, nat_lt, eqb, if◌then◌else◌, List, [], ◌∷◌, ◌++◌, codes, refl, sym, ◌∙◌, ap, arith, eqb-true, ltb-true, ltb-false, append_assoc}
 use Rattle.std.specs.Char.{digit_value}
 use Rattle.std.proofs.Math.Nat.{mod-eq_of_lt}
@@ -54,7 +54,7 @@ unquoted_bytes (b ∷ text) =
     let more = unquoted_bytes text in
     (plain_if b text (nat_eq b 92) more.1 more.0, coded_if b text (nat_eq b 120) more.2 more.0, more.3 (digit_value b), λ high. (byte_below (16 * high + digit_value b), more.0))
 
--- ---- the quoted text of two, and its bytes
+-- ---- the quoted text of two texts, and its bytes
 
 pub quoted-append : (one two : List ℕ) → quoted_text (one ++ two) ≡ quoted_text one ++ quoted_text two
 quoted-append [] two = refl

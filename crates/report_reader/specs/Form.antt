@@ -1,4 +1,4 @@
--- What is read of a line, in the words of the report's lines: the contents that don't count are left out.
+-- What is read from a line, in terms of the report's lines: contents that don't count are left out.
 use Rattle.std.specs.Prelude.{◌≡◌, IfOk, List, [], ◌∷◌, Option, Some, None, Result}
 use Rattle.std.specs.Option.{option_map}
 use Rattle.pam_base.specs.declared.code.Code.TheVariants as codes
@@ -54,10 +54,10 @@ says_of (forms.Told number visit) = tells number (told_of visit)
 says_of (forms.Result number outcome) = results number (result_of outcome)
 says_of forms.Last = lasts lines.unread
 
--- what counts of what is read is what counts of this
+-- the part that counts is the same in what is read and in this
 abbrev pub IsRead : Option Form → Option Says → Type 0
 IsRead form s = option_map says_of form ≡ option_map bare s
 
--- and so it is unless an allocation failed
+-- the same, unless an allocation failed
 abbrev pub Reads : Result (Option Form) NoMemory → Option Says → Type 0
 Reads result s = IfOk result (λ form. IsRead form s)

@@ -47,7 +47,7 @@ guessed_wait words =
     told_wait (guessed_code (before_space words)) (guessed_number (before_space behind_code))
     (guessed_number (after_space behind_code))
 
--- by the line's word; None if the line is another one
+-- by the line's word; None if it is the word of a result
 abbrev pub guessed_told : List ℕ → List ℕ → Option Told
 guessed_told word words =
     if bytes_eq word (codes "say") then Some (guessed_message words)
@@ -112,11 +112,11 @@ guessed_last line =
 
 -- ---- a line, without its newline
 
--- what is guessed, if it is printed as the line
+-- what was guessed, if it is printed as the line
 unfoldable pub if_printed : List ℕ → Says → Option Says
 if_printed line s = if bytes_eq (says_text s) (line ++ 10 ∷ []) then Some s else None
 
--- a variable has a `=`; all else is in its range by how it is guessed
+-- a variable has a `=`; everything else is in its range because of how it is guessed
 abbrev pub has_form : Told → Bool
 has_form (told_variable text) = has_byte 61 text
 has_form t = true

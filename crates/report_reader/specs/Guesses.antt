@@ -1,4 +1,4 @@
--- What a line may say, as the reader has it, in the words of the report's lines.
+-- What a line may say, from the reader's types to those of the report's lines.
 use Rattle.std.specs.Prelude.{◌≡◌, IfOk, Option, Result}
 use Rattle.std.specs.Option.{option_map}
 use Rattle.pam_base.specs.declared.fault.NoMemory.{NoMemory}

@@ -23,7 +23,7 @@ IsSays (tells number t) = (number < 2 ^ 32) × IsTold t
 IsSays (results number result) = (number < 2 ^ 32) × IsResult result
 IsSays (lasts last) = IsLast (Some last)
 
--- ---- what counts of a line: all but the contents that are checked for their form alone
+-- ---- the part of a line that counts: all except contents whose format alone is checked
 
 abbrev pub bare_told : Told → Told
 bare_told (told_visit v) = told_visit v
@@ -52,7 +52,7 @@ pub record IsLine (s : Says) : Type 0 where
   pub is : says_text s ≡ line ++ 10 ∷ []
   pub one : has_byte 10 line ≡ false
 
--- what counts of a line is read of it
+-- the part of a line that counts is read from it
 pub record ReadAs (read : Option Says) (s : Says) : Type 0 where
   pub found : Says
   pub is : read ≡ Some found

@@ -1,4 +1,4 @@
--- A byte of a quoted text: what is read after it, and the byte that it ends, if any.
+-- A byte of a quoted text: the state after it, and the byte that it completes, if any.
 use Rattle.std.specs.Prelude.{ℕ, ◌+◌, ◌*◌, ◌%◌, nat_eq, if◌then◌else◌, List, [], ◌∷◌}
 use Rattle.std.specs.Char.{digit_value}
 use Rattle.report_reader.specs.declared.quoted.Reading.{Reading}

@@ -1,6 +1,6 @@
 -- The words of a line (this project's own): where they are cut, and which number, bytes, code or
--- command each may mean. Each is something for any bytes; whether a line is printed so is tested
--- after it.
+-- command each may mean. Each is defined for any bytes; whether the line is printed so is tested
+-- afterwards.
 use Rattle.std.specs.Prelude.{ℕ, ◌+◌, ◌-◌, ◌*◌, ◌%◌, ◌^◌, nat_eq, if◌then◌else◌, List, [], ◌∷◌, fold, reverse, unwrap_or}
 use Rattle.std.specs.Char.{digit_value}
 use Rattle.std.specs.List.{find}
@@ -38,8 +38,8 @@ last_word text = reverse (before_space (reverse text))
 abbrev pub before_last : List ℕ → List ℕ
 before_last text = reverse (after_space (reverse text))
 
--- the number of 64 bits that decimal digits may mean, and the one of 32 bits that hexadecimal
--- digits may
+-- the number of 64 bits that decimal digits may mean, and the number of 32 bits that hexadecimal
+-- digits may mean
 abbrev pub guessed_number : List ℕ → ℕ
 guessed_number digits = fold (λ value digit. (value * 10 % 2 ^ 64 + (digit - 48)) % 2 ^ 64) 0 digits
 

@@ -22,7 +22,7 @@ pub enum ReportedOutcome {
     Closed,
 }
 
-/// What a line says, as far as it matters.
+/// What a line says, as far as the checker needs it.
 #[derive(Debug, Drop)]
 pub enum Form {
     /// A line before the result, of the transaction with this number: a line of a stack that was

@@ -65,7 +65,7 @@ impl ResultGuess {
         }
     }
 
-    // What counts of it.
+    // The part of it that counts.
     fn outcome(&self) -> ReportedOutcome
         ensures { result_of result ≡ bare_result (result_in self.now) }
     {

@@ -6,7 +6,7 @@ ghost use Rattle.report_reader.specs.Says.{Says, says_text};
 
 use crate::form::Form;
 
-/// Whether a text is a line with its newline.
+/// Whether a text is this line with its newline.
 pub fn is_line(text: &str, line: &[u8]) -> bool
     ensures { result ≡ bytes_eq text.now (line.now ++ 10 ∷ []) }
 {

@@ -118,7 +118,7 @@ impl ShownGuess {
         }
     }
 
-    /// What counts of it.
+    /// The part of it that counts.
     pub fn answer(&self) -> ReportedAnswer
         ensures { shown_of result ≡ bare_shown (shown_in self.now) }
     {

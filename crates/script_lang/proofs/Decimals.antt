@@ -42,12 +42,12 @@ one_more n digits le w =
 writes : (n : ℕ) → n < 2 ^ 64 → Writes n (decimal n)
 writes n lt = decimal_by_steps Writes one_digit one_more n lt
 
--- ---- what follows for the words of a line
+-- ---- what that means for the words of a line
 
 digit_not : (byte x : ℕ) → is_digit x 10 ≡ true → is_digit byte 10 ≡ false → eqb x byte ≡ false
 digit_not byte x one none = ne_eqb x byte (λ e. let both : ◌≡◌ {A = Bool} true false = sym one ∙ ap (λ (b : ℕ). is_digit b 10) e ∙ none in cc)
 
--- digits hold no other byte
+-- digits contain no other byte
 lacks_byte : (byte : ℕ) (digits : List ℕ) → is_digit byte 10 ≡ false → are_digits digits ≡ true → has_byte byte digits ≡ false
 unfolding are_digits
 lacks_byte byte [] none e = refl

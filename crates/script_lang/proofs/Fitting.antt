@@ -1,4 +1,4 @@
--- What is read from a line may be asked.
+-- A step that is read from a line may be asked for.
 use Rattle.std.proofs.Common.{◌≡◌, ℕ, zero, suc, ◌≤◌, Bool, true, false, List, [], ◌∷◌, length, drop, get_or, Option, Some, None, Result, Ok, Err, IfOk, nat_lt, nat_le, cond, refl, ap, subst, arith, length-append}
 use Rattle.std.proofs.lemmas.Bool.{ltb-true, le-leb, leb-true, and_parts}
 use Rattle.std.proofs.lemmas.Option.{slice_get-get_or}
@@ -30,7 +30,7 @@ drop-nil : (n : ℕ) → drop {A = List ℕ} n [] ≡ []
 drop-nil zero = refl
 drop-nil (suc n) = refl
 
--- the words from one on are no longer than all, with the spaces between them
+-- the words from one of them on aren't longer than all words with the spaces between them
 length-join-drop : (n : ℕ) (words : List (List ℕ)) → length (join_with_byte 32 (drop n words)) ≤ length (join_with_byte 32 words)
 length-join-drop zero words = omega arith
 length-join-drop (suc n) [] = omega arith
@@ -138,7 +138,7 @@ named_fit : (o : Option Command) (words : List (List ℕ)) (line : Line) → len
 named_fit None words line short e = absurd cc
 named_fit (Some command) words line short e = command_fit command words line short _ refl e
 
--- what a command's line is read as may be asked
+-- a line that was read with a command may be applied
 pub read_fit : (text : List ℕ) (r : Result Line (Refuse ScriptKind)) → length text ≤ 512 → IfOk r (λ line. command_line text ≡ Ok line) → IfOk r IsFit
 read_fit text (Ok line) short e = named_fit (command_of_word (first_word text)) (words_of text) line (rw (join-words_of text) short) e
 read_fit text (Err refusal) short e = tt

@@ -59,7 +59,7 @@ read_by_words : (text word : List ℕ) (command : Command) (words : List (List �
 read_by_words text word command words is named plain short =
     rw (without_return-return text, le-ltb 512 (length text) short, plain, is, named) refl
 
--- ---- the words that a step is written in have no space, and are read as they were meant
+-- ---- the words of a written step have no spaces, and are read as what they were written for
 
 name_byte : (b : ℕ) → is_name_byte b ≡ true → eqb b 32 ≡ false
 name_byte b e = ne_eqb b 32 (λ is. let both : ◌≡◌ {A = Bool} true false = sym e ∙ ap is_name_byte is in cc)
@@ -244,7 +244,7 @@ module _ (n : ℕ) (small : n < 2 ^ 32) where
   number-reads : number_of_word (decimal n) ≡ Some n
   number-reads = number_of_word-decimal n small
 
-  -- by the words of the step's line, and what its command makes of them
+  -- by the words of the step's line, and the call that its command makes from them
   by_words : (call : AppCall) (command : Command) (words : List (List ℕ)) → words_of (text_of_step (written n call)) ≡ word_of_call call ∷ words
       → command_of_word (word_of_call call) ≡ Some command → is_blank (text_of_step (written n call)) ≡ false
       → line_of_command (Some command) (word_of_call call ∷ words) ≡ step n call → ReadsItself n call

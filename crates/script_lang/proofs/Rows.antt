@@ -1,4 +1,4 @@
--- The definition computed on lines.
+-- Test cases: the definition, computed on lines.
 use Rattle.std.proofs.Common.{◌≡◌, ℕ, [], ◌++◌, replicate, Some, None, Ok, Err, codes, refl}
 use Rattle.std.specs.Fmt.{digits}
 use Rattle.pam_base.specs.declared.call.AppCall.{AppCall}
@@ -50,7 +50,7 @@ comment : parsed (codes "# start 1 login\r") ≡ Ok lines.Blank
 unfolding words_of
 comment = refl
 
--- the number of words comes before their forms
+-- the number of words is checked before their forms
 too_few_words : parsed (codes "end x") ≡ Err BadWord
 unfolding words_of
 too_few_words = refl

@@ -105,7 +105,8 @@ module _ (place : Position) (before : ℕ) (line rest : List ℕ) (is : words_of
   pub word_at-other : is_text place ≡ false → ◌≡◌ {A = Option (List ℕ)} (Some (first_word rest)) (word_at place before (words_of line))
   word_at-other e = rw e (first_of (words_of rest) (has_word rest) ∙ ap (λ (words : List (List ℕ)). slice_get words 0) is ∙ get-drop (words_of line) before)
 
--- whether a line has its words, by what follows the wanted ones and after the most
+-- whether a line has its words, by what follows the required words and by what follows the last
+-- allowed one
 module _ (places : List Position) (line : List ℕ) (wanted : ℕ) (least : Option (List ℕ)) (is_wanted : wanted ≡ wanted_of places) (behind : IsBehind least wanted (words_of line)) where
   enough : is_some least ≡ nat_lt (wanted_of places) (length (words_of line))
   enough = is_behind least line wanted behind ∙ ap (λ (n : ℕ). nat_lt n (length (words_of line))) is_wanted

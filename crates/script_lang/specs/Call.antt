@@ -1,5 +1,5 @@
--- What the commands make of the words at their places: the last column of the table (this project's own; the calls are
--- those of pam(3)).
+-- The calls that the commands make from the words at their places: the last column of the table
+-- (this project's own; the calls are those of pam(3)).
 use Rattle.pam_base.specs.declared.call.AppCall.{AppCall}
 use Rattle.pam_base.specs.declared.call.AppCall.TheVariants as calls
 use Rattle.pam_base.specs.declared.call.CallName.TheVariants as names

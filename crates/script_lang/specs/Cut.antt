@@ -10,7 +10,7 @@ use Rattle.script_lang.specs.Place.{form_of, is_wanted, is_text}
 abbrev pub first_word : List ℕ → List ℕ
 first_word line = unwrap_or (slice_get (words_of line) 0) []
 
--- the word after n others; at the place of a text all that follows, with the spaces between
+-- the word after n others; for a text everything that follows, with the spaces between
 abbrev pub word_at : Position → ℕ → List (List ℕ) → Option (List ℕ)
 word_at place before words =
     if is_text place && nat_lt before (length words)
@@ -24,7 +24,8 @@ wanted_of places = count_by is_wanted places
 abbrev pub most_of : List Position → ℕ
 most_of places = count_by (λ place. is_some (form_of place)) places
 
--- whether there are as many words after the command's as the places ask for; a text is as many words as it likes
+-- whether there are as many words after the command's as the places ask for; a text may be any
+-- number of words
 abbrev pub has_its_words : List Position → List (List ℕ) → Bool
 has_its_words places words =
     nat_lt (wanted_of places) (length words)

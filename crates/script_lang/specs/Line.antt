@@ -24,7 +24,7 @@ abbrev pub is_blank : List ℕ → Bool
 is_blank [] = true
 is_blank (b ∷ bs) = b == 35
 
--- what a command makes of its words, or their leftmost fault
+-- the line that a command makes from its words, or their leftmost fault
 abbrev pub line_or_fault : Command → Result Meanings ScriptKind → Result Line ScriptKind
 line_or_fault command (Ok said) = Ok (line_made command said)
 line_or_fault command (Err fault) = Err fault

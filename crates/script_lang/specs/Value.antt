@@ -49,7 +49,7 @@ meanings_of v = record {
   third = meaning_of v.third;
 }
 
--- the same of a result
+-- the same for a result
 abbrev pub carried : Result Value ScriptKind → Result Meaning ScriptKind
 carried (Ok value) = Ok (meaning_of value)
 carried (Err fault) = Err fault
@@ -102,7 +102,7 @@ meanings_at places words =
     all_of (meaning_at (place_at places 0) 1 words) (meaning_at (place_at places 1) 2 words)
     (meaning_at (place_at places 2) 3 words)
 
--- ---- the parts of a call that a word gives; if there is none: 0, off, nothing or SERVICE
+-- ---- the parts of a call that are given by words; without a word: 0, off, nothing or SERVICE
 
 abbrev pub number_of : Meaning → ℕ
 number_of (number n) = n

@@ -1,5 +1,5 @@
-//! The language of scripts: what a line asks for, by a table of commands whose words reports print
-//! too. Begin at `line.rt`.
+//! The language of scripts: what a line asks for, by a table of commands, whose words reports
+//! print, too. Begin at `line.rt`.
 #![tactic(auto)]
 
 mod call;

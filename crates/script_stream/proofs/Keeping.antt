@@ -1,4 +1,4 @@
--- Lines are cut and refused as the stream wants it.
+-- Lines are cut and refused as the conditions on a stream require.
 use Rattle.std.proofs.Common.{◌≡◌, ℕ, ◌+◌, ◌≤◌, ◌<◌, ◌⊎◌, inl, inr, Bool, true, false, ◌||◌, leb, ltb, eqb, List, [], ◌∷◌, ◌++◌, length, take, drop, Option, Some, None, Result, Ok, refl, sym, ap, ◌∙◌, append_assoc, arith}
 use Rattle.std.proofs.lemmas.Bool.{le-ltb, lt-ltb, le-leb, lt-leb}
 use Rattle.std.proofs.lemmas.List.{nil_from_length}
@@ -58,7 +58,7 @@ last_front limit n held lim lt e =
 
 -- ---- laws
 
--- what is waited with has no newline
+-- bytes that wait for more have no newline
 no_lines : (ls more : List (List ℕ)) → ls ++ more ≡ [] → ls ≡ []
 no_lines [] more e = refl
 no_lines (l ∷ ls) more e = absurd cc

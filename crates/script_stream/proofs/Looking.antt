@@ -16,7 +16,7 @@ looked-line n line more ended e =
     let k : n + length (line ∷ (cut more).lines) ≡ (n + 1) + length (cut more).lines = omega arith in
     rw (cut-line line more e, k) refl
 
--- the last line, when it is looked at
+-- when the last line is looked at
 looked-one : (n : ℕ) (b : ℕ) (bs : List ℕ) (ended : Bool) → has_byte 10 (b ∷ bs) ≡ false → (ended || leb 65536 n || ltb 513 (length (b ∷ bs))) ≡ true
     → looked n (b ∷ bs) ended ≡ (b ∷ bs) ∷ []
 unfolding looked last_looked
@@ -76,7 +76,7 @@ unfolding cut
 rest-has_no_newline [] = refl
 rest-has_no_newline (x ∷ a) = rest-step x a (eqb x 10) refl (rest-has_no_newline a)
 
--- bytes without a newline stand before the first line
+-- bytes without a newline are the beginning of the first line
 unfoldable pub before : List ℕ → List (List ℕ) → List ℕ → Cut
 before r [] rest = record { lines = []; rest = r ++ rest }
 before r (l ∷ ls) rest = record { lines = (r ++ l) ∷ ls; rest = rest }

@@ -15,7 +15,7 @@ or_third true b c d e h = refl
 or_third false true c d e h = refl
 or_third false false c d e h = h e
 
--- the first line that is looked at, once its beginning is over
+-- the first line that is looked at, once enough of it has been read
 record IsFirst (n : ℕ) (r more : List ℕ) (ended : Bool) : Type 0 where
   line : List ℕ
   others : List (List ℕ)
@@ -38,7 +38,7 @@ first_by n x xs more ended [] rest over e =
     record { line = (x ∷ xs) ++ rest; others = []; longer = omega (arith, length-append (x ∷ xs) rest); seen = rw (e, k, all) refl }
 
 module _ {State : Type 0} (step : LineStep State) where
-  -- a line that is too long, or one too many, stays so
+  -- a line that is too long, or one too many, is so whatever follows
   over_by : (n : ℕ) (d : State) (r f : List ℕ) (t : Bool) → leb 65536 n ≡ t → (t || ltb 513 (length r)) ≡ true → length r ≤ length f
       → (j : ScriptKind) × (step_at step n d r ≡ Err j) × (step_at step n d f ≡ Err j)
   unfolding step_at

@@ -1,4 +1,5 @@
--- Worked rows of a run, computed, over a step that counts lines and gives each back, and refuses the line x.
+-- Test cases of runs, computed, for a step that counts lines, writes each as it is, and refuses the
+-- line x.
 use Rattle.std.specs.Prelude.{◌≡◌, ℕ, zero, suc, ◌+◌, Bool, true, false, List, [], ◌∷◌, ◌++◌, Some, None, Ok, Err, codes, refl, if◌then◌else◌}
 use Rattle.std.specs.Str.{bytes_eq}
 use Rattle.pam_base.specs.declared.fault.ScriptKind.TheVariants.{BadWord, LineTooLong, TooManyLines}

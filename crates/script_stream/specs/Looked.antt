@@ -2,7 +2,8 @@
 use Rattle.std.specs.Prelude.{◌⊎◌, ℕ, ◌+◌, ◌≤◌, ◌<◌, Bool, List, [], ◌∷◌, ◌++◌, length, ◌||◌, if◌then◌else◌, nat_le, nat_lt}
 use Rattle.pam_base.specs.Lines.{cut}
 
--- The most bytes of a line that are held without its newline: 512 of the line, and a carriage return.
+-- The maximum number of bytes of a line that are held without its newline: 512 of the line, and a
+-- carriage return.
 abbrev pub held_limit : ℕ
 held_limit = 513
 

@@ -11,7 +11,8 @@ abbrev pub LineStep : Type 0 → Type 0
 LineStep State = State → List ℕ → Result (State × List ℕ) ScriptKind
 
 -- A line that has n lines before it. Line 65,537 is refused, and so is a line of more than `held_limit` bytes,
--- whatever it ends with; one of exactly that many may end with a carriage return, which is for the step to say.
+-- whatever it ends with; one of exactly that many bytes may end with a carriage return, and the
+-- step decides about it.
 unfoldable pub step_at : {State : Type 0} → LineStep State → ℕ → State → List ℕ
     → Result (State × List ℕ) ScriptKind
 step_at step n s line =

@@ -22,7 +22,7 @@ abbrev pub IsBegun : {State : Type 0} → LineStep State → LineFails State →
     → State → Type 0
 IsBegun step Fails = items.IsBegun (step_at step) Fails
 
--- one line is served
+-- one line is served: it is applied and its text written, or it is refused
 abbrev pub ServesItem : {State : Type 0} → LineStep State → LineFails State
     → Result (Option ScriptKind) Stop → ℕ → List ℕ → State → State → SinkState
     → SinkState → Type 0
@@ -54,6 +54,6 @@ abbrev pub Runs : {State : Type 0} → LineStep State → LineFails State → Re
     → SinkState → Type 0
 Runs step Fails = whole.Runs looked (step_at step) Fails
 
--- the limit for a line: none may begin if there are too many
+-- the limit for a line; it is 0 if no more lines are allowed
 abbrev pub IsLimit : ℕ → ℕ → Type 0
 IsLimit limit lines = ((limit ≡ held_limit) × (lines < 65536)) ⊎ ((limit ≡ 0) × (65536 ≤ lines))

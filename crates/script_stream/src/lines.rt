@@ -22,7 +22,7 @@ pub trait LineStepping {
     ghost fails: { Setting → State → List ℕ → State → Type 0 };
 }
 
-/// The stream of the lines that do so.
+/// The stream of such lines.
 pub struct Lines<R: LineStepping> {
     of: PhantomData<R>,
 }

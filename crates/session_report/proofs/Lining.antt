@@ -8,7 +8,7 @@ line_added : {T : Type 0} (line : T → List ℕ) (items : List T) (i : ℕ) (it
     → flat_map line (take (i + 1) items) ≡ flat_map line (take i items) ++ line item
 line_added line items i item is below = rw (take_more items i item below) (grind (arith, common_steps, flat_map-append))
 
--- after what stood there before, `text` has the report so far, and `grown` the next item's line too
+-- after the text from before, `text` has the report so far, and `grown` also the next item's line
 pub line_joined : {T : Type 0} (line : T → List ℕ) (items : List T) (i : ℕ) (item : T) (before text grown : List ℕ) → item ≡ get_or items i item
     → i < length items → text ≡ before ++ flat_map line (take i items) → grown ≡ text ++ line item
     → grown ≡ before ++ flat_map line (take (i + 1) items)

@@ -1,4 +1,5 @@
--- Worked reports, computed: what the steps of some transactions reported and returned, and their lines.
+-- Test cases of reports, computed: what the steps of some transactions reported and returned, and
+-- their lines.
 use Rattle.std.specs.Prelude.{◌≡◌, ℕ, true, List, [], ◌∷◌, ◌++◌, codes, Some, None}
 use Rattle.std.proofs.Common.{refl}
 use Rattle.std.specs.Fmt.{digits}
@@ -76,7 +77,7 @@ passed visits code = record (answers_only 0 (answers.Code code)) { trail = visit
 abbrev told : AppCall → PlainOutcome → PlainLedger → List ℕ
 told call outcome ledger = step_text names (record { number = 1; call = call }) outcome ledger
 
--- nothing but a result
+-- only a result
 abbrev answered : AppCall → Answer → List ℕ
 answered call answer = told call (answers_only 0 answer) no_data
 

@@ -1,4 +1,4 @@
--- The modules that lines of a started service name and that aren't there (this project's own).
+-- The modules that lines of a started service name and that don't exist (this project's own).
 use Rattle.std.specs.Prelude.{ℕ, List}
 use Rattle.std.specs.List.{flat_map}
 use Rattle.report_lines.specs.Line.{missing_text}

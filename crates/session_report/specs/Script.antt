@@ -2,6 +2,6 @@
 use Rattle.std.specs.Prelude.{ℕ, List, Some}
 use Rattle.report_lines.specs.Line.{last_text, unread}
 
--- the script couldn't be read on
+-- reading the script failed
 abbrev pub read_fault_text : List ℕ
 read_fault_text = last_text (Some unread)

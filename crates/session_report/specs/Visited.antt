@@ -11,6 +11,6 @@ abbrev pub visit_text : ℕ → Visit → List ℕ
 visit_text handle visit =
     lines.visit_text handle (seen_at visit.place (name_of_module visit.path) visit.answer)
 
--- one for each
+-- a line for each of them
 abbrev pub visits_text : ℕ → List Visit → List ℕ
 visits_text handle visits = flat_map (visit_text handle) visits

@@ -33,7 +33,7 @@ pub(crate) fn write_answer(
     }
 }
 
-// A line for each variable, in order, and the line of their number.
+// Adds a line for each variable, in order, and the line with their number.
 fn write_environment(
     text: &mut String,
     handle: u32,

@@ -33,7 +33,7 @@ pub(crate) fn write_cleanups(
     Ok(())
 }
 
-// The line of a cleanup record, whose data set is at its number.
+// Adds the line of a cleanup record.
 fn write_filed(
     text: &mut String,
     handle: u32,

@@ -1,7 +1,7 @@
 //! The lines of the report: what a step of the script did and returned, the end of a transaction by the program, and
 //! the last line of a run that stopped. Each text is complete before any of it is written.
 //!
-//! Begin at step.rt, which puts the lines of a step together from those of the other files.
+//! Begin at step.rt, which assembles the lines of a step from those of the other files.
 #![tactic(auto)]
 
 mod answered;
