@@ -70,7 +70,7 @@ module _ (texts : List ℕ → Option (List ℕ)) (fails : List ℕ) where
   unfolding look
   nothing_added c = stays c
 
-  -- one item, and those behind it
+  -- one item, and those after it
   item_adds : (i : Item) (is : List Item) (m n : ℕ) → ((c : Counts) → Adds (behind texts fails c i) c.lines m) → AddsAll is n → AddsAll (i ∷ is) (m + n)
   unfolding look
   item_adds i is m n one rest c = both_add (behind texts fails c i) c.lines m n (λ d. look texts fails d is) (one c) rest

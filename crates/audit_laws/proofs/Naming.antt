@@ -221,7 +221,7 @@ named_if : (b : Bool) (x y : Stack) → AreNamed x → AreNamed y → AreNamed (
 named_if true x y a b = a
 named_if false x y a b = b
 
--- what holds of a result that is no fault
+-- what holds of a result that isn't a fault
 abbrev pub OnGood : {A E : Type 0} → (A → Type 0) → Result A E → Type 0
 OnGood P (Ok x) = P x
 OnGood P (Err e) = Unit {0}

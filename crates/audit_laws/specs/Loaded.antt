@@ -26,7 +26,7 @@ pub record AreLoaded (stacks : Stacks) : Type 0 where
 abbrev pub LoadedArePrintable : Type 0
 LoadedArePrintable = (stacks : Stacks) → AreLoaded stacks → ArePrintable stacks
 
--- no files are of bytes, and so are those of which one was set to bytes
+-- files of bytes stay files of bytes if one of them is set to bytes
 abbrev pub SetFilesAreOfBytes : Type 0
 SetFilesAreOfBytes = (path bytes : List ℕ) (files : List File) → AreBytes bytes → AreOfBytes files
     → AreOfBytes (file_put path bytes files)

@@ -83,7 +83,7 @@ module _ (setting : Setting) where
   lines_looked ReadFault input taken = looked 0 taken false
   lines_looked ending input taken = looked 0 input true
 
--- the blocks of the transactions that the program ends, after some places that are closed
+-- the blocks of the transactions that the program ends, after some slots that are closed
 abbrev pub closing_blocks : List Player → Code → List PlainSlot → List PlainSlot → PlainWorld → List Block
 closing_blocks players status front [] w = []
 closing_blocks players status front (closed conv ∷ slots) w = closing_blocks players status (front ++ closed conv ∷ []) slots w
@@ -111,7 +111,7 @@ RunsFit = (setting : Setting) (stacks : Stacks) (ending : Ending) (start end : R
     StartsFind setting stacks 0 start (lines_looked setting ending input taken) →
     Fits stacks text
 
--- The same of what a run writes to a modelled sink, whichever way it ended.
+-- The same for what a run writes to a modelled sink, however it ended.
 abbrev pub ScriptsFit : Type 0
 ScriptsFit = (setting : Setting) (stacks : Stacks) (ending : Ending) (start end : RunState) (x y : SourceState) (p q : SinkState) →
     (r : RunsScript setting (Ok ending) start end x y p q) →

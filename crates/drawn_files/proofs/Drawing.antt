@@ -1,4 +1,4 @@
--- Number after number, line after line, and choice after choice.
+-- Generated numbers, lines and choices, one after another.
 use Rattle.std.proofs.Common.{◌≡◌, ℕ, zero, suc, ◌+◌, ◌-◌, ◌*◌, ◌/◌, ◌≤◌, Bool, true, false, cond, List, [], ◌∷◌, ◌++◌, map, refl, sym, ap, ◌∙◌, add-one, arith}
 use Rattle.std.proofs.lemmas.List.{append-nil}
 use Rattle.std.proofs.lemmas.List.Concat.{flat_map-append}
@@ -19,7 +19,7 @@ module _ (seed n s : ℕ) (at : s ≡ state_after seed n) where
   pub draw_is : next_state s / 65536 ≡ draw seed n
   draw_is = ap (λ (x : ℕ). x / 65536) next_is
 
--- one number more
+-- one more number
 range_suc : (a n : ℕ) → range_with_len a (suc n) ≡ range_with_len a n ++ (a + n) ∷ []
 range_suc a zero = ap (λ (x : ℕ). x ∷ []) (omega arith)
 range_suc a (suc n) = ap (λ (t : List ℕ). a ∷ t) (range_suc (a + 1) n ∙ ap (λ (x : ℕ). range_with_len (a + 1) n ++ x ∷ []) (omega arith))
@@ -70,7 +70,7 @@ line_drawn seed before s at t u v a b c x y z old new ts us vs p q r xs ys zs is
     zs ∙ ap (picked answer_words) (r ∙ draw_is seed (n + 1 + 1) u at_u ∙ ap (draw seed) (omega arith)) in
     (is ∙ rw (x_is, y_is, z_is) refl, at_v ∙ ap (state_after seed) (omega arith))
 
--- one file more
+-- one more file
 pub next_file : {A : Type 0} (f : ℕ → A) (old new : List A) (file : A) (k : ℕ) → 1 ≤ k → old ≡ map f (range_with_len 1 (k - 1))
     → new ≡ old ++ file ∷ [] → file ≡ f k → new ≡ map f (range_with_len 1 (k + 1 - 1))
 next_file f old new file k le so is here =

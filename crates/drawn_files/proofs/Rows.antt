@@ -1,4 +1,4 @@
--- Worked rows, computed on the definitions.
+-- Test cases, computed on the definitions.
 use Rattle.std.proofs.Common.{◌≡◌, ℕ, List, [], ◌∷◌, codes, refl}
 use Rattle.std.specs.Fmt.{digits}
 use Rattle.drawn_files.specs.declared.files.DrawnFile.{DrawnFile}

@@ -1,4 +1,5 @@
--- The module of the example: authenticate knows the user `guest` and nobody else; every other function says yes.
+-- The module of the example: authenticate knows the user `guest` and nobody else; every other
+-- function returns SUCCESS.
 use Rattle.std.specs.Prelude.{ℕ, Bool, false, List, Option, Some, None, codes, if◌then◌else◌}
 use Rattle.std.specs.Str.{bytes_eq}
 use Rattle.pam_base.specs.declared.code.Code.{Code}

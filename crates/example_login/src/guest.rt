@@ -7,7 +7,7 @@ use pam_base::{Code, Func, ItemName};
 use pam_room::item_store::Items;
 use pam_room::{Call, get_item};
 
-/// A module of the application's own: who is named `guest` is known, and nobody else.
+/// A module of the application's own: only a user named `guest` is known.
 pub type Guest = AtOnceModule<GuestRules>;
 
 /// What `Guest` returns.

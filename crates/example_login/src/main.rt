@@ -63,7 +63,7 @@ fn main(rt: HostRuntime) -> io::Result<ExitCode> {
     Ok(ExitCode::from(code_number(code) as u8))
 }
 
-// The calls of a login program, up to the first that isn't SUCCESS.
+// Makes the calls of a login program, up to the first that doesn't return SUCCESS.
 fn let_in(
     alloc: Global,
     gear: &Gear,

@@ -38,12 +38,12 @@ pub record IsExplained (e : Output) (w : Written) : Type 0 where
   pub status : e.status ≡ w.status
   pub text : string_bytes e.text ≡ w.text
 
--- by the first line that doesn't fit, if there is one
+-- the exit status, by the first line that doesn't fit, if there is one
 abbrev pub explained_by : Option ℕ → List ℕ → Written
 explained_by None text = written 0 text
 explained_by (Some line) text = written 11 (codes "differs " ++ (decimal line ++ codes "\n"))
 
--- of a report, with the rules of the stacks at these sources
+-- of a report, with the rules of the stacks written at these places
 abbrev pub explained_of : Stacks → Sources → List ℕ → Written
 explained_of stacks sources report =
     explained_by (differs stacks (lines_read read_line report))
@@ -106,12 +106,12 @@ IsOutputOf e report before now =
 
 -- ---- by the results of its parts
 
--- by why there are no stacks; if an allocation failed, nothing is written
+-- if there are no stacks, by the reason; if an allocation failed, nothing is written
 abbrev pub IsRefused : Output → Refuse LoadFault → Type 0
 IsRefused e (Named fault) = IsExplained e (refused_explained fault)
 IsRefused e NoMemory = ⊥
 
--- by what was found of the places of the rules
+-- by whether the places of the rules were found
 abbrev pub IsExplainedWith : Output → Stacks → Result Sources (Refuse Failed) → List ℕ → Type 0
 IsExplainedWith e stacks (Ok sources) report = IsExplained e (explained_of stacks sources report)
 IsExplainedWith e stacks (Err (Named failed)) report = IsExplained e unread_explained

@@ -23,7 +23,7 @@ asked_of (root ∷ service ∷ []) =
     Some (record { root = string_bytes root; service = string_bytes service })
 asked_of words = None
 
--- what was found in them
+-- the command that was found in them
 abbrev pub asked : Option Target → Option Asked
 asked None = None
 asked (Some place) = Some (record { root = place.root.now; service = place.service.now })
@@ -65,7 +65,7 @@ Answers P None old input new before now = P usage_written
 Answers P (Some words) old input new before now =
     ExplainsInput P old words.root words.service input new before now
 
--- the text is written, or a prefix of it by status 6
+-- the text is written, or with status 6 a prefix of it
 pub record Exits (status : ℕ) (w : Written) (old new : SinkState) : Type 0 where
   pub front : List ℕ
   pub back : List ℕ
@@ -73,7 +73,7 @@ pub record Exits (status : ℕ) (w : Written) (old new : SinkState) : Type 0 whe
   pub adds : new.written ≡ old.written ++ front
   pub ends : ((status ≡ w.status) × (front ≡ w.text)) ⊎ (status ≡ 6)
 
--- nothing is written by status 4, if an allocation failed
+-- if an allocation failed, nothing is written and the status is 4
 abbrev pub Ends : ℕ → Option Asked → VaultState → List ℕ → VaultState → ℕ → ℕ → SinkState
     → SinkState → Type 0
 Ends status words old input new before now out_old out_new =

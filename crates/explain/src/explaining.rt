@@ -32,8 +32,8 @@ pub struct Output {
 /// root, or the first fault of its configuration.
 ///
 /// The service is loaded, and its files are then read once more for the places of its rules. If an
-/// access fails then, nothing is written, by status 5. Of the world only the counts of `Vault`
-/// change.
+/// access fails then, nothing is written, and the status is 5. Of the world only the counts of
+/// `Vault` change.
 pub fn explanation(
     alloc: Global,
     root: &[u8],
@@ -93,7 +93,7 @@ fn explained_by(
     explained_with(alloc, trees, found, report)
 }
 
-// By what was found of the places of the rules.
+// The output, by whether the places of the rules were found.
 fn explained_with(
     alloc: Global,
     trees: &Trees,
@@ -158,7 +158,7 @@ fn explained(
     }
 }
 
-/// A line, by this status.
+/// An output of one line, with this status.
 pub fn line_by(alloc: Global, status: u8, line: &str) -> Result<Output, NoMemory>
     ensures { IfOk result (λ output. IsExplained output (written status line.now)) }
 {

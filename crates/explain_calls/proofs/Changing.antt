@@ -9,7 +9,7 @@ use Rattle.pass_replay.specs.dispatch_core.specs.Calls.{Held}
 use Rattle.explain_lines.specs.Origins.{Sources}
 use Rattle.explain_calls.specs.Calls.{change_text, check_text}
 
--- what follows from a fact of a success
+-- what follows from a fact about a success
 on_ok : {A E P Q : Type 0} (r : Result A E) → (P → Q) → OnOk r P → OnOk r Q
 on_ok (Ok x) f p = f p
 on_ok (Err e) f p = tt

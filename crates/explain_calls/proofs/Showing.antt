@@ -68,7 +68,7 @@ over_sub why first at all here inner rest before shown new was is adds =
     ∙ ap (λ (s : Stack). shown ++ rows_over why (at + 1) s) (sym is) ∙ was
 
 module _ {State : Type 0} (kind : PassKind) (serve : Serving State) where
-  -- `here` is left of a walk over all, of which these rows are shown
+  -- a walk over the whole list of which `here` is left, and whose rows so far are these
   pub record IsShowing (all : Stack) (first : ℕ) (entry : Opinion) (start : State) (reason : Fate) (before : List Row) (here : Stack) (skip at : ℕ) (opinion : Opinion) (state : State) (why : Fate) (shown : List Row) : Type 0 where
     pub shows : shown ++ rows kind serve skip why here (at + 1) entry opinion state ≡ before ++ rows kind serve 0 reason all (first + 1) entry entry start
 

@@ -27,7 +27,7 @@ rows_over why at none = []
 rows_over why at (line rule rest) = row_of at rule why ∷ rows_over why (at + 1) rest
 rows_over why at (sub inner rest) = rows_over why at inner ++ rows_over why (at + lines_in inner) rest
 
--- why nodes are skipped after the line of a rule, by where its list goes on
+-- why nodes are skipped after the line of a rule, given where its list goes on
 abbrev pub why_by : Next → ℕ → Fate
 why_by (after n) at = Jumped at
 why_by stop at = Ended at

@@ -14,7 +14,7 @@ use pass_replay::replay::begun;
 use stack_walk::{Opinion, PassKind, Seen};
 use std::alloc::Global;
 
-/// By what a run of a stack is replayed.
+/// What a run of a stack is replayed from.
 #[derive(Clone, Copy)]
 pub struct Run<'a> {
     pub kind: PassKind,

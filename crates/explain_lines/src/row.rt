@@ -18,7 +18,7 @@ pub enum Fate {
         /// The state of the stack after it.
         state: Opinion,
     },
-    /// Its module was run, and the call waits at it.
+    /// Its module was run, and the call waits at this line.
     Waits,
     /// The rule with this number jumped over it.
     Jumped {

@@ -1,4 +1,4 @@
--- What is left of a stack with places once these are forgotten.
+-- A stack with places, without the places.
 use Rattle.std.proofs.Common.{◌≡◌, ℕ, zero, suc, ◌+◌, Bool, true, false, cond, eqb, List, [], ◌∷◌, length, length-append, Option, refl, ap, ◌∙◌, arith}
 use Rattle.std.proofs.lemmas.Bool.{eqb-true}
 use Rattle.control_words.specs.Stack.{Stack, none, line, sub, joined, count, lines_in}
@@ -22,7 +22,7 @@ places_each nothing = refl
 places_each (rule_at origin rule rest) = omega (arith, places_each rest)
 places_each (within inner rest) = omega (arith, length-append (places inner) (places rest), places_each inner, places_each rest)
 
--- the same list is empty
+-- if the one list is empty, so is the other
 not_true : (b : Bool) → (b ≡ true → ⊥) → b ≡ false
 not_true true never = absurd (never refl)
 not_true false never = refl

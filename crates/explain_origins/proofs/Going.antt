@@ -149,7 +149,7 @@ module _ (deeper : List ℕ → Placed) (type : RuleType) (name : List ℕ) wher
   not-not true = refl
   not-not false = refl
 
-  -- one rule more
+  -- one more rule
   pub going_on : (in_folder : Bool) (service : Option (List ℕ)) (all : List RawRule) (i : ℕ) (rule : RawRule) (before now new : List Origin) (any found any' : Bool) (step : Step)
       → i < length all → rule ≡ get_or all i rule
       → step ≡ step_of_rules type in_folder (own_rule service rule) → new ≡ now ++ places_by step → nothing_by step ≡ not found → any' ≡ (any || found)

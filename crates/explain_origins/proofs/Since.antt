@@ -20,7 +20,7 @@ same_texts root old new only = ap (texts_of root) only
 pub only_more : (a b c : VaultState) → OnlyCalls a b → OnlyCalls b c → OnlyCalls a c
 only_more a b c one two = two ∙ ap (λ (v : VaultState). record v { calls = c.calls }) one
 
--- what a file adds, said of the files as they were
+-- what a file adds, stated for the files as they were
 pub adds_since : (found : Bool) (before after : List Origin) (root : List ℕ) (old new : VaultState) (level : ℕ) (type : RuleType) (file : RuleFile) → OnlyCalls old new
     → Adds found before after (placed_at (texts_of root new) level type file) → Adds found before after (placed_at (texts_of root old) level type file)
 adds_since found before after root old new level type file only =

@@ -7,7 +7,7 @@ use Rattle.control_words.specs.conf_lex.specs.declared.token.RawRule.{RawRule}
 use Rattle.control_words.specs.conf_lex.specs.declared.token.LexFault.{LexFault}
 use Rattle.service_load.specs.Files.{held_in_conf, held_answer, held_text, rules_held, own_rules}
 
--- a file that isn't there
+-- a file that doesn't exist
 pub none_held : (service text : Option (List ℕ)) → text ≡ None → rules_held (held_text service text) ≡ []
 none_held service text is = rw is refl
 
@@ -30,7 +30,7 @@ by_answer : (service : Option (List ℕ)) (rules : List RawRule) → rules_held 
 by_answer None rules = refl
 by_answer (Some service) rules = in_conf (own_rules (Some service) rules)
 
--- another one
+-- a file without a fault
 pub rules_are_held : (service text : Option (List ℕ)) (bytes : List ℕ) (rules : List RawRule) → text ≡ Some bytes → answer_to bytes ≡ Ok rules
     → rules_held (held_text service text) ≡ own_rules service rules
 rules_are_held service text bytes rules is read = rw (is, read) (by_answer service rules)

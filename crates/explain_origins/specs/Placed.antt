@@ -50,7 +50,7 @@ content_placed deeper name number (Line rule) =
 content_placed deeper name number (Include file) = deeper file
 content_placed deeper name number (Substack file) = within (deeper file) nothing
 
--- and if it is for the type
+-- what it adds to the stack of a type: nothing unless it is for that type
 abbrev pub entry_placed : (List ℕ → Placed) → RuleType → List ℕ → ConfigEntry → Placed
 entry_placed deeper type name entry = if serves type entry.rule_type
     then content_placed deeper name entry.line entry.content else nothing
@@ -66,14 +66,14 @@ abbrev pub placed_if : Placed → Placed → Placed
 placed_if own other = if is_nothing own then other else own
 
 module _ (texts : List ℕ → Option (List ℕ)) where
-  -- what a file adds for a type, if n levels of files may open: nothing above the last
+  -- what a file adds for a type, if n more levels of files may be opened: nothing beyond them
   unfoldable pub placed : ℕ → RuleType → RuleFile → Placed
   placed zero type file = nothing
   placed (suc levels) type file =
       placed_of (λ name. placed levels type (plain_file name)) type file.name
       (entries_of (is_in_folder file) (rules_held (held texts file)))
 
-  -- of a service's file for a type, at level 0 of 16, or of the file of `other`
+  -- what a service's file adds for a type, at level 0 of 16, or the file of `other`
   abbrev pub placed_from : RuleFile → RuleFile → RuleType → Placed
   placed_from own other type = placed_if (placed 17 type own) (placed 17 type other)
 

@@ -47,7 +47,7 @@ step_at line (contents.Line rule) = Line line
 step_at line (contents.Include name) = File name false
 step_at line (contents.Substack name) = File name true
 
--- one with a fault adds nothing
+-- a rule with a fault adds nothing
 abbrev pub step_from : ℕ → Result RuleContent FaultKind → Step
 step_from line (Ok content) = step_at line content
 step_from line (Err kind) = Nothing
@@ -57,7 +57,7 @@ abbrev pub step_to : Bool → Result (List ℕ) FaultKind → Step
 step_to as_substack (Ok name) = File name as_substack
 step_to as_substack (Err kind) = Nothing
 
--- and if it is for the type
+-- what it adds to the stack of a type: nothing unless it is for that type
 abbrev pub step_by : RuleType → Result ConfigEntry FaultKind → Step
 step_by type (Ok entry) =
     if serves type entry.rule_type then step_at entry.line entry.content else Nothing

@@ -64,8 +64,8 @@ fn has_folder(alloc: Global, vault: &mut dyn Vault, root: &[u8]) -> Result<bool,
     }
 }
 
-// Those of one type: of the service's own file or, if that adds neither line nor substack, of the
-// file of `other`.
+// The rules of one type: those of the service's own file or, if that adds neither line nor
+// substack, of the file of `other`.
 fn origins_of(
     alloc: Global,
     vault: &mut dyn Vault,

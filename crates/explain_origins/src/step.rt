@@ -37,7 +37,7 @@ pub fn step_of(
     }
 }
 
-// By the first of the tokens.
+// What a rule adds, by its first token.
 fn step_by_type(
     alloc: Global,
     rule_type: RuleType,

@@ -47,7 +47,7 @@ module _ (stacks : Stacks) (sources : Sources) where
       ap (λ (next : Option (List SlotLog)). text ++ (own ++ text_behind stacks sources next left)) fits
       ∙ sym (append_assoc text own (left behind)) ∙ ap (λ (xs : List ℕ). xs ++ left behind) (sym adds)
 
-  -- and one that doesn't
+  -- a result that doesn't
   pub result_differs : (number : ℕ) (places : List SlotLog) (told : List Told) (result : Result) (text after : List ℕ) (lines : List (Option Says))
       → after ≡ text ++ block_text stacks sources number (place_at places number) (visits_told told) result
       → behind_block stacks places (block_of number told result) ≡ None

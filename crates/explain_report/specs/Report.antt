@@ -31,7 +31,7 @@ module _ (stacks : Stacks) (sources : Sources) where
   text_behind None next = []
   text_behind (Some places) next = next places
 
-  -- what some lines say, after places and the lines of the block that has begun
+  -- the text of some lines, after these slots and the lines of the block that has begun
   abbrev pub explained_from : List SlotLog → List Told → List (Option Says) → List ℕ
   explained_from places told [] = []
   explained_from places told (None ∷ lines) = []
@@ -43,7 +43,7 @@ module _ (stacks : Stacks) (sources : Sources) where
       ++ text_behind (behind_block stacks places (block_of number told result))
       (λ behind. explained_from behind [] lines)
 
-  -- what an explainer has still to write of some lines
+  -- what an explainer still has to write for some lines
   abbrev pub left_of : Explainer → List (Option Says) → List ℕ
   left_of e lines = explained_from (map place_of e.places.items) (told_in e.told.items) lines
 

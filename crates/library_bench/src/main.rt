@@ -1,7 +1,7 @@
-//! What a start and a pass cost by themselves, without a report. `library_bench LINES STARTS
-//! PASSES` has a service of LINES lines `auth required pam_permit.so` in memory, starts it STARTS
-//! times, and authenticates PASSES times after each start. It prints how many authentications let
-//! in; their cost is measured from outside (`bench/library.sh`).
+//! Measures what a start and a pass cost by themselves, without a report. `library_bench LINES
+//! STARTS PASSES` has a service of LINES lines `auth required pam_permit.so` in memory, starts it
+//! STARTS times, and authenticates PASSES times after each start. It prints how many
+//! authentications succeeded; their cost is measured from outside (`bench/library.sh`).
 #![tactic(auto)]
 
 ghost use Rattle.std.specs.Prelude.{IfOk};
@@ -51,7 +51,7 @@ fn main(rt: HostRuntime) -> io::Result<ExitCode> {
     }
 }
 
-// How many authentications of all starts let in; None if the service was refused, as it is with
+// How many authentications of all starts succeeded; None if the service was refused, as it is with
 // more lines than a stack may have.
 fn let_in(alloc: Global, lines: u32, starts: u32, passes: u32) -> Result<Option<u32>, NoMemory> {
     let mut mods: Vec<Box<dyn Module>> = Vec::new(alloc);
@@ -106,7 +106,7 @@ fn service_of(alloc: Global, lines: u32) -> Result<Vec<u8>, NoMemory> {
     Ok(text)
 }
 
-// Authenticates n times, and returns how many of them let in.
+// Authenticates n times, and returns how many of them succeeded.
 fn authenticate(
     alloc: Global,
     gear: &Gear,

@@ -1,4 +1,4 @@
--- A run with a delay function of which the number is known.
+-- A run with a delay function whose number is known.
 use Rattle.std.proofs.Common.{◌≡◌, ℕ, Bool, List, Option, sym, subst}
 use Rattle.pam_base.specs.declared.code.Code.{Code}
 use Rattle.fail_delay.specs.DelayFn.{IsNumberGiven}

@@ -6,14 +6,14 @@ use Rattle.pam_base.specs.declared.code.Code.TheVariants as results
 use Rattle.session_program.specs.Command.{Command, runs, checks, logs_in, generates, tallies, audits, wires, wire_command}
 use Rattle.session_program.specs.Wire.{IsWireStatus}
 
--- The frames of a front end, under `/` if there is no argument. A process that has no rights but its
--- caller's may be given another root.
+-- The frames of a front end, under `/` if there is no argument. Another root may be given to a
+-- process that has only the rights of its caller.
 abbrev pub service_request : Bool → List (String Global) → Option Command
 service_request has_own_ids [] = Some (wires (codes "/"))
 service_request has_own_ids (root ∷ []) = if has_own_ids then wire_command (root ∷ []) else None
 service_request has_own_ids words = None
 
--- frames, or no command
+-- the command: frames, or none
 abbrev pub IsOfFrames : Option Command → Type 0
 IsOfFrames None = Unit {0}
 IsOfFrames (Some (wires root)) = Unit {0}

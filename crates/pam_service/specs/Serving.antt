@@ -1,4 +1,4 @@
--- A run of frames, as `pamsess` says of `wire` (this project's own).
+-- A run of frames, with what `pamsess` promises for `wire` (this project's own).
 use Rattle.std.specs.Prelude.{◌≡◌, ℕ, List, Option, Some}
 use Rattle.pam_outside.specs.Streams.{SourceState, SinkState}
 use Rattle.pam_room.specs.Module.{notes_of}

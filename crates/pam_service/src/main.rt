@@ -1,7 +1,7 @@
 //! `pam_service [ROOT]`: the frames of docs/wire.md for programs that really let somebody in, such as the C library of
-//! clients/libpam. It is `pamsess wire` with the system's clock and random words, with the process's real user as the
-//! caller, and with a conversation that waits for the front end. It never sleeps: after a failure the answer says how
-//! long to wait, and the front end waits.
+//! clients/libpam. It does what `pamsess wire` does, with the system's clock and random words, with
+//! the process's real user as the caller, and with a conversation that waits for the front end. It
+//! never sleeps: after a failure the answer says how long to wait, and the front end waits.
 //!
 //! Begin at `run`; `answer_frames` has the contract.
 #![tactic(auto)]
@@ -44,7 +44,7 @@ const LONGEST_WAIT: u32 = 60_000_000;
 /// The file that has a process's own user and group IDs.
 const STATUS: &str = "/proc/self/status";
 
-/// The most bytes of that file that are read.
+/// The maximum number of bytes of that file that are read.
 const MAX_STATUS: u32 = 65_536;
 
 /// The caller if the system doesn't say: nobody.
@@ -163,7 +163,7 @@ fn caller_of(user: &Option<Ids>) -> u32 {
     }
 }
 
-// Whether the process is known to have no rights but its caller's.
+// Whether the process is known to have only the rights of its caller.
 fn has_own_ids(user: &Option<Ids>, group: &Option<Ids>) -> bool {
     match (user, group) {
         (Some(user), Some(group)) => user.are_one() && group.are_one(),
@@ -171,8 +171,8 @@ fn has_own_ids(user: &Option<Ids>, group: &Option<Ids>) -> bool {
     }
 }
 
-// The arguments for the program: `wire /`, or `wire ROOT` if one argument names a root and the process has no rights
-// but its caller's. Otherwise none; then only the usage line is written.
+// The arguments for the program: `wire /`, or `wire ROOT` if one argument names a root and the
+// process has only the rights of its caller. Otherwise none; then only the usage line is written.
 fn words_for(alloc: Global, words: &[String], has_own_ids: bool) -> io::Result<Vec<String>>
     ensures request { IfOk result (λ asked. command_of asked.items
         ≡ service_request has_own_ids words.now) }
@@ -258,7 +258,7 @@ fn served_wait(code: Code, asked: u32) -> u32
     }
 }
 
-// Hands on which numbers a delay function returns.
+// Passes on which numbers a delay function returns.
 fn returns_served_wait(_delay: &DelayRule)
     requires { IsNumberGiven (⟦<DelayRule as Fn(Code, u32) -> u32>⟧.post _delay.now)
         served_wait }

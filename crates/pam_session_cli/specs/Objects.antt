@@ -7,7 +7,8 @@ use Rattle.pam_session_cli.specs.declared.objects.Time.TheVariants as time
 use Rattle.pam_session_cli.specs.declared.objects.Files.TheVariants as files
 use Rattle.pam_session_cli.specs.declared.objects.Replies.TheVariants as replies
 
--- login waits by the real clock, wire waits for a front end's replies, generate keeps its files in memory
+-- login sleeps by the real clock, wire waits for a front end's replies, generate keeps its files in
+-- memory
 abbrev pub objects_for : List ℕ → Objects
 objects_for command =
     if bytes_eq command (codes "login")

@@ -100,8 +100,8 @@ fn process_of_nobody(alloc: Global) -> Process
     }
 }
 
-// Calls it with the shipped modules, and a delay function that waits as long as requested, at most three seconds, and
-// doesn't wait after SUCCESS.
+// Calls it with the shipped modules, and a delay function that waits as long as requested, at most
+// three seconds, and not at all after SUCCESS.
 fn serve<S: Source, K: Sink>(
     alloc: Global,
     words: &[String],

@@ -28,7 +28,7 @@ pub enum Replies {
     Awaited,
 }
 
-/// The objects of the outside that `main` hands to the program.
+/// The objects of the outside that `main` passes to the program.
 #[derive(Clone, Copy, Debug)]
 pub struct Objects {
     pub time: Time,

@@ -263,7 +263,8 @@ fn words_of(alloc: Global, row: &Row) -> Result<Vec<String>, Fail> {
     Ok(words)
 }
 
-// Runs the program over a row. It is made in three functions, since each has to show what its ways out drop.
+// Runs the program on a test case. There are three functions, since each has to show what is
+// dropped on each of its exits.
 fn run_row(alloc: Global, row: &Row) -> Result<Ran, Fail> {
     let words = words_of(alloc, row)?;
     let text = Text::from_bytes(alloc, row.script)?;
@@ -276,7 +277,7 @@ fn run_row(alloc: Global, row: &Row) -> Result<Ran, Fail> {
     })
 }
 
-// Runs it in a world with the row's file.
+// Runs it in a world with the test case's file.
 fn run_over(
     alloc: Global,
     row: &Row,
@@ -304,7 +305,7 @@ fn run_over(
     })
 }
 
-// Runs it with the modules of the rows and sixteen conversations without replies.
+// Runs it with the modules of the test cases and sixteen conversations without replies.
 fn run_with(
     alloc: Global,
     words: &[String],

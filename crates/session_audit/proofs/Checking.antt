@@ -93,7 +93,7 @@ pub all_taken : (told : List (Option Seen)) (next : ℕ) → next ≡ lines_befo
     → eqb next (length told) ≡ is_none (visits_in (drop next told))
 all_taken told next at = by_left told next (visits_in (drop next told)) refl at
 
--- ---- of what is known to the checker
+-- ---- what the checker knows
 
 pub told_none : (told : List (Option Seen)) (first : ℕ) → first ≡ lines_before 0 told → length told ≤ first → visits_told (told_in told) ≡ []
 told_none told first is le = visits_are told ∙ no_visits told (omega arith)
@@ -137,7 +137,7 @@ nothing_more : (b : Bool) → false ≡ (b && false)
 nothing_more true = refl
 nothing_more false = refl
 
--- except for lines run, chauthtok was refused
+-- whether a chauthtok was refused: by its code, and because it ran no line
 pub refused_by : (func : Func) (code : Code) (vs : List retell.Seen) → is_refused_change func code vs ≡ (is_refused_change func code [] && is_none vs)
 refused_by funcs.Authenticate code vs = refl
 refused_by funcs.SetCred code vs = refl
@@ -164,7 +164,7 @@ module _ (stacks : Stacks) where
   pub line_goes : (func : Func) (vs : List retell.Seen) (h : Held) (n : ℕ) → is_other_pending h.pending func ≡ false → n ≡ (if is_other_pending h.pending func then 0 else n)
   line_goes func vs h n other = sym (if_false (is_other_pending h.pending func) 0 n other)
 
--- what a call that was replayed took
+-- the lines that a replayed call took
 pub as_retold : (told : List (Option Seen)) (r : Retold) (code : Code) (w : Went retell.Telling) → went_of told r ≡ w
     → r.next ≡ lines_before (length (visits_in told) - length (visits_in (drop r.next told))) told
     → behind_call code w ≡ only_if (not r.astray && (eqb r.next (length told) && same_code code r.code)) (running (held_of r.held))
@@ -188,7 +188,7 @@ pub only_false : (b : Bool) (p : SlotLog) (x : Option SlotLog) → x ≡ only_if
 only_false true p x is holds = absurd (cc)
 only_false false p x is holds = is
 
--- ---- results that are no code of a stack call
+-- ---- results that aren't a code of a stack call
 
 none_without : (vs : List retell.Seen) → without_visits vs None ≡ None
 none_without [] = refl
@@ -238,7 +238,7 @@ module _ (stacks : Stacks) where
   quiet_good (running h) vs (answered command shown) is = quiet_good-open h vs command shown is
   quiet_good (running h) vs (closed_by_program code) is = refl
 
-  -- a closed place has no such code
+  -- a closed transaction has no such code
   pub shut_result : (vs : List retell.Seen) (result : Result) → behind_result stacks shut vs result ≡ without_visits vs (behind_quiet shut result)
   shut_result vs (answered command shown) = refl
   shut_result vs (closed_by_program code) = sym (none_without vs)

@@ -1,4 +1,4 @@
--- A line that is taken leaves what differs.
+-- After a line is taken, the first line that differs is the same.
 use Rattle.std.proofs.Common.{◌≡◌, ℕ, zero, suc, ◌+◌, ◌-◌, ◌≤◌, Bool, true, false, ◌&&◌, if◌then◌else◌, ltb, leb, ◌<◌, get_or, List, [], ◌∷◌, ◌++◌, map, length, Option, Some, None, refl, sym, ◌∙◌, ap, arith}
 use Rattle.std.specs.Prelude.{slice_get, slice_set}
 use Rattle.std.specs.Option.{option_map}
@@ -79,7 +79,7 @@ module _ (stacks : Stacks) where
       ∙ ap (λ (x : Option (List SlotLog)). behind_or stacks x (n + 1 - length b.told + bad_line stacks (place_at places b.number) b) (λ behind. differs_from stacks behind nothing_yet (n + 1) lines)) fits
       ∙ ap (λ (k : ℕ). Some (n + 1 - length told + k)) (sym is)
 
-  -- ---- a block at the place of its number
+  -- ---- a block of the transaction of its number
 
   found_at : (old : List held.SlotLog) (i number : ℕ) (p : held.SlotLog) → number ≡ suc i → slice_get old i ≡ Some p → place_at (map place_of old) number ≡ Some (place_of p)
   found_at old i number p is at =
@@ -116,7 +116,7 @@ module _ (stacks : Stacks) where
       → lines_before 0 told ≡ bad_line stacks (place_at places number) (block_of number told result)
   unplaced_line places number told result none = ap (λ (x : Option SlotLog). bad_line stacks x (block_of number told result)) (sym none)
 
--- ---- places and their numbers
+-- ---- transactions and their numbers
 
 pub get_some : {A : Type 0} → (xs : List A) (i : ℕ) (p d : A) → i < length xs → p ≡ get_or xs i d → slice_get xs i ≡ Some p
 get_some [] i p d lt is = absurd (omega arith)
@@ -150,7 +150,7 @@ fits_at stacks old number p between behind told result is at fits = (
   length-set (slice_set old (number - 1) between) (number - 1) behind ∙ length-set old (number - 1) between,
 )
 
--- a block of a number without a place
+-- a block of a number that no transaction has
 pub nowhere_is : (stacks : Stacks) (old : List held.SlotLog) (number : ℕ) (told : List Told) (result : Result) (line : Option ℕ) → place_at (map place_of old) number ≡ None
     → IsUnplaced line told result → IsPlaced stacks old (block_of number told result) line old
 nowhere_is stacks old number told result None none is = (unplaced stacks (map place_of old) number told result true none (is stacks), refl)

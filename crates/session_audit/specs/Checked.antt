@@ -1,4 +1,5 @@
--- What the checker holds while it reads a report, in the words of places and blocks (this project's own).
+-- What the checker holds while it reads a report, in terms of transactions and blocks (this
+-- project's own).
 use Rattle.std.specs.Prelude.{◌≡◌, ◌≤◌, ℕ, ◌+◌, Bool, true, false, ◌&&◌, List, ◌∷◌, map, length, Option, Some, None}
 use Rattle.std.specs.Option.{option_map}
 use Rattle.pam_base.specs.declared.code.Code.{Code}
@@ -56,18 +57,18 @@ IsCall None result =
 
 -- ---- the result of a block
 
--- it is the place after it, or else which line doesn't fit
+-- the state of the transaction after it, or which line doesn't fit
 abbrev pub IsJudged : Judged → Option SlotLog → ℕ → Type 0
 IsJudged (judged.Fits place) behind bad = behind ≡ Some (place_of place)
 IsJudged (judged.Differs line) behind bad = (behind ≡ None) × (line ≡ bad)
 
--- a block is judged at its place
+-- a block is judged by the state of its transaction
 abbrev pub Judges : Stacks → SlotLog → List Told → Result → Judged → Type 0
 Judges stacks place told result j =
     IsJudged j (behind_result stacks place (visits_told told) result)
     (lines_before (visits_good stacks (Some place) (visits_told told) result) told)
 
--- and so for all transactions; a line is named if it doesn't fit
+-- the same for all transactions; a line is named if the block doesn't fit
 abbrev pub IsPlaced : Stacks → List held.SlotLog → Block → Option ℕ → List held.SlotLog → Type 0
 IsPlaced stacks old b (Some line) new =
     (behind_block stacks (map place_of old) b ≡ None) ×
@@ -76,7 +77,7 @@ IsPlaced stacks old b None new =
     (behind_block stacks (map place_of old) b ≡ Some (map place_of new)) ×
     (length new ≡ length old)
 
--- and so of a number that no transaction has
+-- the same for a number that no transaction has
 abbrev pub IsUnplaced : Option ℕ → List Told → Result → Type 0
 IsUnplaced None told result =
     (stacks : Stacks) → (is_bad_number stacks result && is_none (visits_told told)) ≡ true
@@ -86,7 +87,7 @@ IsUnplaced (Some line) told result =
 
 -- ---- lines that are left
 
--- what counts of the lines of a text
+-- the part that counts of each line of a text
 abbrev pub bare_lines : List ℕ → List (Option Says)
 bare_lines text = map (option_map bare) (lines_read read_line text)
 
@@ -95,7 +96,7 @@ abbrev pub differs_at : Stacks → Checker → List (Option Says) → Option ℕ
 differs_at stacks c lines =
     differs_from stacks (map place_of c.places.items) (gathered_of c.begun) c.lines lines
 
--- the block that has begun is of the lines that were taken
+-- the block that has begun consists of lines that were taken
 abbrev pub begun_within : Option Begun → ℕ → Type 0
 begun_within None lines = Unit {0}
 begun_within (Some b) lines = length b.told.items ≤ lines
@@ -106,7 +107,8 @@ pub record IsAfter (c : Checker) (n : ℕ) : Type 0 where
   pub sixteen : length c.places.items ≡ 16
   pub begun : begun_within c.begun n
 
--- A line is taken, after which there are lines or not: it is named, or what differs after it is what differed.
+-- A line is taken, the last one or not: either it is named, or the first line that differs stays
+-- the same.
 abbrev pub IsTaken : Stacks → Checker → Option Says → Bool → Option ℕ → Checker → Type 0
 IsTaken stacks old line is_last (Some named) new =
     (lines : List (Option Says)) → is_none lines ≡ is_last →

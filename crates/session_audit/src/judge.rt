@@ -19,9 +19,9 @@ use std::alloc::Global;
 /// The result of a block for what is known of its transaction.
 #[derive(Debug, Drop)]
 pub enum Judged {
-    /// It fits, and this is known afterwards.
+    /// It fits, and this is known of the transaction afterwards.
     Fits(SlotLog),
-    /// It doesn't fit. This line of it is named, counted from 0.
+    /// It doesn't fit: this line of the block, counted from 0, is named.
     Differs(usize),
 }
 
@@ -64,7 +64,7 @@ fn stack_call(outcome: ReportedOutcome) -> Option<StackCall>
     }
 }
 
-// A block whose result isn't the code of a stack call has no `line` lines.
+// Judges a block whose result isn't the code of a stack call: it has no `line` lines.
 fn judge_quiet(place: SlotLog, told: &[Option<Seen>], outcome: ReportedOutcome) -> Judged
     ensures { IsJudged result
         (without_visits (visits_told (told_in told.now))

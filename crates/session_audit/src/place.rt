@@ -10,7 +10,7 @@ use pam_base::{CallName, Code, Func};
 use pass_replay::Held;
 use report_reader::{ReportedAnswer, ReportedOutcome};
 
-/// What is known of a transaction.
+/// What is known of a transaction between two blocks.
 #[derive(Debug, Drop)]
 pub enum SlotLog {
     Closed,

@@ -30,8 +30,8 @@ pub fn closed_places(alloc: Global) -> Result<Vec<SlotLog>, NoMemory>
     Ok(places)
 }
 
-/// Judges a block for its transaction, and keeps what is known afterwards. Returns the line of it
-/// that differs, counted from 0; None if it fits.
+/// Judges a block for its transaction, and keeps what is known afterwards. Returns the line of the
+/// block that differs, counted from 0; None if the block fits.
 pub fn judge_at(
     alloc: Global,
     trees: &Trees,
@@ -65,7 +65,7 @@ fn has_place(number: u32, n: usize) -> bool
     0 < number && number as usize <= n
 }
 
-// A block of a number that no transaction has.
+// Judges a block of a number that no transaction has.
 fn judge_nowhere(told: &[Option<Seen>], outcome: ReportedOutcome) -> Option<usize>
     ensures { IsUnplaced result (told_in told.now) (result_of outcome) }
 {

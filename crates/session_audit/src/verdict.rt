@@ -23,14 +23,14 @@ pub enum Verdict {
 
 /// Checks a report of at most 1,048,576 bytes against the stacks of a service. It fits if it is the
 /// text of blocks, the lines of one step each, and each block can come after those before it. A
-/// stack call can if its stack, walked with the return codes in the block, runs exactly the lines
-/// of the block, and returns its code. Messages, cleanups, delays, notes and values are only
+/// stack call can come if its stack, walked with the return codes in the block, runs exactly the
+/// lines of the block, and returns its code. Messages, cleanups, delays, notes and values are only
 /// checked for their format.
 ///
 /// The line that is named is one of the first block that doesn't fit: its first line that has none
-/// of the forms or is of another transaction; the line after the last of the text, if the text ends
-/// inside the block; its first line of a rule that isn't the next one of the call; else its last
-/// line.
+/// of the forms or belongs to another transaction; the line after the last one of the text, if the
+/// text ends inside the block; its first `line` line that isn't the next one of the call; else its
+/// last line.
 ///
 /// Fails only if an allocation fails. The time is linear in the length of the text and in the lines
 /// of the stacks that its calls walk, counting each call.

@@ -64,8 +64,8 @@ pub record Checks (result : Result Checked Stopped) (c : Check) (old new : SinkS
   pub asked : result ≢ Err NoMemory → vault.calls ≡ c.calls
   pub writes : new.calls ≤ old.calls + length front + 1
 
--- What is known of a check if only the files are modelled, whatever became of its text: what was found, and how often
--- `Vault` was called by then.
+-- What is known of a check if only the files are modelled, whether or not its text could be
+-- written: what was found, and how often `Vault` was called by then.
 pub record Finds (result : Result Checked Stopped) (c : Check) (vault : VaultState) : Type 0 where
   pub found : IfOk result (λ found. found ≡ c.found)
   pub asked : result ≢ Err NoMemory → vault.calls ≡ c.calls

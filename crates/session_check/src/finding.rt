@@ -24,7 +24,7 @@ pub enum Checked {
     Refused,
 }
 
-// What a check found, and what it writes.
+// What a check found, and the text that it writes.
 #[derive(Drop)]
 struct Finding {
     found: Checked,

@@ -14,7 +14,7 @@ use Rattle.session_generate.specs.Login.{Attempt, ComesTo, LoginStops, logged_in
 use Rattle.session_generate.specs.Placing.{Placed, Places, PlacesSome, placed, with_vault}
 
 module _ (setting : Setting) (p : Placed) (s : RunState) (w : PlainWorld) (is : w ≡ with_vault p.vault (from_root s.world)) where
-  -- all files were put in their places
+  -- all files were stored
   behind_all : (result : Result Login (Refuse LoadFault)) (u : RunState) → p.fault ≡ None
       → ComesTo result (logged_in setting (state_of s.slots w)) (LoginStops setting (state_of s.slots w)) u
       → ComesTo result (behind_files setting p.fault (state_of s.slots (with_vault p.vault (from_root s.world)))) (LoginStops setting (state_of s.slots (with_vault p.vault (from_root s.world)))) u
@@ -22,14 +22,14 @@ module _ (setting : Setting) (p : Placed) (s : RunState) (w : PlainWorld) (is : 
       subst (λ (o : Option LoadFault). ComesTo result (behind_files setting o (state_of s.slots (with_vault p.vault (from_root s.world)))) (LoginStops setting (state_of s.slots (with_vault p.vault (from_root s.world)))) u) (sym none)
       (subst (λ (v : PlainWorld). ComesTo result (logged_in setting (state_of s.slots v)) (LoginStops setting (state_of s.slots v)) u) is comes)
 
-  -- one was not
+  -- one wasn't stored
   behind_fault : (Stops : RunState → Type 0) (fault : LoadFault) → p.fault ≡ Some fault
       → ComesTo (Err (Named fault)) (behind_files setting p.fault (state_of s.slots (with_vault p.vault (from_root s.world)))) Stops (state_of s.slots w)
   behind_fault Stops fault some =
       subst (λ (o : Option LoadFault). ComesTo (Err (Named fault)) (behind_files setting o (state_of s.slots (with_vault p.vault (from_root s.world)))) Stops (state_of s.slots w)) (sym some)
       (refl, ap (state_of s.slots) is)
 
--- among more states that it may leave
+-- the same with more states that it may leave
 more_stops : (Stops Others : RunState → Type 0) (result : Result Login (Refuse LoadFault)) (a : Attempt) (u : RunState) → (Stops u → Others u) → ComesTo result a Stops u → ComesTo result a Others u
 more_stops Stops Others (Ok login) a u more comes = comes
 more_stops Stops Others (Err (Named fault)) a u more comes = comes
@@ -71,7 +71,7 @@ not_begun setting seed lines s w same = inl (ap (state_of s.slots) same)
 pub not_drawn : (setting : Setting) (seed lines : ℕ) (s : RunState) (w : PlainWorld) → w ≡ from_root s.world → AttemptStops setting seed lines s (state_of s.slots w)
 not_drawn setting seed lines s w root = inr (inl (ap (state_of s.slots) root))
 
--- ---- which objects tell
+-- ---- which objects are modelled
 
 pub vault_of : (l a b n : Bool) → (l && ((a && b) && n)) ≡ true → a ≡ true
 vault_of true true b n told = refl

@@ -1,4 +1,4 @@
--- The first place, after each call.
+-- The first slot, after each call.
 use Rattle.std.proofs.Common.{◌≡◌, ℕ, zero, suc, Bool, true, false, ◌&&◌, List, [], ◌∷◌, Option, Some, None, Result, Ok, Err, slice_get, inl, inr, refl, sym, ap, subst, ◌∙◌}
 use Rattle.std.specs.Result.{IsErrAnd}
 use Rattle.pam_base.specs.declared.call.AppCall.{AppCall}
@@ -21,7 +21,7 @@ use Rattle.session_run.specs.Step.{CallFails}
 use Rattle.session_generate.specs.declared.login.Login.{Login}
 use Rattle.session_generate.specs.Login.{Attempt, Authenticates, ComesTo, LoginStops, Starts, Tries, authenticate_call, behind_start, called, end_status, ended, logged_in, login_of, refusal_in, start_call, state_in, step_of}
 
--- ---- places that are closed
+-- ---- slots that are closed
 
 closed_at : (slots : List PlainSlot) → NoneIsOpen slots → (i : ℕ) → is_open_at (slice_get slots i) ≡ false
 closed_at [] none i = refl
@@ -77,7 +77,7 @@ module _ (setting : Setting) where
   refused_is_closed (closed conv ∷ slots) w fault none e = by_answer _ conv _ _ _ fault e
   refused_is_closed (opened h ∷ slots) w fault none e = absurd cc
 
-  -- what was tried, and then ended
+  -- an attempt, and then the end
   pub came : (result : Result Login (Refuse LoadFault)) (s t u : RunState) → is_open_at (slot_at s.slots 1) ≡ false → Tries result setting s t → u ≡ ended setting (number_of (end_status result)) t
       → ComesTo result (logged_in setting s) (LoginStops setting s) u
   came (Ok login) s t u none tries e = (
@@ -110,7 +110,7 @@ module _ (setting : Setting) (s : RunState) (call : AppCall) (outcome : PlainOut
   pub login_is : login_of outcome ≡ login_of (called setting s call).outcome
   login_is = ap login_of outcome_is
 
--- an end takes no memory, and asks nobody outside
+-- an end allocates nothing, and uses nothing outside
 pub end_is_free : (status : ℕ) (slot : Option PlainSlot) → takes_no_memory slot (calls.End status) ≡ true
 end_is_free status None = refl
 end_is_free status (Some (closed conv)) = refl

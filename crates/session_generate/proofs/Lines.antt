@@ -290,7 +290,7 @@ mild_feed : (ds : List ℕ) → AreMild ds → list_any is_feed ds ≡ false
 mild_feed [] all = refl
 mild_feed (d ∷ ds) all = rw (all.0.no_feed, mild_feed ds all.1) refl
 
--- the pieces behind a run
+-- the pieces after a run
 passed : (ds rest : List ℕ) → pieces_behind (length ds) (ds ++ 10 ∷ rest) ≡ newline ∷ pieces_of rest
 unfolding pieces_behind first_piece
 passed [] rest = refl

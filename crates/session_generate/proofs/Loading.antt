@@ -130,7 +130,7 @@ module _ (texts : List ℕ → Option (List ℕ)) (seed lines : ℕ) (most : lin
   auth_passes = passes_file texts service_path (service files_number).text (service_contents files_number) own (holds_service lines most) 16 Auth as_service files_number (32 * files_number)
       (service_brings 0 files_number (omega arith) 1)
 
-  -- its rules are of no other type
+  -- it has no rules of another type
   nothing : (type : RuleType) (deeper : Opener → RuleFile → List Item) → serves type (Some Auth) ≡ false → (n : ℕ) (contents : List RuleContent) → items_of deeper type service_path (entries_from n contents) ≡ []
   nothing type deeper e n [] = refl
   nothing type deeper e n (c ∷ contents) =
@@ -143,7 +143,7 @@ module _ (texts : List ℕ → Option (List ℕ)) (seed lines : ℕ) (most : lin
       (subst (λ (is : List Item). Passes texts is 0 0) (sym (nothing type (items texts 16 type) e 1 (service_contents files_number))) (passes_none texts)))
       (omega arith) (omega arith)
 
-  -- ---- the service `other`, which isn't there
+  -- ---- the service `other`, which doesn't exist
 
   abbrev other_file : RuleFile
   other_file = plain_file (codes "/etc/pam.d/other")
@@ -169,7 +169,7 @@ module _ (texts : List ℕ → Option (List ℕ)) (seed lines : ℕ) (most : lin
 
   -- ---- the four stacks
 
-  -- the lines of each are counted from none
+  -- the lines of each stack are counted from 0
   abbrev Treed : List Item → ℕ → Type 0
   Treed is opens = (c : Counts) → c.openings + opens ≤ 256 → (d : Counts) × (look texts [] c is ≡ Ok d) × (d.openings ≤ c.openings + opens)
 

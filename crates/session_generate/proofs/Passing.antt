@@ -26,7 +26,7 @@ module _ (texts : List ℕ → Option (List ℕ)) where
     pub openings_are : after.openings ≤ c.openings + opens
     pub lines_are : after.lines ≤ c.lines + lines
 
-  -- from all counts on that leave room for it
+  -- from any counts on that leave room for it
   abbrev pub Passes : List Item → ℕ → ℕ → Type 0
   Passes is opens lines = (c : Counts) → c.openings + opens ≤ 256 → c.lines + lines ≤ 4096 → Passed c is opens lines
 
@@ -72,7 +72,7 @@ module _ (texts : List ℕ → Option (List ℕ)) where
       let step : behind texts [] c (made name line) ≡ Ok next = ap (λ (b : Bool). cond b (stop c name line TooManyLines) (Ok next)) fits in
       record { after = next; looks = by_one c next (made name line) step; openings_are = omega arith; lines_are = omega arith }
 
-  -- an opening that is made
+  -- a file that is opened
   pub passes_opening : (file : RuleFile) (level : ℕ) (opener : Opener) → level ≤ 16
       → ((c : Counts) → held_file (asked c) file opener (held texts file) ≡ Ok (asked c)) → Passes (opening file level opener ∷ []) 1 0
   passes_opening file level opener low fine c opens lines =
@@ -108,7 +108,7 @@ module _ (texts : List ℕ → Option (List ℕ)) where
       pub held_is : held texts (plain_file name) ≡ holds h.rules
       held_is = ap (held_text None) is ∙ ap (held_answer None) h.text_is ∙ ap holds (own h.rules)
 
-      -- what its entries bring, and the file before that
+      -- what its entries add, after the file itself
       pub passes_file : (level : ℕ) (type : RuleType) (opener : Opener) (opens lines : ℕ)
           → Passes (items_of (items texts level type) type name (entries_from 1 contents)) opens lines
           → Passes (items texts (suc level) type opener (plain_file name)) (1 + opens) lines
@@ -127,7 +127,7 @@ module _ (texts : List ℕ → Option (List ℕ)) where
           (passes_then (map (checked (plain_file name)) h.rules) brought 0 opens 0 lines (passes_checked h.rules h.fine) inner)) (omega arith) (omega arith) in
           subst (λ (xs : List Item). Passes (opening (plain_file name) (16 - level) opener ∷ xs) (1 + opens) lines) (sym rest) all
 
-    -- ---- what its rules bring, one after another
+    -- ---- what its rules add, one after another
 
     module _ (deeper : Opener → RuleFile → List Item) where
       abbrev pub Brings : List RuleContent → ℕ → ℕ → Type 0

@@ -1,4 +1,4 @@
--- Files that are put in their places, one after another.
+-- Files that are stored, one after another.
 use Rattle.std.proofs.Common.{◌≡◌, ℕ, suc, ◌+◌, ◌<◌, Bool, true, false, cond, length, drop, get_or, Err, add-one, Some, None, List, [], ◌∷◌, inl, inr, refl, sym, ap, subst, ◌∙◌}
 use Rattle.std.proofs.Math.Seq.{drop-cons}
 use Rattle.pam_base.specs.declared.fault.Refuse.{Refuse}
@@ -17,7 +17,7 @@ module _ (file : DrawnFile) (files : List DrawnFile) (v t : VaultState) where
   on_by true none is = absurd cc
   on_by false none is = ap (placed files) (sym is)
 
-  -- after a file that was put in its place
+  -- after a file that was stored
   pub goes_on : (placed (file ∷ []) v).fault ≡ None → t ≡ (placed (file ∷ []) v).vault → placed (file ∷ files) v ≡ placed files t
   goes_on none is = on_by (is_failing v) none is
 
@@ -26,7 +26,7 @@ module _ (file : DrawnFile) (files : List DrawnFile) (v t : VaultState) where
   stop_by fault true is = refl
   stop_by fault false is = absurd cc
 
-  -- nothing more is called after one that was not
+  -- no call follows one that failed
   pub stops : (fault : LoadFault) → (placed (file ∷ []) v).fault ≡ Some fault → placed (file ∷ files) v ≡ placed (file ∷ []) v
   stops fault is = stop_by fault (is_failing v) is
 
@@ -35,7 +35,7 @@ module _ (file : DrawnFile) (files : List DrawnFile) (v t : VaultState) where
   some_by true e none is u some = absurd cc
   some_by false e none is u some = inr (e, inr (subst (λ (x : VaultState). PlacesSome files x u) is some))
 
-  -- an allocation fails after a file that was put in its place
+  -- an allocation fails after a file was stored
   pub some_behind : (placed (file ∷ []) v).fault ≡ None → t ≡ (placed (file ∷ []) v).vault → (u : VaultState) → PlacesSome files t u → PlacesSome (file ∷ files) v u
   some_behind none is = some_by (is_failing v) refl none is
 
@@ -44,12 +44,12 @@ module _ (file : DrawnFile) (files : List DrawnFile) (v t : VaultState) where
   some_first (inr (runs, inl made)) = inr (runs, inl made)
   some_first (inr (runs, inr none)) = absurd none
 
-  -- the files before this one are in their places, and it isn't put in its own
+  -- the files before this one are stored, and storing this one failed
   pub stops_at : (all : List DrawnFile) (w : VaultState) → placed all w ≡ placed (file ∷ files) v → ((u : VaultState) → PlacesSome (file ∷ files) v u → PlacesSome all w u)
       → (refuse : Refuse LoadFault) → Places {T = Unit {0}} (Err refuse) (file ∷ []) v t → Places {T = Unit {0}} (Err refuse) all w t
   stops_at all w same some (Named fault) is = subst (λ (p : Placed). (p.fault ≡ Some fault) × (t ≡ p.vault)) (sym (same ∙ stops fault is.0)) is
   stops_at all w same some NoMemory is = some t (some_first is)
 
--- the file whose turn it is
+-- the next file
 pub next_file : (files : List DrawnFile) (i : ℕ) (file : DrawnFile) → i < length files → file ≡ get_or files i file → drop i files ≡ file ∷ drop (i + 1) files
 next_file files i file lt is = rw add-one (drop-cons files i file lt ∙ ap (λ (f : DrawnFile). f ∷ drop (suc i) files) (sym is))

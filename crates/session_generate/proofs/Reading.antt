@@ -1,4 +1,4 @@
--- A text of lines that are each one rule is read line by line.
+-- A text in which each line is one rule is read line by line.
 use Rattle.std.proofs.Common.{◌≡◌, ℕ, ◌+◌, ◌*◌, ◌≤◌, Bool, true, false, ◌==◌, ◌||◌, cond, List, [], ◌∷◌, ◌++◌, length, map, Option, Some, None, Result, Ok, Err, nat_lt, refl, ap, ◌∙◌, arith, length-append}
 use Rattle.std.specs.List.{flat_map, filter_map, list_all, list_any}
 use Rattle.std.specs.Result.{is_ok, result_ok}

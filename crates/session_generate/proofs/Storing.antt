@@ -1,4 +1,4 @@
--- Generated files that are stored if there is no file yet: under which name each is found then.
+-- Generated files that are stored when there is no file yet: the name under which each is found.
 use Rattle.std.proofs.Common.{◌≡◌, ℕ, suc, zero, ◌+◌, ◌-◌, ◌<◌, ◌≤◌, ◌^◌, ◌⊎◌, inl, inr, Bool, true, false, ◌||◌, cond, List, [], ◌∷◌, ◌++◌, codes, drop, get_or, map, Some, None, nat_lt, refl, sym, ap, ◌∙◌, subst, arith}
 use Rattle.std.specs.List.{AllByRecursion, range_with_len}
 use Rattle.std.specs.Str.{bytes_eq}
@@ -53,7 +53,7 @@ module _ (path bytes : List ℕ) where
   put_there [] = rw (same path) refl
   put_there (f ∷ fs) = put_by f fs (bytes_eq f.path path) refl (put_there fs)
 
-  -- it is in its directory
+  -- the file is in its directory
   or_true : (a : Bool) → (a || true) ≡ true
   or_true true = refl
   or_true false = refl

@@ -20,7 +20,7 @@ use Rattle.session_generate.specs.Placing.{Placed, placed, with_vault}
 use Rattle.session_generate.proofs.Loading.{loads}
 use Rattle.session_generate.proofs.Storing.{all, stored, vault_with}
 
--- files without calls that are to fail
+-- a file store without calls that are set to fail
 as_it_is : (v : VaultState) (files : List File) → v.files ≡ files → v.fails ≡ [] → v ≡ vault_with files v.calls
 as_it_is v files is none =
     ap (λ (fs : List File). record { files = fs; calls = v.calls; fails = v.fails }) is

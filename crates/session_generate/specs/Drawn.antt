@@ -33,7 +33,7 @@ default_actions = actions.Ignore ∷ actions.Bad ∷ actions.Die ∷ actions.Res
 abbrev pub action_picked : List Action → ℕ → Action
 action_picked table n = get_or table (n % length table) actions.Bad
 
--- that of each code
+-- the action for each code
 abbrev pub action_at : Action → Action → Code → Action
 action_at success default returns.Success = success
 action_at success default returns.NewAuthtokReqd = actions.Ok
@@ -53,7 +53,7 @@ drawn_content seed n = Line (drawn_rule (action_picked success_actions (draw see
     (action_picked default_actions (draw seed (3 * n + 1)))
     (picked answer_words (draw seed (3 * n + 2))))
 
--- what a line says that has the file with this number as a substack
+-- what a line says whose substack is the file with this number
 abbrev pub substack_content : ℕ → RuleContent
 substack_content k = Substack (path_of_service (name_of k))
 
@@ -65,7 +65,7 @@ contents_of seed lines k =
     map (drawn_content seed) (range_with_len (32 * (k - 1)) (min (32 * k) lines - 32 * (k - 1)))
     ++ (if is_odd k && nat_lt k (count_of lines) then substack_content (k + 1) ∷ [] else [])
 
--- and those of the service
+-- what the lines of the service say
 abbrev pub service_contents : ℕ → List RuleContent
 service_contents count = map substack_content (filter is_odd (range_with_len 1 count))
 

@@ -32,7 +32,7 @@ module _ (setting : Setting) where
   behind_files (Some fault) s = record { result = Err fault; state = s }
   behind_files None s = logged_in setting s
 
-  -- what is generated from a seed is stored, and authenticated by
+  -- the files generated from a seed are stored, and the service authenticates a user
   abbrev pub attempted : ℕ → ℕ → RunState → Attempt
   attempted seed lines s =
       let p = placed (drawn_files seed lines) s.world.vault in
@@ -66,7 +66,8 @@ abbrev pub found_by : Result Login LoadFault → Generated
 found_by (Ok login) = Written
 found_by (Err fault) = Refused
 
--- what `generate` writes and returns, and the state after it; and the states that it may leave if an allocation fails
+-- what `generate` writes and returns, and the state after it; also the states that it may leave if
+-- an allocation fails
 pub record Generation : Type 1 where
   pub text : List ℕ
   pub generated : Generated
@@ -118,7 +119,7 @@ pub record Generates (result : Result Generated Stop) (g : Generation) (state : 
 
 -- ---- the ends that it makes, with real objects too
 
--- of the transaction 1, with SUCCESS, or, if an allocation failed, with BUF_ERR
+-- the end of transaction 1, with SUCCESS or, if an allocation failed, with BUF_ERR
 abbrev pub IsEndWithoutMemory : ℕ → ℕ → Type 0
 IsEndWithoutMemory number status = (number ≡ 1)
     × ((status ≡ number_of Success) ⊎ (status ≡ number_of BufErr))

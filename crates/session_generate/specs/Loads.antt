@@ -1,4 +1,4 @@
--- The generated files, if there was no file before (this project's own).
+-- The load of the generated files, if there was no file before (this project's own).
 use Rattle.std.specs.Prelude.{◌≡◌, ℕ, [], None, Ok, codes}
 use Rattle.pam_outside.specs.Files.{VaultState}
 use Rattle.drawn_files.specs.Files.{drawn_files}

@@ -32,7 +32,7 @@ authenticate_call = calls.Authenticate 0
 abbrev pub state_in : Stepped → RunState
 state_in t = state_of t.slots t.world
 
--- the code that an authentication returns, as each does whose transaction was started
+-- the code that an authentication returns; one in a transaction that was started returns one
 abbrev pub code_in : Answer → Code
 code_in (answers.Code code) = code
 code_in answer = SystemErr
@@ -63,7 +63,7 @@ module _ (setting : Setting) where
   authenticated s = let t = called s authenticate_call in
       record { result = Ok (login_of t.outcome); state = ended (number_of Success) (state_in t) }
 
-  -- by what the start returns: if it is refused, nothing more is called
+  -- by the result of the start: if it is refused, nothing more is called
   abbrev pub behind_start : Option LoadFault → RunState → Attempt
   behind_start (Some fault) s = record { result = Err fault; state = s }
   behind_start None s = authenticated s

@@ -20,7 +20,7 @@ abbrev pub with_file : DrawnFile → VaultState → VaultState
 with_file file v = counted
     (record v { files = file_put (path_of_service file.name) file.text v.files })
 
--- the files after the calls, and the fault of the first of them that is to fail; none comes after it
+-- the files after the calls, up to the first call that is set to fail, and that call's fault
 pub record Placed : Type 0 where
   pub vault : VaultState
   pub fault : Option LoadFault
@@ -35,13 +35,14 @@ placed (file ∷ files) v = if is_failing v
 abbrev pub with_vault : VaultState → PlainWorld → PlainWorld
 with_vault vault w = record w { vault = vault }
 
--- The files if an allocation failed: before the access that stores the first of these, in it, or after it.
+-- The files if an allocation failed: before one of these was stored, while it was stored, or after
+-- that.
 abbrev pub PlacesSome : List DrawnFile → VaultState → VaultState → Type 0
 PlacesSome [] v vault = ⊥
 PlacesSome (file ∷ files) v vault = (vault ≡ v) ⊎ ((is_failing v ≡ false)
     × ((vault ≡ counted v) ⊎ PlacesSome files (with_file file v) vault))
 
--- All files were stored, or all up to the fault; if an allocation failed, some first ones.
+-- All files were stored, or all up to the fault; if an allocation failed, the first few.
 abbrev pub Places : {T : Type 0} → Result T (Refuse LoadFault) → List DrawnFile → VaultState
     → VaultState → Type 0
 Places (Ok done) files v vault =

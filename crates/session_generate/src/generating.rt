@@ -30,7 +30,7 @@ pub enum Generated {
     Refused,
 }
 
-// The result, and what is written of it.
+// The result, and the text that is written for it.
 #[derive(Drop)]
 struct Finding {
     generated: Generated,
@@ -69,14 +69,14 @@ pub fn generate<K: Sink>(
     ensures writes { IsTrue (K.sink_tells out.old) →
         WritesScript (K.sink_holds out.old) (K.sink_holds out.new) }
 
-    // With real objects too: no transaction is open, and what was ended.
+    // With real objects too: no transaction is open, and with which status it was ended.
     ensures none_open { NoneIsOpenIn (⟦<Session as Told>⟧.seen library.new world.new) }
     ensures went { let seen = ⟦<Session as Told>⟧.seen in Went (IsEndOfGenerate result)
         (seen library.old world.old) (seen library.new world.new) }
     ensures faults { RisesIf (has_write_fault result) (K.sink_faults out.old)
         (K.sink_faults out.new) }
 
-    // What is modelled before is modelled after it.
+    // What is modelled before it is modelled after it.
     ensures sink_tells { K.sink_tells out.new ≡ K.sink_tells out.old }
 {
     match find(alloc, library, seed, lines, world) {
@@ -140,7 +140,7 @@ fn attempt(
     }
 }
 
-// The result of an attempt, and what is written of it.
+// The result of an attempt, and the text that is written for it.
 fn describe(
     alloc: Global,
     lines: u32,

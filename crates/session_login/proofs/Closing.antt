@@ -37,7 +37,7 @@ none_open : (slots : List PlainSlot) → ((number : ℕ) → is_open_at (slot_at
 none_open [] each = tt
 none_open (slot ∷ slots) each = (each 1, none_open slots (shifted slot slots each))
 
--- if none was open, and none of the others has changed, none is if the first is closed
+-- if none was open and no other one has changed, none is open once the first is closed
 module _ (slots next : List PlainSlot) (none : NoneIsOpen slots) (others : (number : ℕ) → (number ≡ 1 → ⊥) → slot_at next number ≡ slot_at slots number) (first : is_open_at (slot_at next 1) ≡ false) where
   none_still : (number : ℕ) → is_open_at (slot_at next number) ≡ false
   none_still zero = refl

@@ -92,7 +92,7 @@ module _ (setting : Setting) where
       to = (refl, refl, sym (ap verdict_by none), end_made.at);
     }
 
-    -- a last line is
+    -- a last line is written
     module _ (code : Code) (some : denied ≡ Some code) (r : SinkState) where
       denied_to : (result : Result Verdict Stop) → IfOk result (λ (verdict : Verdict). verdict ≡ Denied code) → (d : WritesDenial code result q r)
           → LoginLeads setting as_it_is (settling setting denied s) result s t ((settling setting denied s).made) [] d.part

@@ -22,13 +22,13 @@ not_accepted SuccessOrTooOld code refuses e = let accepted : accepts SuccessOrTo
 not_accepted Any code refuses e = cc
 
 module _ (setting : Setting) where
-  -- there are none
+  -- there are no calls left
   pub runs_none : (last : Code) (s : RunState) (p : SinkState) → MakesCourse setting (course setting [] last s) (Ok None) s s p p
   unfolding course
   runs_none last s p = record { denies = refl; goes = goes_all setting [] None s s p p (none_went setting s p) }
 
   module _ (c : LoginCall) (calls : List LoginCall) (last : Code) (s : RunState) where
-    -- the first isn't due
+    -- the first call isn't made
     pub runs_not_due : is_due c.when last ≡ false → course setting (c ∷ calls) last s ≡ course setting calls last s
     unfolding course
     runs_not_due e = ap (λ (b : Bool). turn setting b c last s (course setting calls)) e
@@ -40,7 +40,7 @@ module _ (setting : Setting) where
     unfolding course
     due e = ap (λ (b : Bool). turn setting b c last s (course setting calls)) e
 
-    -- it stopped in the first
+    -- it stopped in the first call
     pub runs_stopped : is_due c.when last ≡ true → (stop : Stop) (t : RunState) (p q : SinkState) → MakesCalls {T = Answer} setting (m ∷ []) (Err stop) s t p q
         → MakesCourse setting (course setting (c ∷ calls) last s) (Err stop) s t p q
     runs_stopped e stop t p q g =
@@ -57,7 +57,7 @@ module _ (setting : Setting) where
       by_code : (b : Bool) → accepts c.accepted (code_in answer) ≡ b → course setting (c ∷ calls) last s ≡ judged b m (course setting calls)
       by_code b e = due is_made ∙ ap (λ (x : Bool). judged x m (course setting calls)) (ap (accepts c.accepted) code_is ∙ e)
 
-      -- the first denies
+      -- the first call denies
       pub runs_denied : accepts c.accepted (code_in answer) ≡ false
           → MakesCourse setting (course setting (c ∷ calls) last s) (Ok (Some (code_in answer))) s t p q
       runs_denied e = rw (by_code false e) (record {
@@ -65,7 +65,7 @@ module _ (setting : Setting) where
         goes = goes_all setting (m ∷ []) (Some (code_in answer)) s t p q (all_went setting (m ∷ []) answer s t p q g);
       })
 
-      -- it goes on after the first
+      -- it goes on after the first call
       pub runs_on : accepts c.accepted (code_in answer) ≡ true → (result : Result (Option Code) Stop) (u : RunState) (r : SinkState)
           → MakesCourse setting (course setting calls (code_in answer) t) result t u q r → MakesCourse setting (course setting (c ∷ calls) last s) result s u p r
       runs_on ok result u r more =

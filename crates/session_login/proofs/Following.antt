@@ -66,7 +66,7 @@ module _ (setting : Setting) where
       to = to_behind result xs s t g.whole g.others g.part (rw (← w.at) g.to);
     }
 
-  -- it stopped in these, and others would have come
+  -- it stopped in one of these, and others would have followed
   stops_before : (T U : Type 0) (stop : Stop) (ys : List Made) (s t : RunState) (whole others : List Made) (part : List ℕ)
       → CallsLead {T = T} setting (Err stop) s t whole others part
       → CallsLead {T = U} setting (Err stop) s t whole (others ++ ys) part

@@ -28,7 +28,7 @@ not_end funcs.OpenSession flags status e = cc
 not_end funcs.CloseSession flags status e = cc
 not_end funcs.ChAuthTok flags status e = cc
 
--- a stack call is none
+-- a stack call isn't an end
 pub stack_call_ends_none : (func : Func) (flags number status : ℕ) → IsEndStep (record { number = 1; call = stack_call func flags }) number status
     → IsNoEnd number status
 stack_call_ends_none func flags number status e = not_end func flags status (same_call (stack_call func flags) (calls.End status) 1 number e)
@@ -50,7 +50,7 @@ end_ends_as code call is number status e =
     let as_step : AppCall → Step = λ x. record { number = 1; call = x } in
     end_ends code number status (ap as_step (sym is) ∙ e)
 
--- ---- which of a login
+-- ---- which ends a login makes
 
 pub own_end : (denied : Option Code) (result : Result Verdict Stop) → ((code : Code) → denied ≡ Some code → IsDenial code)
     → IfOk result (λ (verdict : Verdict). verdict ≡ verdict_by denied)

@@ -24,7 +24,7 @@ use Rattle.session_login.specs.Reported.{IsResult, Reporting, Reports, SaysBehin
 -- ---- one text
 
 module _ {T : Type 0} (Says : T → List ℕ → Type 0) where
-  -- nothing was written, though this could have been
+  -- nothing was written, though this text could have been
   pub reports_none : (stop : Stop) (p : SinkState) (t : T) (text : List ℕ) → Says t text → Reports {T = T} Says (Err stop) p p
   reports_none stop p t text says = record { text = []; written = sym (append-nil p.written); says = (t, text, says) }
 
@@ -39,7 +39,7 @@ module _ {T : Type 0} (Says : T → List ℕ → Type 0) where
       → Reports {T = T} Says (Err WriteFault) p q
   reports_front failed t text p q w says = record { text = w.front; written = w.written; says = (t, w.back, subst (Says t) w.parts says) }
 
--- ---- what is said otherwise
+-- ---- the same in other words
 
 module _ {T U : Type 0} (Says : T → List ℕ → Type 0) (Tells : U → List ℕ → Type 0) where
   pub reports_as : (t : T) (u : U) (p q : SinkState) → Reports {T = T} Says (Ok t) p q → ((text : List ℕ) → Says t text → Tells u text)
@@ -105,7 +105,7 @@ module _ (Others : Reporting) (some : (code : Code) → (denied : Option Code) �
       let m = some_made c BadNumber (answer_line (call_of c) BadNumber) (possible (call_of c)) in
       (m.0, answer_line (call_of c) BadNumber ++ m.1, m.2)
 
--- each table has a course
+-- for each table some calls are possible
 pub some_course : (calls : List LoginCall) (last : Code) → (denied : Option Code) × (text : List ℕ) × SaysCourse calls last denied text
 some_course [] last = (None, [], (refl, refl))
 some_course (c ∷ calls) last = some_turn (SaysCourse calls) (some_course calls) (is_due c.when last) c last

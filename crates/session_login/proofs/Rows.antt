@@ -1,4 +1,5 @@
--- Worked logins, computed: one that passes, with and without a new token, one that each kind of call denies, and a start that is refused.
+-- Test cases of logins, computed: one that succeeds, with and without a new token; for each kind of
+-- call one that it denies; and one whose start is refused.
 use Rattle.std.specs.Prelude.{◌≡◌, ℕ, false, List, [], ◌∷◌, ◌++◌, None, codes, refl}
 use Rattle.std.specs.Fmt.{digits}
 use Rattle.pam_base.specs.declared.code.Code.{Code}
@@ -34,7 +35,7 @@ with_answers by = record { players = answers_by by ∷ []; delay = λ code asked
 abbrev place : PlainSlot
 place = closed (record { offers = []; waits = false; handed = [] })
 
--- a service of a line of each type
+-- a service with a line of each type
 abbrev start : RunState
 start = state_of (place ∷ []) (record {
   vault = record { files = record { path = codes "/r/etc/pam.d/t"; bytes = codes "auth required p\naccount required p\npassword required p\nsession required p" } ∷ []; calls = 0; fails = [] };
@@ -92,7 +93,7 @@ passed_all_the_same : login_by session_stays
 unfolding session_stays course stepped digits look items answer_to answer_at pieces_behind first_piece entry_of nodes path_of
 passed_all_the_same = refl
 
--- a service that isn't there
+-- a service that doesn't exist
 refused : login_text (login_of (with_answers all_succeed) (codes "u") None start) ≡ codes "refused /etc/pam.d/u 0 NoService 15\n"
 unfolding course stepped digits look items answer_to answer_at pieces_behind first_piece entry_of nodes path_of
 refused = refl

@@ -30,7 +30,7 @@ module _ {T : Type 0} (Says : T → List ℕ → Type 0) where
   pub shows_nothing : (t : T) (p : SinkState) → Says t [] → WritesLines {T = T} Says (Ok t) p p
   shows_nothing t p says = record { text = []; written = sym (append-nil p.written); calls = omega arith; calls_ok = omega arith; says = says }
 
--- what is said otherwise
+-- the same in other words
 module _ {T U : Type 0} (Says : T → List ℕ → Type 0) (Tells : U → List ℕ → Type 0) where
   pub shows_so : (t : T) (u : U) (p q : SinkState) → WritesLines {T = T} Says (Ok t) p q → ((text : List ℕ) → Says t text → Tells u text)
       → WritesLines {T = U} Tells (Ok u) p q
@@ -58,7 +58,7 @@ module _ {T U : Type 0} (Says : T → List ℕ → Type 0) (Tells : U → List �
     says = tt;
   }
 
--- ---- what is said of a login
+-- ---- what holds for a login
 
 pub end_said : (verdict : Verdict) (front text : List ℕ) → SaysEnd verdict text → SaysEnd verdict (front ++ text)
 end_said Passed front text says = tt

@@ -21,8 +21,9 @@ abbrev pub IsOwnEnd : ℕ → ℕ → Type 0
 IsOwnEnd number status = IsEndWith Success number status
     ⊎ ((code : Code) × IsDenial code × IsEndWith code number status)
 
--- With which code the transaction is ended. A refused start opens none; with a world that isn't modelled, it is closed
--- with SUCCESS. If the login stopped it is ended for that, unless it was already.
+-- With which code the transaction is ended. A refused start opens none; that isn't known here with
+-- real objects, so an end with SUCCESS is allowed. If the login stopped, it is ended for that
+-- reason, unless it was ended before.
 abbrev pub IsEndOfLogin : Result Verdict Stop → ℕ → ℕ → Type 0
 IsEndOfLogin (Ok Passed) number status = IsEndWith Success number status
 IsEndOfLogin (Ok (Denied code)) number status = IsEndWith code number status

@@ -39,7 +39,7 @@ abbrev pub make : Setting → AppCall → RunState → Made
 make setting call s =
     made_by call (stepped setting.players setting.delay s.slots s.world (step_of call))
 
--- its result line; a start that the configuration refused has the line of that
+-- its result line; for a start that the configuration refused, the line of the fault
 abbrev pub answer_line : AppCall → Answer → List ℕ
 answer_line call (answers.Refused fault) = refused_text fault
 answer_line call answer = answer_text 1 (word_of_call call) answer

@@ -16,7 +16,7 @@ use Rattle.session_login.specs.declared.calls.LoginCall.{LoginCall}
 use Rattle.session_login.specs.Calls.{accepts, call_of, code_in, is_due, login_calls}
 use Rattle.session_login.specs.Login.{answer_line, denied_line, end_call, end_code, last_line, verdict_by}
 
--- a result that the library can return for a call on a transaction, whatever is modelled
+-- a result that the library can return for a call on a transaction, with modelled objects or not
 abbrev pub IsResult : AppCall → Answer → Type 0
 IsResult call answer = (slot : Option PlainSlot) × AnswersBy (refusal slot call) call answer
 
@@ -26,7 +26,8 @@ SaysResult call answer text = IsResult call answer × (text ≡ answer_line call
 
 -- ---- the calls between start and end
 
--- what some calls report, by the code before them: which code denied the login, if one did, and their lines
+-- what some calls report, given the code before them: which code denied the login, if one did, and
+-- their lines
 abbrev pub Reporting : Type 1
 Reporting = Code → Option Code → List ℕ → Type 0
 
@@ -44,7 +45,7 @@ pub record SaysMade (c : LoginCall) (Others : Reporting) (denied : Option Code)
   pub text_is : text ≡ answer_line (call_of c) answer ++ rest
   pub follows : SaysOthers (accepts c.accepted (code_in answer)) (code_in answer) Others denied rest
 
--- a call is made if it is due
+-- a call is made if the code before it asks for it
 abbrev pub SaysTurn : Bool → LoginCall → Code → Reporting → Option Code → List ℕ → Type 0
 SaysTurn false c last Others denied text = Others last denied text
 SaysTurn true c last Others denied text = SaysMade c Others denied text
@@ -93,7 +94,7 @@ pub record SaysLogin (service : List ℕ) (user : Option (List ℕ)) (verdict : 
 
 -- ---- what is written
 
--- the text says this of a result; or after an Err it is a prefix of a text that says it of one
+-- the text says this about a result; after an Err it is a prefix of such a text
 abbrev pub SaysSo : {T : Type 0} → (T → List ℕ → Type 0) → Result T Stop → List ℕ → Type 0
 SaysSo {T} Says (Ok t) text = Says t text
 SaysSo {T} Says (Err stop) text = (t : T) × (more : List ℕ) × Says t (text ++ more)

@@ -18,8 +18,8 @@ use Rattle.session_login.specs.Login.{Course, Login, Made, answer_line, denied_l
 
 -- ---- a call that stops the login
 
--- A write failed: the call was made. An allocation failed: the call was made, or it wasn't begun, or it ran out of
--- memory itself and left a state that the library says.
+-- If a write failed, the call was made. If an allocation failed, the call was made; or it wasn't
+-- begun; or it ran out of memory itself and left a state that the library allows.
 abbrev pub StopsIn : Setting → Stop → RunState → Made → RunState → Type 0
 StopsIn setting WriteFault s m t = t ≡ m.state
 StopsIn setting NoMemory s m t = (t ≡ m.state) ⊎ ((t ≡ s) ⊎ CallFails setting (step_of m.call) s t)
@@ -59,8 +59,8 @@ pub record MakesCourse (setting : Setting) (c : Course) (result : Result (Option
 
 -- ---- the whole login
 
--- The lines of all its calls are written, and the last line; or it stopped in that one, if there is one; or in a call.
--- If it stops, something may be done to the state last.
+-- The lines of all its calls are written, and the last line if there is one; or it stopped in the
+-- last line, or in a call. After a stop something may still be done to the state.
 abbrev pub LoginLeads : Setting → (Stop → RunState → RunState) → Login → Result Verdict Stop → RunState
     → RunState → List Made → List Made → List ℕ → Type 0
 LoginLeads setting behind l (Ok verdict) s t whole others part = (others ≡ [])
@@ -99,14 +99,16 @@ pub record WritesDenial (code : Code) (result : Result Verdict Stop) (old new : 
 abbrev pub ended_for : Setting → Stop → RunState → RunState
 ended_for setting stop s = (make setting (end_call (stop_status stop)) s).state
 
--- A login with its verdict, and its text is written whole; or where it stopped, and a prefix of the text is.
+-- Either the verdict of a login, whose text is written whole; or the point at which it stopped, and
+-- a prefix of the text is written.
 abbrev pub LogsIn : Setting → Login → Result Verdict Stop → RunState → RunState → SinkState
     → SinkState → Type 0
 LogsIn setting l result s t old new = LogsInThen setting (ended_for setting) l result s t old new
 
 -- ---- what is written, whatever is modelled
 
--- some bytes were written, with at most one call of `Sink` more than they are; without that one if all went well
+-- some bytes were written, with at most one more call of `Sink` than there are bytes; without that
+-- one if nothing failed
 pub record WritesLines {T : Type 0} (Says : T → List ℕ → Type 0) (result : Result T Stop)
     (p q : SinkState) : Type 0 where
   pub text : List ℕ
@@ -122,13 +124,13 @@ SaysAnswer call answer text = text ≡ answer_line call answer
 abbrev pub SaysAnything : {T : Type 0} → T → List ℕ → Type 0
 SaysAnything t text = Unit {0}
 
--- a login that is denied says so last; it isn't refused after its start
+-- the last line of a login that is denied says so; no login is refused after its start
 abbrev pub SaysEnd : Verdict → List ℕ → Type 0
 SaysEnd Passed text = Unit {0}
 SaysEnd (Denied code) text = (front : List ℕ) × (text ≡ front ++ denied_line code)
 SaysEnd Refused text = ⊥
 
--- and one whose start is refused has the line of the fault alone
+-- a login whose start is refused writes only the line of the fault
 abbrev pub SaysVerdict : Verdict → List ℕ → Type 0
 SaysVerdict Refused text = (fault : LoadFault) × (text ≡ refused_text fault)
 SaysVerdict verdict text = SaysEnd verdict text

@@ -90,7 +90,7 @@ pub fn login<K: Sink>(
     ensures went { let seen = ⟦<Session as Told>⟧.seen in Went (IsEndOfLogin result)
         (seen library.old world.old) (seen library.new world.new) }
 
-    // The cause, with real objects too.
+    // The causes, with real objects too.
     ensures faults { RisesIf (has_write_fault result) (K.sink_faults out.old)
         (K.sink_faults out.new) }
 
@@ -169,7 +169,7 @@ fn start_of(alloc: Global, service: &[u8], user: Option<&[u8]>) -> Result<AppCal
     Ok(AppCall::Start { service, user })
 }
 
-// What follows the start.
+// The login after the start.
 fn log_in<K: Sink>(
     alloc: Global,
     library: &mut Library,
@@ -204,7 +204,8 @@ fn log_in<K: Sink>(
     }
 }
 
-// Ends the transaction with SUCCESS or with the code that denied the login, and writes that.
+// Ends the transaction with SUCCESS or with the code that denied the login, and writes its result
+// line.
 fn final_verdict<K: Sink>(
     alloc: Global,
     library: &mut Library,

@@ -8,7 +8,7 @@ use session_run::pam_library::Answer;
 #[derive(Clone, Copy, Debug, PartialEq, Eq)]
 pub(crate) enum When {
     Always,
-    /// If the call before it returned NEW_AUTHTOK_REQD.
+    /// Only if the call before it returned NEW_AUTHTOK_REQD.
     TokenIsTooOld,
 }
 

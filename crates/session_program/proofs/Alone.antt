@@ -1,4 +1,4 @@
--- What is known of a run if only source or sink is modelled, by its status.
+-- What is known of a run if only the source or only the sink is modelled, by its status.
 use Rattle.std.proofs.Common.{◌≡◌, ℕ, [], Result, Ok, Err, refl, sym, append-nil, arith}
 use Rattle.pam_outside.specs.Streams.{SourceState, SinkState}
 use Rattle.session_login.specs.script_stream.specs.Turns.{Ending}

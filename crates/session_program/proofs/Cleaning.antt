@@ -1,4 +1,4 @@
--- If no transaction is open, all data set have their one cleanup record.
+-- If no transaction is open, all data that were set have exactly one cleanup record.
 use Rattle.std.proofs.Common.{◌≡◌, ℕ, zero, suc, ltb, if◌then◌else◌, Bool, true, false, List, [], ◌∷◌, ◌++◌, map, slice_get, Option, refl, sym, ap, ◌∙◌, subst, subst₂, arith}
 use Rattle.std.specs.Prelude.{nat_eq}
 use Rattle.std.specs.List.{IsDistinct}
@@ -20,7 +20,7 @@ use Rattle.session_program.specs.Opened.{IsOpened}
 use Rattle.session_program.specs.CleanedUp.{IsCleanedUp, MayEnd}
 use Rattle.session_program.specs.Command.{Command}
 
--- ---- closed places hold nothing
+-- ---- closed slots hold no data
 
 never : {A : Type 0} → true ≡ false → A
 never e = absurd (cc)
@@ -55,7 +55,7 @@ module _ (Is : ℕ → ℕ → Type 0) where
   births_end_nothing [] = tt
   births_end_nothing (b ∷ bs) = births_end_nothing bs
 
-  -- the events of calls, by the ends that these are
+  -- the events of calls, by the ends that these make
   events_are : (ledger : PlainLedger) (calls : List Moved) → AllEndsAre Is calls → EndsAre Is (events_of ledger calls)
   events_are ledger [] a = tt
   events_are ledger (m ∷ calls) a =
@@ -88,7 +88,7 @@ cleaned_up Is note before now after slots left law stand same went none =
     stood Is note after left ([] ++ events_of now went.went.calls) (events_are Is now went.went.calls went.ends_are)
     (law now after (lists_of slots) (lists_of left) [] went.went first) none
 
--- ---- ends that are also others
+-- ---- ends in terms of other ends
 
 module _ (P Q : ℕ → ℕ → Type 0) (also : (number status : ℕ) → P number status → Q number status) where
   ends_too : (events : List Event) → EndsAre P events → EndsAre Q events
@@ -141,7 +141,7 @@ nothing_to_clean Is note ledger births filed = record {
   once = λ id. rw (births, filed) (none_below id 0 refl);
 }
 
--- the same of a cleanup log that is as it was
+-- the same for a cleanup log that hasn't changed
 pub nothing_cleaned : (Is : ℕ → ℕ → Type 0) (note : Notes) (old new : PlainLedger) → new ≡ old → old.births ≡ [] → old.filed ≡ [] → IsCleanedUp Is note new
 nothing_cleaned Is note old new same births filed =
     subst (λ (l : PlainLedger). IsCleanedUp Is note l) (sym same) (nothing_to_clean Is note old births filed)

@@ -1,4 +1,4 @@
--- What is said of each command, by what was proved of its run.
+-- What holds for each command, from what was proved about its run.
 use Rattle.std.proofs.Common.{◌≡◌, ◌≢◌, ◌⊎◌, inl, inr, ℕ, List, IsTrue, Option, Some, None, Result, Ok, Err, IfOk, refl, sym, ap, ◌∙◌, subst, subst₂, arith}
 use Rattle.pam_base.specs.declared.fault.ScriptKind.{ScriptKind}
 use Rattle.pam_outside.specs.Counts.{RisesIf, Rose}
@@ -95,7 +95,7 @@ module _ (root : List ℕ) (status : ℕ) (setup : Setup) (world : Around) (inpu
 -- ---- statuses
 
 module _ {A : Type 0} where
-  -- no command that was found ends with status 2
+  -- if a command was found, the status isn't 2
   pub run_not_two : (result : Result (Ending ScriptKind) Stop) → status_of result ≡ 2 → A
   run_not_two (Ok Done) is = absurd (omega (arith, is))
   run_not_two (Ok ReadFault) is = absurd (omega (arith, is))
@@ -174,7 +174,7 @@ module _ (status : ℕ) (input : Object SourceState) where
     pub goes_reading : (status ≡ 2 → ⊥) → (ReadsNone found → ⊥) → GoesBy command status input
     goes_reading other reads = record { words_only = λ two. absurd (other two); input_stays = λ none. absurd (reads (subst ReadsNone (sym is) none)) }
 
--- ---- what was asked for is what was found
+-- ---- the command that was asked for is the one that was found
 
 module _ (command : Option Command) (status : ℕ) (setup : Setup) (world : Around) (input : Object SourceState) (output : Object SinkState) where
   pub run_asked : (r root : List ℕ) → Some (runs r) ≡ command → command ≡ Some (runs root) → RunsSo r status setup world input output → RunsSo root status setup world input output

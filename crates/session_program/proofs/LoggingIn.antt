@@ -1,4 +1,4 @@
--- What a login and a generation say by their status.
+-- What the status of a login and of a generation says.
 use Rattle.std.proofs.Common.{◌≡◌, inl, inr, ℕ, ◌&&◌, IsTrue, List, [], Option, Result, Err, refl, sym, ◌∙◌, subst, subst₂, append-nil, arith}
 use Rattle.pam_base.specs.declared.code.Code.{Code}
 use Rattle.pam_outside.specs.Streams.{SinkState}
@@ -40,7 +40,7 @@ module _ (root : List ℕ) (setup : Setup) (old : PlainWorld) (s : Seen) (new : 
       subst₂ (λ (players : List Player) (slots : List PlainSlot). IsLogin (setting_of players number) status service user (entry slots root old) new p q) opened.players opened.slots
       (logged_at (setting_of s.players number) s.slots s.world result status is opened.world_is logs)
 
--- what a library has is also what another setup gives, if the two give the same
+-- a library that comes from one setup comes from another one, too, if both give the same
 pub opened_as : (root : List ℕ) (setup other : Setup) (old : PlainWorld) (s : Seen) → setup.players ≡ other.players → setup.slots ≡ other.slots → setup.tells ≡ other.tells
     → ((number : Code → ℕ → ℕ) → other.gives number → setup.gives number) → IsOpened root setup old s → IsOpened root other old s
 opened_as root setup other old s players slots tells gives opened = record {
@@ -86,7 +86,7 @@ logs_in_so root service user status setup world output given s ends result opene
   login_statuses = (result, is);
 }
 
--- one for which an allocation failed
+-- a login for which an allocation failed
 pub logs_in_not : (root service : List ℕ) (user : Option (List ℕ)) (status : ℕ) (setup : Setup) (world : Around) (output : Object SinkState) → status ≡ 4 → world.new ≡ world.old → output.new ≡ output.old
     → LogsInSo root service user status setup world output
 logs_in_not root service user status setup world output four same written = record {

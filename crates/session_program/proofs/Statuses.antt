@@ -1,4 +1,4 @@
--- What a run that was begun says of the whole script, by its status.
+-- What the status of a run that was begun says about the whole script.
 use Rattle.std.proofs.Common.{◌≡◌, ℕ, List, [], ◌++◌, Option, Ok, sym, ap, ◌∙◌, subst}
 use Rattle.pam_base.specs.declared.fault.ScriptKind.{ScriptKind}
 use Rattle.pam_outside.specs.Streams.{SourceState, SinkState}

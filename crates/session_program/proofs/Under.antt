@@ -1,4 +1,4 @@
--- What a run under a root says by its status, of a script and of frames.
+-- What the status of a run under a root says, for a script and for frames.
 use Rattle.std.proofs.Common.{◌≡◌, ◌≢◌, ◌⊎◌, inl, inr, ℕ, List, Some, Result, Ok, Err, IfOk, refl, sym, ap, ◌∙◌, subst, arith}
 use Rattle.pam_base.specs.declared.fault.ScriptKind.{ScriptKind}
 use Rattle.pam_outside.specs.Counts.{RisesIf, Rose}

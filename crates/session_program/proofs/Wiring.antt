@@ -1,4 +1,4 @@
--- What a run of frames says by its status.
+-- What the status of a run of frames says.
 use Rattle.std.proofs.Common.{◌≡◌, ◌⊎◌, inl, inr, ℕ, ◌<◌, if◌then◌else◌, List, [], ◌∷◌, ◌++◌, length, Option, Some, None, Result, Ok, Err, IfOk, refl, sym, ap, ◌∙◌, subst, subst₂, arith}
 use Rattle.std.specs.Int.{w16, to_be_bytes}
 use Rattle.std.specs.Prelude.{nat_eq}

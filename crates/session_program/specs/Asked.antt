@@ -1,4 +1,4 @@
--- What was found in the words of the command line, as a command (this project's own).
+-- The command that was found in the arguments of the command line (this project's own).
 use Rattle.std.specs.Prelude.{◌≡◌, ℕ, true, List, Option, Some, None}
 use Rattle.session_program.specs.declared.operand.Target.{Target}
 use Rattle.session_program.specs.declared.command.Command.{Command as Found}
@@ -19,7 +19,7 @@ abbrev pub asked : Option Found → Option Command
 asked None = None
 asked (Some found) = Some (command_found found)
 
--- a target is named by these words
+-- a target is named by these arguments
 pub record IsTarget (target : Target) (root service : List ℕ) : Type 0 where
   pub root_is : target.root.now ≡ root
   pub service_is : target.service.now ≡ service

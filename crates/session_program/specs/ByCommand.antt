@@ -67,7 +67,7 @@ pub record IsReady (convs modules : ℕ) (Callable : Code → ℕ → Type 0)
   pub no_births : ledger.births ≡ []
   pub no_receipts : ledger.filed ≡ []
 
--- whichever numbers the delay function gives, if output, world and conversations are modelled
+-- for any numbers that the delay function gives, if output, world and conversations are modelled
 abbrev pub IfTold : Setup → Around → Object SinkState → (Setting → Type 0) → Type 0
 IfTold setup world output Holds =
     (number : Code → ℕ → ℕ) → setup.gives number → IsTrue output.tells
@@ -98,7 +98,8 @@ pub record RunsSo (root : List ℕ) (status : ℕ) (setup : Setup) (world : Arou
   pub unread : IfAllTold setup world input output (λ setting. status ≡ 5
       → IsUnread setting (opening setup.slots root world.old) world.new input.old input.new
       output.old output.new)
-  -- With any status, 4 and 6 too: what was read and written, how often, and the world after it.
+  -- With any status, including 4 and 6: what was read and written, how often, and the world after
+  -- it.
   pub told : IfAllTold setup world input output (λ setting. Runs setting status setup.slots root
       world.old world.new input.old input.new output.old output.new)
   pub statuses : IsStatus status
@@ -106,8 +107,9 @@ pub record RunsSo (root : List ℕ) (status : ℕ) (setup : Setup) (world : Arou
   pub complete : IfAllTold setup world input output (λ setting. Completes status
       (Rose input.faults_before input.faults_after) (Rose output.faults_before output.faults_after)
       setting (opening setup.slots root world.old) input.old)
-  -- If only the source is modelled: at most one read more than bytes were read, and what the status says of the
-  -- script's bytes. If only the sink is: at most one write more than bytes were written.
+  -- If only the source is modelled: there was at most one read more than bytes were read, and what
+  -- the status says about the script's bytes. If only the sink is: there was at most one write more
+  -- than bytes were written.
   pub reads : IsTrue input.tells → ReadsBy status input.old input.new
   pub accepted : IsTrue input.tells → status ≡ 0 → IsAccepted input.old.left input.new.left
   pub has_refused : IsTrue input.tells → status ≡ 7 → HasRefused input.old.left
@@ -222,7 +224,7 @@ ReadsNone (Some (audits root service)) = ⊥
 ReadsNone (Some (wires root)) = ⊥
 ReadsNone command = Unit {0}
 
--- status 2 is that of no command alone, and the other commands leave the input as it was
+-- only a usage error has the status 2, and the other commands leave the input as it was
 pub record GoesBy (command : Option Command) (status : ℕ) (input : Object SourceState) : Type 0 where
   pub words_only : status ≡ 2 → command ≡ None
   pub input_stays : ReadsNone command → input.is_kept

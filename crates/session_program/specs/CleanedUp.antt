@@ -40,9 +40,10 @@ abbrev pub EndsGenerate : ℕ → ℕ → ℕ → Type 0
 EndsGenerate status number ended = (result : Result Generated Stop)
     × (status ≡ generate_status result) × IsEndOfGenerate result number ended
 
--- Which ends there may be, by the command and the exit status. In a run whose script is modelled, each transaction was
--- ended with the status that one of the script's lines asks for, for that number, or with one of those with which a run
--- ends what is open; if frames are modelled, likewise by the frames. The commands that open no transaction end none.
+-- Which ends there can be, by the command and the exit status. In a run whose script is modelled,
+-- each transaction was ended with the status that one of the script's lines asks for, for that
+-- number, or with one of those with which a run ends open transactions; the same holds for frames,
+-- if they are modelled. The commands that open no transaction end none.
 abbrev pub MayEnd : Option Command → Bool → List ℕ → ℕ → ℕ → ℕ → Type 0
 MayEnd (Some (runs root)) tells script status number ended = IsEndOfRun tells script number ended
 MayEnd (Some (logs_in root service user)) tells script status number ended =

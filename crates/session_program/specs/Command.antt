@@ -1,4 +1,4 @@
--- The words of the command line (this project's own).
+-- The arguments of the command line (this project's own).
 use Rattle.std.specs.Prelude.{ℕ, Bool, false, not, ◌&&◌, List, [], ◌∷◌, Option, Some, None, codes, string_bytes, String, if◌then◌else◌, nat_eq, nat_le}
 use Rattle.std.specs.Str.{bytes_eq}
 use Rattle.std.specs.declared.alloc.Global.{Global}
@@ -12,7 +12,7 @@ pub data Command : Type 0 where
   runs : List ℕ → Command
   -- the configuration of a service under a root
   checks : List ℕ → List ℕ → Command
-  -- a login with a service under a root, of a user or of whoever is asked for
+  -- a login with a service under a root, of a named user or of one whose name is asked for
   logs_in : List ℕ → List ℕ → Option (List ℕ) → Command
   -- a number of lines generated from a seed
   generates : ℕ → ℕ → Command
@@ -23,7 +23,7 @@ pub data Command : Type 0 where
   -- the calls of a front end, as frames, under a root
   wires : List ℕ → Command
 
--- a word that isn't empty and doesn't begin with a dash
+-- an argument that isn't empty and doesn't begin with a dash
 abbrev pub is_operand : List ℕ → Bool
 is_operand [] = false
 is_operand (b ∷ bs) = not (nat_eq b 45)
@@ -31,7 +31,7 @@ is_operand (b ∷ bs) = not (nat_eq b 45)
 abbrev pub is_service : List ℕ → Bool
 is_service word = is_operand word && is_service_name word
 
--- a word that can be the name of a user's tally
+-- an argument that can be the name of a user's tally
 abbrev pub is_user : List ℕ → Bool
 is_user word = is_operand word && not (is_no_file word)
 

@@ -33,7 +33,8 @@ pub record IsAtRoot (root : List ℕ) (old new : PlainWorld) : Type 0 where
 abbrev pub entry : List PlainSlot → List ℕ → PlainWorld → RunState
 entry slots root w = state_of slots (at_root root w)
 
--- somebody was asked to log in: what is written of the definition's login, and the world after it
+-- a login was begun: how much of the report of the definition's login is written, and the world
+-- after it
 pub record IsLogin (setting : Setting) (status : ℕ) (service : List ℕ) (user : Option (List ℕ))
     (start : RunState) (world : PlainWorld) (p q : SinkState) : Type 0 where
   pub result : Result Verdict Stop

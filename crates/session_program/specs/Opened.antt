@@ -9,8 +9,8 @@ use Rattle.session_login.specs.session_run.specs.Seen.{IsSoundIn, NoneIsOpenIn, 
 use Rattle.session_program.specs.ByCommand.{Setup}
 use Rattle.session_program.specs.Login.{at_root}
 
--- It has these modules, conversations and delay function, and no transaction is open. The world is the one before, with
--- this root, and no module data have been set.
+-- It has these modules, conversations and delay function, and no transaction is open. The world is
+-- as before but with this root, and no module data have been set.
 pub record IsOpened (root : List ℕ) (setup : Setup) (before : PlainWorld) (seen : Seen) : Type
     0 where
   pub players : seen.players ≡ setup.players

@@ -68,8 +68,8 @@ pub record IsDone (setting : Setting) (start : RunState) (world : PlainWorld) (x
   pub reported : IsReported setting Done start x.left (run_over setting start x.left true) world p q
   pub read_out : y.left ≡ []
 
--- Status 7: a line of the whole script is refused, for this. Of the bytes taken, all but at most the last 512 (those
--- of the last read) hold no line that is refused.
+-- Status 7: a line of the whole script is refused, for this reason. The bytes taken before the last
+-- read, which takes at most 512, hold no line that is refused.
 pub record IsRefused (setting : Setting) (start : RunState) (world : PlainWorld) (x y : SourceState)
     (p q : SinkState) : Type 0 where
   pub kind : ScriptKind
@@ -114,8 +114,9 @@ pub record StandsSideBySide (setting : Setting) (start : RunState) (bytes : List
       → ComesAlone setting start bytes ended number slot
   pub steps : TellsSteps setting start bytes ended
 
--- a run was begun: what was taken and written, how often it was read and written, and the world after it; before it no
--- data were set and nothing ended; and whatever its lines give is side by side
+-- a run was begun: what was taken and written, how often it was read and written, and the world
+-- after it; before it no data were set and nothing was ended; and its lines do what the steps of
+-- each number do alone
 pub record IsBegun (setting : Setting) (status : ℕ) (start : RunState) (world : PlainWorld)
     (x y : SourceState) (p q : SinkState) : Type 0 where
   pub result : Result Ending Stop

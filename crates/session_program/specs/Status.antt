@@ -63,7 +63,7 @@ IsTallyStatus n = (result : Result Tallied Stop) × (n ≡ tally_status result)
 abbrev pub CallsOnce : ℕ → VaultState → VaultState → Type 0
 CallsOnce status old new = (new ≡ counted old) ⊎ ((status ≡ 4) × (new ≡ old))
 
--- the faults of `Vault`, before and after: they rise with 10, and neither with 0 nor with 9
+-- the count of failures of `Vault`, before and after: it rises with 10, and doesn't with 0 and 9
 pub record CountsUnread (status before now : ℕ) : Type 0 where
   pub unread : status ≡ 10 → Rose before now
   pub read : (status ≡ 0) ⊎ (status ≡ 9) → now ≡ before

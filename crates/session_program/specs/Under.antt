@@ -18,7 +18,8 @@ use Rattle.session_program.specs.ByCommand.{Around, IfAllTold, Setup}
 use Rattle.session_program.specs.CleanedUp.{IsCleanedUp}
 use Rattle.session_program.specs.Run.{IsNotBegun, opening}
 
--- it was begun: what is said of it, and the world after it; before it no data were set and nothing ended
+-- it was begun: what holds for it, and the world after it; before it no data were set and nothing
+-- was ended
 pub record IsBegunSo {Kind : Type 0} (runs_so : RunTold Kind) (setting : Setting)
     (result : Result (Ending Kind) Stop) (start : RunState) (world : PlainWorld)
     (x y : SourceState) (p q : SinkState) : Type 0 where

@@ -18,7 +18,8 @@ use Rattle.session_wire.specs.Reading.{LooksBefore, SpellsTo}
 use Rattle.session_wire.specs.Whole.{Answers, AnswersAll, ending_by}
 use Rattle.session_program.specs.Run.{IsNotBegun, opening}
 
--- 0 if the input ends after a frame, 5 if it can't be read on, 13 at a bad frame, 14 at one frame too many
+-- 0 if the input ends after a frame, 5 if reading it fails, 13 at a bad frame, 14 at one frame too
+-- many
 abbrev pub wire_status : Result (Ending FrameFault) Stop → ℕ
 wire_status (Ok Done) = 0
 wire_status (Err NoMemory) = 4
@@ -82,8 +83,8 @@ pub record ReadsFramesBy (status : ℕ) (x y : SourceState) : Type 0 where
       → SpellsTo ending taken y.left
   pub looks : LooksBefore taken
 
--- If the whole input is bytes that spell these steps and have this after them, and nothing failed, the status is that
--- of it, or out of memory.
+-- If the whole input spells these steps, followed by this, and nothing failed, the status is the
+-- one for what follows, or out of memory.
 abbrev pub WireCompletes : ℕ → List ℕ → Type 0 → Type 0 → Type 0
 WireCompletes status input read_failed write_failed =
     (steps : List Step) (rest : List ℕ) (fault : Option FrameFault) → AreBytes input

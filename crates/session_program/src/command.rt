@@ -14,7 +14,7 @@ pub enum Command<'a> {
     Run(&'a [u8]),
     /// The configuration of a service, under this root.
     Check(&'a [u8], &'a [u8]),
-    /// A login under this root, with this service; the conversation asks for the user.
+    /// A login under this root, with this service; the conversation asks for the user's name.
     Login(Target<'a>),
     /// A login of this user.
     LoginAs(Target<'a>, &'a [u8]),

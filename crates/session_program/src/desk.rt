@@ -19,10 +19,10 @@ pub struct Desk {
 pub trait DeskTold {
     ghost use Rattle.session_program.specs.ByCommand.{Setup};
 
-    /// What transactions get of it.
+    /// The part of it that transactions get.
     ghost given: { Self → Setup };
 
-    /// The same with the terminal's conversation in the first slot.
+    /// The same, with the terminal's conversation in the first slot.
     ghost at_terminal: { Self → Setup };
 }
 

@@ -59,7 +59,7 @@ pub(crate) fn library_of(alloc: Global, desk: Desk, ledger: &Ledger) -> Result<L
     Ok(library)
 }
 
-/// The same library, over the world under a root. If an allocation fails, the world is as it was.
+/// The same library, and the world with this root. If an allocation fails, the world is as it was.
 pub(crate) fn library_under(
     alloc: Global,
     root: &[u8],

@@ -40,7 +40,7 @@ use std::alloc::Global;
 /// - `wire ROOT` does what `run` does for the frames of a front end, at most 65,536 calls, and writes an answer to
 ///   each before it reads the next one.
 ///
-/// An argument isn't empty and doesn't begin with `-`. It returns the exit status:
+/// No argument may be empty or begin with `-`. The exit status is returned:
 ///
 /// - 0: the script or the frames were read to their end, the configuration is printed, the login was granted, the
 ///   line is written, the failures are listed, or the transcript fits
@@ -79,7 +79,7 @@ pub fn pamsess<S: Source, K: Sink>(
     requires no_births { world.old.process.ledger.births ≡ [] }
     requires no_receipts { world.old.process.ledger.filed ≡ [] }
 
-    // By the command: what is read and written, and the world after it.
+    // For each command: what is read and written, and the world after it.
     ensures run { (root : List ℕ) → command_of words.now ≡ Some (runs root) →
         RunsSo root result (⟦<Desk as DeskTold>⟧.given desk)
         (⟦<Outside as OutsideTold>⟧.around world.old world.new)

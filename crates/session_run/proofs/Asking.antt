@@ -1,4 +1,4 @@
--- Which items of a modelled text the items are that were found in it, and what they ask for.
+-- The items that were found in a modelled text, and what they ask for.
 use Rattle.std.proofs.Common.{◌≡◌, ◌+◌, ◌<◌, ◌⊎◌, inl, inr, ℕ, Bool, true, false, List, [], ◌∷◌, ◌++◌, length, length-append, take, drop, Result, Ok, Err, refl, sym, ◌∙◌, ap, append_assoc, subst, cond, leb, arith}
 use Rattle.std.proofs.lemmas.List.{append-nil}
 use Rattle.std.proofs.lemmas.List.Elements.{All-take}
@@ -73,7 +73,7 @@ module _ {Kind : Type 0} (looked : Looks) (refuses : Refuses) (asked : Asking Ki
         ap (λ (t : List ℕ). looked n t true) (all_left (Ok Rest) n before held x y finds ∙ all) ∙ ap (looked n held) (sym end) ∙ finds.ended.seen
     rest_by line e (inr over) = absurd (never_asked line over e)
 
-    -- if it asks for something, the end of the text was seen
+    -- if the last item asks for something, the end of the text was reached
     pub rest_is : (line : Line) → asked n held ≡ Ok line → looked n (before ++ x.left) true ≡ held ∷ []
     rest_is line e = rest_by line e finds.ended.fits
 

@@ -18,7 +18,7 @@ use Rattle.session_run.specs.Step.{applied_or_refused, line_step}
 use Rattle.session_run.specs.SideBySide.{TellsSteps, report_of_steps, step_of, steps_behind, steps_in, steps_of}
 
 module _ (setting : Setting) where
-  -- a line that was applied is one by what it is read as
+  -- a line that was applied, by the step as which it is read
   by_tests : (many long : Bool) (r : Result (RunState × List ℕ) ScriptKind) (x : RunState × List ℕ)
       → cond many (Err TooManyLines) (cond long (Err LineTooLong) r) ≡ Ok x → r ≡ Ok x
   by_tests true long r x e = absurd cc

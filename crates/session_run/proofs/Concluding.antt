@@ -1,4 +1,4 @@
--- What is known of any run, said of the run of a script.
+-- What is known of any run, stated for the run of a script.
 use Rattle.std.proofs.Common.{◌≡◌, ℕ, inl, inr, List, Option, Some, None, Result, Ok, Err, refl, sym, ◌∙◌}
 use Rattle.pam_base.specs.declared.code.Code.{Code}
 use Rattle.pam_base.specs.declared.fault.ScriptKind.{ScriptKind}
@@ -45,7 +45,7 @@ runs_script all calls ends setting (Err stop) start end x y p q (inr r) =
 pub reads_script : ReadsSo looked (step_at line_read) ReadsScript
 reads_script = record { whole = script_read; left = script_left }
 
--- no run gives up by itself
+-- no run stops without a cause
 ended : (ending : Ending) (m a b c d : ℕ) (x y : SourceState) → ReadsAll looked (step_at line_read) (Ok ending) m x y → RisesIf (has_read_fault (Ok (Some ending))) a b
     → Completes (Ok ending) x.left (Rose a b) (Rose c d)
 ended Done m a b c d x y r read = λ accepted no_read no_write. inl refl

@@ -41,7 +41,7 @@ module _ (setting : Setting) (status : Code) where
   abbrev end_at : ℕ → RunState → RunState
   end_at number s = let t : Stepped = stepped setting.players setting.delay s.slots s.world (end_step number) in state_of t.slots t.world
 
-  -- n slots are, one after another, after the first i
+  -- n slots are ended, one after another, after the first i
   unfoldable pub ends_from : ℕ → ℕ → RunState → RunState
   ends_from i zero s = s
   ends_from i (suc k) s = ends_from (suc i) k (end_at (suc i) s)
@@ -62,7 +62,7 @@ module _ (setting : Setting) (status : Code) where
       let stays : end_at (suc i) s ≡ s = by_found (suc i) s None (beyond s.slots i long) in
       ap (ends_from (suc i) k) stays ∙ none_left k (suc i) s (omega arith)
 
-  -- what a slot is when it was ended
+  -- a slot after its end
   abbrev pub left_behind : PlainSlot → PlainSlot
   left_behind (closed conv) = closed conv
   left_behind (opened h) = closed h.room.conv

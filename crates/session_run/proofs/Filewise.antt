@@ -24,7 +24,7 @@ use Rattle.session_run.specs.Visits.{StepsAsk}
 
 -- ---- the lines
 
--- what the modules get of the lines that a step runs, and that their calls alone change the files
+-- what the modules of the lines that a step runs get, and that only their calls change the files
 abbrev AllStepsAsk : Type 0
 AllStepsAsk = (players : List Player) (number_of : Code → ℕ → ℕ) (slots : List PlainSlot) (w : PlainWorld) (step : Step) → (asked : List AskedLine) × StepAsks players number_of slots w step asked
 
@@ -38,7 +38,7 @@ module _ (setting : Setting) (asks : AllStepsAsk) (step_leads : AllStepsLead)
   abbrev pub Leads : RunState → List Met → List File → Type 0
   Leads s met last = (asked : List AskedLine) × StepsAsk setting s.slots met asked × LinesLead setting.players s.world.vault.files asked last
 
-  -- a line that isn't refused, and what leads on from the state after it
+  -- a line that isn't refused, and what follows from the state after it
   abbrev pub LineLeads : RunState → Result Line ScriptKind → Result (RunState × List ℕ) ScriptKind → Type 0
   LineLeads s read (Ok x) = (met : List Met) (last : List File) → Leads x.0 met last → Leads s (step_of s read ++ met) last
   LineLeads s read (Err kind) = Unit {0}

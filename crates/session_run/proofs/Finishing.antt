@@ -19,7 +19,7 @@ use Rattle.session_run.specs.Reported.{Closes, ClosesTo}
 use Rattle.session_run.specs.Run.{ClosesBy, EndsTo, EndsWith, RunsOrStops, text_of}
 
 module _ {Kind : Type 0} (wrapped : List ℕ → List ℕ) (last_text : Ending Kind → ℕ → Option (List ℕ)) (players : List Player) (ending : Ending Kind) (n : ℕ) where
-  -- the implicit ends stopped
+  -- the run stopped in the implicit ends
   cut_short : (stop : Stop) (s t : RunState) (whole others : List Closing) (part : List ℕ)
       → ClosesTo wrapped players (ending_status ending) (Err stop) s t whole others part → EndsTo wrapped last_text players ending n (Err stop) s t whole others part
   cut_short stop s t whole [] part h = absurd h

@@ -30,7 +30,7 @@ module _ (Is : ℕ → ℕ → Type 0) where
     sound = y.sound;
   }
 
--- ends that are some of these are some of those
+-- ends among these are among those
 pub went_so : (Is Are : ℕ → ℕ → Type 0) (so : (number status : ℕ) → Is number status → Are number status) (a b : Seen) → Went Is a b → Went Are a b
 went_so Is Are so a b w = record {
   players = w.players;

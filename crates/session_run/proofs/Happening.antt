@@ -56,7 +56,7 @@ module _ (setting : Setting) where
   lists_are [] n m s t text a = ap (λ (x : RunState). lists_of x.slots) (sym a.1)
   lists_are (l ∷ ls) n m s t text a = rw a.4 (lists_are ls (n + 1) m a.0 t a.2 a.6)
 
-  -- they give that
+  -- a run of these lines has this state and this text
   pub lead_runs : (ls : List (List ℕ)) (n m : ℕ) (s t : RunState) (text : List ℕ) → LinesLead n s ls m t text
       → run_lines (line_step setting) n s ls ≡ come_to text t m None
   unfolding run_items

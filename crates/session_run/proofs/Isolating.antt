@@ -53,7 +53,7 @@ OtherCalls = (players : List Player) (number_of : Code → ℕ → ℕ) (number 
 
 -- ---- lines
 
--- what a line is, by whether it is one too many
+-- what a line does, by whether it is one too many
 abbrev counted : {A : Type 0} → Bool → Result A ScriptKind → Result A ScriptKind
 counted many r = if many then Err TooManyLines else r
 
@@ -67,7 +67,7 @@ parsed_alone number l = elim (is_on_another number (step_in (parsed l))) as (λ 
   | false ↦ refl
 ]
 
--- what is the same of what came
+-- what the results of both runs have in common
 pub record Seen : Type 0 where
   pub step : Step
   pub told : PlainOutcome
@@ -111,7 +111,7 @@ module _ (setting : Setting) where
 
     module _ (own : OwnCalls) (other : OtherCalls) (n : ℕ) (f g : RunState → List MadeStep) (u v : RunState → Run RunState) (Next : RunState → Type 0)
         (more : (x y : RunState) → Alike x y → Next x → GoAlike (f x) (g y) (u x) (v y)) where
-      -- a line that reports nothing of the number
+      -- a line that reports nothing about the number
       silent : (x y : RunState) (text words : List ℕ) → Alike x y → Next x → GoAlike (f x) (g y) (with_text text (u x)) (with_text words (v y))
       silent x y text words alike stays = let m : GoAlike (f x) (g y) (u x) (v y) = more x y alike stays in record { came = m.came; last = m.last; lines = m.lines; refused = m.refused }
 
@@ -209,7 +209,7 @@ module _ (setting : Setting) where
       from_start n s script start stays =
           runs_alike n s s script (record { place = refl; shown = refl; first_order = start.order; second_order = start.order; first_quiet = start.quiet; second_quiet = start.quiet }) stays
 
--- ---- what is said of it
+-- ---- what follows for the runs
 
 pub outcomes_seen : (cs ds : List MadeStep) → map seen cs ≡ map seen ds → map (λ (c : MadeStep). told_in c.outcome) cs ≡ map (λ (c : MadeStep). told_in c.outcome) ds
 outcomes_seen cs ds same = by cs ∙ ap (map (λ (x : Seen). x.told)) same ∙ sym (by ds)

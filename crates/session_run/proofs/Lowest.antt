@@ -13,7 +13,7 @@ use Rattle.session_report.specs.pam_library.specs.Closing.{ClosedOne, ClosesAs, 
 use Rattle.session_run.specs.State.{RunState, state_of}
 use Rattle.session_run.specs.Closings.{Closing, EndsNext, all_closed, last_state, open_count, world_behind, text_of_end, closings_behind, closings}
 
--- ---- one in the place of another
+-- ---- one slot in place of another
 
 set-behind : (front rest : List PlainSlot) (old new : PlainSlot) → slice_set (front ++ old ∷ rest) (length front) new ≡ front ++ new ∷ rest
 set-behind [] rest old new = refl
@@ -25,7 +25,7 @@ count-behind [] rest h = omega arith
 count-behind (closed conv ∷ front) rest h = count-behind front rest h
 count-behind (opened g ∷ front) rest h = omega (arith, count-behind front rest h)
 
--- ---- the first open place
+-- ---- the first open slot
 
 module _ (players : List Player) (status : Code) where
   -- the open transaction with the lowest number, if the first slot has the number n: those before it are closed
@@ -105,7 +105,7 @@ module _ (players : List Player) (status : Code) where
   unfolding closed_one
   closes_one slots w c e = by_found slots w c (first_open 1 slots) refl e
 
-  -- if none is open there is no implicit end
+  -- if no transaction is open, there is no implicit end
   none_behind : (n : ℕ) (front slots : List PlainSlot) (w : PlainWorld) → first_open n slots ≡ None → closings_behind players status front slots w ≡ []
   unfolding closings_behind
   none_behind n front [] w e = refl
@@ -134,7 +134,7 @@ module _ (players : List Player) (status : Code) where
   pub none_left : (slots : List PlainSlot) (w : PlainWorld) → NoneIsOpen slots → all_closed players status (state_of slots w) ≡ state_of slots w
   none_left slots w none = ap (last_state (state_of slots w)) (closings_none slots w none)
 
-  -- one was ended, and then the others
+  -- one transaction was ended, and then the others
   pub one_then : (number : ℕ) (s t : RunState) → EndsNext players status number s t → all_closed players status s ≡ all_closed players status t
   one_then number s t e = ap (last_state s) e.first
 

@@ -28,7 +28,7 @@ use Rattle.script_stream.specs.Run.{run_lines}
 use Rattle.session_run.proofs.Departing.{at_front, closed_alike, end_step, ends_alike, ends_from, ends_next, left_behind, one_longer}
 use Rattle.session_run.proofs.Isolating.{Alike, GoAlike, OtherCalls, OwnCalls, cleaned_text, cleanups_seen, from_start, outcomes_seen, report_seen}
 
--- ---- places in a list
+-- ---- slots in a list
 
 splits : (slots : List PlainSlot) (k : ℕ) (x : PlainSlot) → slice_get slots k ≡ Some x → drop k slots ≡ x ∷ drop (suc k) slots
 splits [] k x is = absurd cc
@@ -41,7 +41,7 @@ is_within (y ∷ slots) zero x is = omega arith
 is_within (y ∷ slots) (suc k) x is = let rest : k ≤ length slots = is_within slots k x is in omega (arith, rest)
 
 module _ (setting : Setting) (status : Code) where
-  -- ---- some places are ended, one after another
+  -- ---- some slots are ended, one after another
 
   record EndedUpTo (i k : ℕ) (s : RunState) (rest : List PlainSlot) (w : PlainWorld) : Type 0 where
     front : List PlainSlot
@@ -67,7 +67,7 @@ module _ (setting : Setting) (status : Code) where
             ∙ rest.is;
       }
 
-  -- ---- what is written for a place
+  -- ---- what is written for a slot
 
   abbrev words_for : ℕ → Stepped → List ℕ
   words_for number t =
@@ -166,7 +166,7 @@ module _ (setting : Setting) (status : Code) where
   after_one [] x w = refl
   after_one (y ∷ front) x w = after_one front x (world_left setting.players status y w)
 
-  -- a place, and those after it
+  -- a slot, and those after it
   abbrev place_text : ℕ → PlainWorld → PlainSlot → List ℕ
   place_text number w x = closed_text_with setting.players status number_words number w (Some x)
 

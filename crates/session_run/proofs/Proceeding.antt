@@ -90,7 +90,7 @@ module _ (Is : ℕ → ℕ → Type 0) (note : Notes) where
     ends_are = ends-append x.went.calls y.went.calls x.ends_are y.ends_are;
   }
 
--- ends that are some of these are some of those
+-- ends among these are among those
 module _ (Is Are : ℕ → ℕ → Type 0) (so : (number status : ℕ) → Is number status → Are number status) where
   ends_so : (events : List Event) → EndsAre Is events → EndsAre Are events
   ends_so [] are = tt
@@ -105,7 +105,7 @@ module _ (Is Are : ℕ → ℕ → Type 0) (so : (number status : ℕ) → Is nu
       → ProceedsBy Are note before lists after next
   proceeds_so note before after lists next p = record { went = p.went; ends_are = all_so p.went.calls p.ends_are }
 
--- the end that a call is, if it is one
+-- the end that a call makes, if it makes one
 pub call_ends : (slot : Option PlainSlot) (number : ℕ) (call : AppCall)
     → EndsAre (IsEndStep (record { number = number; call = call })) (end_at slot number call)
 call_ends None number call = tt

@@ -1,5 +1,5 @@
--- Worked rows of a run, computed: a call that finds nothing open, a time, and a word that is no command; and two
--- transactions.
+-- Test cases of runs, computed: a call on a closed transaction, a time, and a word that isn't a
+-- command; and two transactions.
 use Rattle.std.specs.Prelude.{◌≡◌, ℕ, true, false, nat_le, if◌then◌else◌, List, [], ◌∷◌, ◌++◌, length, Some, codes, refl, replicate}
 use Rattle.std.proofs.Common.{inl, sym, ◌∙◌}
 use Rattle.std.specs.Fmt.{digits}
@@ -116,9 +116,9 @@ others_leave_files : LeaveFiles with_module 1 0 with_service interleaved
 unfolding step_at line_step words_of stepped digits look items answer_to answer_at pieces_behind first_piece entry_of nodes path_of
 others_leave_files = (λ e. absurd cc, (λ e. by_these service_files refl refl, (λ e. by_these service_files refl refl, (λ e. absurd cc, (λ e. absurd cc, tt)))))
 
--- ---- a step on another number that changes a file: the law's premise fails, and so does what it concludes
+-- ---- a step on another number that changes a file: the law's premise fails, and so does its conclusion
 
--- it returns a code by whether it has been called before, which it writes into a file
+-- a module whose code depends on whether it has been called before, which it writes into a file
 abbrev notes_in_file : Player
 notes_in_file = record {
   name = codes "p";

@@ -64,7 +64,7 @@ lines_do = record {
   reads = reads;
 }
 
--- a line that was applied is asked for what it is parsed as
+-- a line that was applied asks for what it is parsed as
 accepted_by : (setting : Setting) (many : Bool) (r : Result (RunState × List ℕ) ScriptKind) (p : Result Line ScriptKind) (x : RunState × List ℕ)
     → cond many (Err TooManyLines) r ≡ Ok x → cond many (Err TooManyLines) p ≡ p
 accepted_by setting true r p x e = absurd cc

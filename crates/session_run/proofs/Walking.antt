@@ -48,7 +48,7 @@ module _ {Kind : Type 0} (looked : Looks) (asked : Asking Kind) (step : Setting 
       lead = (t, told.text, [], sym (append-nil told.text), told.served, moves, (refl, refl, refl));
     }
 
-  -- one was begun, or none
+  -- one item was begun, or none
   pub broken_off : (n : ℕ) (s t : RunState) (input part : List ℕ) (p q : SinkState) → q.written ≡ p.written ++ part
       → ProceedsBy (FirstAsks asked n (looked n input true)) (notes_of setting.players) s.world.process.ledger (lists_of s.slots) t.world.process.ledger (lists_of t.slots)
       → BrokenIn n n s t input p q

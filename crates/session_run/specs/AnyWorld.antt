@@ -9,7 +9,8 @@ use Rattle.session_report.specs.pam_library.specs.Calls.{MoveOn, Moved, events_o
 use Rattle.session_report.specs.pam_library.specs.Slots.{PlainSlot, handle_limit, lists_of}
 use Rattle.session_run.specs.Ends.{EndsAre}
 
--- Calls of a library were made, one after another: each added the data that it set and the end that it was.
+-- Calls of a library were made, one after another: each added the data that it set and, if it was
+-- an end, that end.
 pub record Proceeds (note : Notes) (before : PlainLedger) (lists : Lists) (after : PlainLedger)
     (next : Lists) : Type 0 where
   pub calls : List Moved
@@ -23,7 +24,7 @@ CallsStand = (note : Notes) (before after : PlainLedger) (lists next : Lists) (e
     → (p : Proceeds note before lists after next) → StandFor note handle_limit before lists events
     → StandFor note handle_limit after next (events ++ events_of before p.calls)
 
--- the ends of these calls are some of these
+-- all ends of these calls are among these
 abbrev pub AllEndsAre : (ℕ → ℕ → Type 0) → List Moved → Type 0
 AllEndsAre Is [] = Unit {0}
 AllEndsAre Is (m ∷ calls) = EndsAre Is m.ended × AllEndsAre Is calls

@@ -19,13 +19,13 @@ module _ {Kind : Type 0} (asked : Asking Kind) where
   FirstAsks n [] number status = ⊥
   FirstAsks n (item ∷ items) number status = IsEnd (asked n item) number status
 
-  -- an item isn't refused, and it is bytes, as they are
+  -- an item isn't refused, and consists of bytes
   pub record IsAccepted (n : ℕ) (item : List ℕ) : Type 0 where
     pub line : Line
     pub asks : asked n item ≡ Ok line
     pub bytes : All (λ b. b < 256) item
 
-  -- so are several
+  -- several such items
   abbrev pub AreAccepted : ℕ → List (List ℕ) → Type 0
   AreAccepted n [] = Unit {0}
   AreAccepted n (item ∷ items) = IsAccepted n item × AreAccepted (n + 1) items

@@ -1,4 +1,4 @@
--- With which status open transactions are ended after the items of a run (this project's own).
+-- The status with which open transactions are ended after the items of a run (this project's own).
 use Rattle.pam_base.specs.declared.code.Code.{Code}
 use Rattle.pam_base.specs.declared.code.Code.TheVariants.{Success, SystemErr, BufErr, Abort}
 use Rattle.item_stream.specs.declared.ending.Ending.{Ending}

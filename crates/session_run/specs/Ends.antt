@@ -35,7 +35,7 @@ pub record HasEnd (text : List ℕ) (number status : ℕ) : Type 0 where
 abbrev pub IsStatusOf : Code → ℕ → ℕ → Type 0
 IsStatusOf code number status = status ≡ number_of code
 
--- a status with which a run ends what is open after its lines
+-- a status with which a run ends the transactions that are open after its lines
 abbrev pub IsClosingStatus : ℕ → Type 0
 IsClosingStatus status = ((ending : Ending) × (status ≡ number_of (ending_status ending)))
     ⊎ ((stop : Stop) × (status ≡ number_of (stop_status stop)))

@@ -95,7 +95,7 @@ abbrev pub IsAskedBy : List (List ℕ) → ℕ → ℕ → Type 0
 IsAskedBy [] number status = ⊥
 IsAskedBy (line ∷ rest) number status = AsksEnd line number status
 
--- one item that was applied, whatever the slots before it
+-- one item that was applied, whatever the slots before it held
 abbrev pub MovesBy : {Kind : Type 0} → Notes → List PlainSlot → Result Line Kind → PlainLedger
     → PlainLedger → List PlainSlot → Type 0
 MovesBy note slots asked before after next =
@@ -103,8 +103,8 @@ MovesBy note slots asked before after next =
 
 module _ {Kind : Type 0} (looked : Looks) (asked : Asking Kind)
     (step : Setting → ItemStep RunState Kind) (setting : Setting) where
-  -- Some items lead from one state to another: each was applied, and its sets and its end were added to cleanup log
-  -- and data. This is their text.
+  -- Some items lead from one state to another and have this text: each was applied, and its sets
+  -- and its end were added to cleanup log and data.
   abbrev pub LeadOn : ℕ → RunState → List (List ℕ) → ℕ → RunState → List ℕ → Type 0
   LeadOn n s [] m t text = (m ≡ n) × (t ≡ s) × (text ≡ [])
   LeadOn n s (item ∷ rest) m t text =
@@ -171,13 +171,14 @@ module _ {Kind : Type 0} (looked : Looks) (asked : Asking Kind)
 
 -- ---- a run that stops
 
--- The end of a transaction that the next line asks for, or one with this status.
+-- The end of a transaction: one that the next line asks for, or one with this status.
 abbrev pub IsLaterEnd : Code → List (List ℕ) → ℕ → ℕ → Type 0
 IsLaterEnd status others number ended = IsAskedBy others number ended
     ⊎ IsStatusOf status number ended
 
--- Among its lines: the whole text of n lines is in what was written. Cleanup log and data model their events, and then
--- others, whose ends the next line asked for or have this status.
+-- The run stopped among its lines: the whole text of n lines is in what was written. Cleanup log
+-- and data model their events, and then others, whose ends the next line asked for or have this
+-- status.
 pub record StandsCut (setting : Setting) (status : Code) (lines : ℕ) (start end : RunState)
     (input text : List ℕ) : Type 0 where
   pub middle : RunState
@@ -191,8 +192,8 @@ pub record StandsCut (setting : Setting) (status : Code) (lines : ℕ) (start en
   pub stand : StandOn (notes_of setting.players)
       (line_events setting start (take lines (lines_of input)) ++ later) start end
 
--- After them: cleanup log and data model the events of the lines, and then others, whose ends have one of these two
--- statuses.
+-- The run stopped after its lines: cleanup log and data model the events of the lines, and then
+-- others, whose ends have one of these two statuses.
 pub record StandsBehind (setting : Setting) (status stopped : Code) (lines : ℕ)
     (start end : RunState) (input : List ℕ) : Type 0 where
   pub later : List Event

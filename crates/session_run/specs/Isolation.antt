@@ -1,5 +1,5 @@
--- A transaction goes as it would alone (this project's own): a script in which each step on another number is a blank
--- line, and the results of the steps on a number in a run.
+-- A transaction does what it would do alone (this project's own): a script in which each step on
+-- another number is a blank line, and the results of the steps on a number in a run.
 use Rattle.std.specs.Prelude.{◌≡◌, ℕ, zero, suc, ◌+◌, Bool, true, false, not, nat_eq, if◌then◌else◌, List, [], ◌∷◌, ◌++◌, map, length, take, drop, codes, slice_get, unwrap_or, Option, Some, None, Result, Ok, Err}
 use Rattle.std.specs.List.{flat_map, range_with_len}
 use Rattle.std.specs.Fmt.{decimal}
@@ -143,11 +143,11 @@ step_text_with id_words names c =
     ++ (all_missing_text c.step.number c.outcome.missing
     ++ answer_text c.step.number (word_of_call c.step.call) c.outcome.answer))))
 
--- with every id left out
+-- the same with every id left out
 abbrev pub text_without_ids : List (List ℕ) → MadeStep → List ℕ
 text_without_ids names c = step_text_with (λ (id : ℕ). []) names c
 
--- as the report has it
+-- the text in the report
 abbrev pub text_of : List (List ℕ) → MadeStep → List ℕ
 text_of names c = step_text names c.step c.outcome c.ledger
 
@@ -189,16 +189,16 @@ module _ (players : List Player) (status : Code) where
   all_closing_texts s =
       flat_map (closing_text_with number_words s) (range_with_len 1 (length s.slots))
 
--- ---- a transaction goes as it would alone
+-- ---- a transaction does what it would do alone
 
--- where the lines of a script lead, after n lines
+-- the state after the lines of a script, which follow n lines
 abbrev pub state_behind : Setting → ℕ → RunState → List (List ℕ) → RunState
 state_behind setting n s script = (run_lines (line_step setting) n s script).last
 
 -- A run and that of the script of one number alone, from the same start: the number's steps report and return the same,
 -- and its sets and cleanups are the same, in their order and except for ids and positions in the log, after the lines
 -- and when all is ended after them. Its lines of the report are the same except for ids, also those with which the
--- program closes it. Both runs end at the same line, for the same fault if there is one.
+-- program closes it. Both runs end at the same line and, if there is one, for the same fault.
 pub record GoesAsAlone (setting : Setting) (number n : ℕ) (s : RunState)
     (script : List (List ℕ)) : Type 0 where
   pub outcomes : map (λ (c : MadeStep). told_in c.outcome) (steps_among setting number n s script)
@@ -231,7 +231,8 @@ pub record GoesAsAlone (setting : Setting) (number n : ℕ) (s : RunState)
   pub refused : (run_lines (line_step setting) n s script).refused
       ≡ (run_lines (line_step setting) n s (alone number script)).refused
 
--- So does each, from a quiet start, if no step on another number changes a file.
+-- The same holds for each number, from a start with no planned failure, if no step on another
+-- number changes a file.
 pub record TransactionsStandAlone : Type 0 where
   pub goes : (setting : Setting) (number n : ℕ) (s : RunState) (script : List (List ℕ))
       → IsQuietStart s → LeaveFiles setting number n s script
@@ -242,7 +243,7 @@ pub record TransactionsStandAlone : Type 0 where
       ≡ map (text_of (names_of setting.players)) (steps_among setting number n s script)
   pub words : (names : List (List ℕ)) (c : MadeStep)
       → step_text_with number_words names c ≡ text_of names c
-  -- the reports of the implicit pam_end calls are those of each number, in order
+  -- the reports of the implicit pam_end calls are those of the numbers, in order
   pub closings : (setting : Setting) (status : Code) (s : RunState)
       → closings_text (all_closings setting.players status s)
       ≡ all_closing_texts setting.players status s

@@ -31,7 +31,7 @@ line_read done line = read_as (parsed line)
 abbrev pub refused_in : List ℕ → Bool → Option ScriptKind
 refused_in bytes ended = (run_of line_read 0 tt bytes ended).refused
 
--- a run refuses the same line, whatever its lines do and from whatever state
+-- a run refuses the same line, whatever its lines do and whatever state it begins in
 pub record RefusesByBytes : Type 0 where
   pub refused : (setting : Setting) (start : RunState) (bytes : List ℕ) (ended : Bool)
       → (run_of (line_step setting) 0 start bytes ended).refused ≡ refused_in bytes ended
@@ -39,7 +39,7 @@ pub record RefusesByBytes : Type 0 where
       → (run_of (line_step setting) 0 start bytes ended).items
       ≡ (run_of line_read 0 tt bytes ended).items
 
--- no state is excluded
+-- any state is possible
 abbrev pub AnyState : Unit {0} → List ℕ → Unit {0} → Type 0
 AnyState before line after = Unit {0}
 
@@ -47,7 +47,7 @@ AnyState before line after = Unit {0}
 abbrev pub nowhere : SinkState
 nowhere = record { written = []; calls = 0 }
 
--- what was taken after these is bytes, as they are
+-- what was taken after these consists of bytes
 pub record TakesBytes (before : List ℕ) (x y : SourceState) : Type 0 where
   pub got : List ℕ
   pub source : x.left ≡ got ++ y.left
@@ -99,14 +99,15 @@ pub record ReadsScript (result : Result Ending Stop) (x y : SourceState) : Type 
 
 -- ---- what is written
 
--- some bytes were written, with at most one call more than they are; without that one if all went well
+-- some bytes were written, with at most one more call than there are bytes; without that one if
+-- nothing failed
 pub record WritesSome {T : Type 0} (result : Result T Stop) (p q : SinkState) : Type 0 where
   pub text : List ℕ
   pub written : q.written ≡ p.written ++ text
   pub calls : q.calls ≤ p.calls + length text + 1
   pub calls_ok : OnOk result (q.calls ≤ p.calls + length text)
 
--- the same of a whole run
+-- the same for a whole run
 pub record WritesScript (p q : SinkState) : Type 0 where
   pub text : List ℕ
   pub written : q.written ≡ p.written ++ text

@@ -40,7 +40,7 @@ module _ (wrapped : List ℕ → List ℕ) (players : List Player) (status : Cod
   ClosesNext (Err stop) s t old new = (part : List ℕ) × (c : ClosesOne s t part old new)
       × CutBy stop part c.text
 
-  -- ---- all of them; or up to one that was ended and whose lines aren't whole
+  -- ---- all of them; or those up to one that was ended and whose lines aren't all written
 
   abbrev pub ClosesTo : Result (Unit {0}) Stop → RunState → RunState → List Closing → List Closing
       → List ℕ → Type 0

@@ -26,8 +26,8 @@ use Rattle.session_run.specs.State.{RunState, Setting}
 
 -- ---- its items
 
--- What is said of a stream that was served: its items as they are, if all objects are modelled, and what the source
--- and the sink alone show.
+-- What holds for a stream that was served: if all objects are modelled, for its items; and what is
+-- known from the source alone and from the sink alone.
 pub record ServesStream {Kind : Type 0} (looked : Looks) (asked : Asking Kind)
     (step : Setting → ItemStep RunState Kind)
     (fails : Setting → RunState → List ℕ → RunState → Type 0)
@@ -55,8 +55,8 @@ text_of (Some text) = text
 
 module _ {Kind : Type 0} (wrapped : List ℕ → List ℕ) (last_text : Ending Kind → ℕ → Option (List ℕ))
     (players : List Player) where
-  -- What was ended and written after n items. All transactions were, and the last text is written, whole or not; or up
-  -- to one that was ended and whose report isn't whole.
+  -- What was ended and written after n items. Either all transactions were ended, and the last text
+  -- is written, completely or not; or those up to one whose report isn't completely written.
   abbrev pub EndsTo : Ending Kind → ℕ → Result (Unit {0}) Stop → RunState → RunState
       → List Closing → List Closing → List ℕ → Type 0
   EndsTo ending n (Ok done) s t whole others part = (others ≡ [])
@@ -77,7 +77,7 @@ module _ {Kind : Type 0} (wrapped : List ℕ → List ℕ) (last_text : Ending K
     pub calls : new.calls ≤ old.calls + length (closings_text whole ++ part) + 1
     pub calls_ok : OnOk result (new.calls ≤ old.calls + length (closings_text whole ++ part))
 
--- the calls that end what is open with this status
+-- the calls that end the open transactions with this status
 abbrev pub ClosesBy : List Player → Code → RunState → RunState → Type 0
 ClosesBy players status s t =
     ProceedsBy (IsStatusOf status) (notes_of players) s.world.process.ledger (lists_of s.slots)
@@ -134,9 +134,10 @@ module _ {Kind : Type 0} (looked : Looks) (asked : Asking Kind) (wrapped : List 
   RunsOrStops (Err stop) start end x y p q = StopsEarly stop start end x y p q
       ⊎ StopsLate stop start end x y p q
 
--- ---- what a protocol says of it
+-- ---- what a protocol says about it
 
--- if all objects are modelled; if only the source is; that a run doesn't give up by itself; and which ends it makes
+-- if all objects are modelled; if only the source is; that a run doesn't stop without a cause; and
+-- which ends it makes
 abbrev pub RunTold : Type 0 → Type 1
 RunTold Kind = Setting → Result (Ending Kind) Stop → RunState → RunState → SourceState → SourceState
     → SinkState → SinkState → Type 0
@@ -187,7 +188,7 @@ pub record EndsSo {Kind : Type 0} (looked : Looks) (asked : Asking Kind) (is_end
   pub by_stop : (tells : Bool) (input : List ℕ) (stop : Stop) (number status : ℕ)
       → IsStatusOf (stop_status stop) number status → is_end tells input number status
 
--- ---- what is said of every run
+-- ---- what holds for every run
 
 pub record Ran {Kind : Type 0} (runs : RunTold Kind) (reads_so : RunRead Kind)
     (completes : RunComplete Kind) (is_end : RunEnd) (result : Result (Ending Kind) Stop)

@@ -1,4 +1,5 @@
--- What every part of a run keeps of what a library and its world show (this project's own).
+-- What every part of a run leaves unchanged of what a library and its world show (this project's
+-- own).
 use Rattle.std.specs.Prelude.{◌≡◌, ℕ}
 use Rattle.pam_base.specs.declared.code.Code.{Code}
 pub use Rattle.session_report.specs.pam_library.specs.Seen.{AllTell, IsSoundIn, NoneIsOpenIn, Seen}
@@ -11,7 +12,8 @@ state s = state_of s.slots s.world
 abbrev pub setting_in : Seen → (Code → ℕ → ℕ) → Setting
 setting_in s delay = setting_of s.players delay
 
--- What every part of a run keeps, and what its calls did, with real objects too: their ends are some of these.
+-- What every part of a run leaves unchanged, and what its calls did, with real objects too: their
+-- ends are among these.
 pub record Went (Is : ℕ → ℕ → Type 0) (old new : Seen) : Type 0 where
   pub players : new.players ≡ old.players
   pub tells : new.tells ≡ old.tells

@@ -21,8 +21,8 @@ served_line wrapped setting s (Ok line) =
     Ok ((applied setting s line).0, written_for wrapped line (applied setting s line).1)
 served_line wrapped setting s (Err kind) = Err kind
 
--- These are the effect of an item, the states that it may leave if it runs out of memory, and whether it is refused, if
--- it asks for this and its report is wrapped so.
+-- Given what an item asks for and how its report is wrapped: its effect, the states that it may
+-- leave if it runs out of memory, and whether it is refused.
 pub record Does {Kind : Type 0} (asked : Asking Kind) (wrapped : List ℕ → List ℕ)
     (step : Setting → ItemStep RunState Kind)
     (fails : Setting → RunState → List ℕ → RunState → Type 0)

@@ -24,7 +24,7 @@ step_of s (Ok (lines.Caller caller)) = []
 step_of s (Err kind) = []
 
 module _ (setting : Setting) where
-  -- of a line that was applied, and of those after it
+  -- the steps of a line that was applied, and of those after it
   abbrev pub steps_behind : RunState → List ℕ → Result (RunState × List ℕ) ScriptKind
       → (RunState → List Met) → List Met
   steps_behind s line (Ok applied) next = step_of s (parsed line) ++ next applied.0

@@ -52,9 +52,9 @@ module _ (setting : Setting) where
   unfoldable pub line_step : LineStep RunState
   line_step s line = applied_or_refused s (parsed line)
 
--- The states that a call may leave if it runs out of memory: what it says of its transaction, with every other as it
--- was, and of the data and the world. A stack call says which line ran out of memory, and what its module left there.
--- There was no sleep.
+-- The states that a call may leave if it runs out of memory: its transaction as the call's contract
+-- allows, every other one as it was, and the data and the world as the contract allows. For a stack
+-- call that names the line that ran out of memory, and what its module left. There was no sleep.
 pub record CallFails (setting : Setting) (step : Step) (s t : RunState) : Type 0 where
   pub place : FailsAt true step.call (slot_at s.slots step.number) (slot_at t.slots step.number)
   pub leaves : Leaves setting.players step s.slots t.slots s.world t.world
@@ -63,7 +63,7 @@ pub record CallFails (setting : Setting) (step : Step) (s t : RunState) : Type 0
   pub world : leaves_world (slot_at s.slots step.number) step.call ≡ true → t.world ≡ s.world
   pub nap : t.world.nap ≡ s.world.nap
 
--- the states that a line may leave that asks for such a call
+-- the states that a line that asks for such a call may leave
 pub record Fails (setting : Setting) (s : RunState) (line : List ℕ) (t : RunState) : Type 0 where
   pub step : Step
   pub asked : parsed line ≡ Ok (lines.Step step)

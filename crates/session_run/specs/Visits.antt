@@ -1,4 +1,4 @@
--- What the modules of the stack lines get that a script runs (this project's own).
+-- What the modules of the stack lines that a script runs get (this project's own).
 use Rattle.std.specs.Prelude.{◌≡◌, ℕ, List, [], ◌∷◌, ◌++◌}
 use Rattle.session_report.specs.pam_library.specs.Plays.{AskedLine, LinesLead, StepAsks}
 use Rattle.session_report.specs.pam_library.specs.SideBySide.{Met}
@@ -13,7 +13,7 @@ use Rattle.session_run.specs.State.{RunState, Setting}
 use Rattle.session_run.specs.Step.{line_step}
 
 module _ (setting : Setting) where
-  -- The modules of the stack lines that some steps run get this, step by step.
+  -- What the modules of the stack lines that some steps run get, step by step.
   abbrev pub StepsAsk : List PlainSlot → List Met → List AskedLine → Type 0
   StepsAsk slots [] asked = asked ≡ []
   StepsAsk slots (m ∷ steps) asked =
@@ -21,12 +21,12 @@ module _ (setting : Setting) where
       × StepAsks setting.players setting.delay slots m.world m.step first
       × StepsAsk (stepped setting.players setting.delay slots m.world m.step).slots steps others
 
-  -- Those of the lines of a script get this, up to the first that is refused; it has n lines before it.
+  -- The same for the lines of a script, which follow n lines, up to the first one that is refused.
   abbrev pub ScriptAsks : ℕ → RunState → List (List ℕ) → List AskedLine → Type 0
   ScriptAsks n s script asked = StepsAsk s.slots (steps_in setting n s script) asked
 
--- What these get is said of every script, and their meanings change files, one after another, and nothing else does. The
--- implicit pam_end calls after it change no file.
+-- For every script: what these modules get; their definitions change files, one after another, and
+-- nothing else does. The implicit pam_end calls after it change no file.
 pub record FilesChangeByPlays : Type 0 where
   pub script : (setting : Setting) (n : ℕ) (s : RunState) (script : List (List ℕ))
       → (asked : List AskedLine) × ScriptAsks setting n s script asked

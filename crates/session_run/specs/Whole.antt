@@ -60,8 +60,9 @@ module _ (players : List Player) where
 -- ---- the whole run
 
 module _ (setting : Setting) where
-  -- It ends: the lines are reported, the implicit ends and the last line, and all transactions are ended. Whatever
-  -- events cleanup log and data modelled, they model these and then those of the lines and implicit ends.
+  -- It ends: the lines, the implicit ends and the last line are reported, and all transactions are
+  -- ended. Whatever events cleanup log and data modelled, they model these and then those of the
+  -- lines and implicit ends.
   pub record EndsAs (ending : Ending) (start end : RunState) (input taken left text : List ℕ) : Type
       0 where
     pub lines : ℕ
@@ -74,8 +75,8 @@ module _ (setting : Setting) where
     pub stands : StandOn (notes_of setting.players)
         (run_events setting (ending_status ending) start input lines last) start end
 
-  -- It stops among its lines, and all transactions are ended; nothing is written after that. The lines that were
-  -- served whole are the first lines of the script.
+  -- It stops among its lines, and all transactions are ended; nothing is written after that. The
+  -- lines that were completely served are the first lines of the script.
   pub record StopsAmongLines (stop : Stop) (start end : RunState)
       (input taken left text : List ℕ) : Type 0 where
     pub lines : ℕ

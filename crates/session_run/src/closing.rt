@@ -16,7 +16,8 @@ use session_report::pam_room::World;
 use std::alloc::Global;
 
 /// Ends every open transaction with this status, the lowest number first, and writes the report of each before it
-/// ends the next. After an Err the last report may be incomplete, and the transactions after it are open.
+/// ends the next. After an Err the last report may be incomplete, and the transactions after it are
+/// still open.
 pub(crate) fn close_open<P: Protocol, K: Sink>(
     alloc: Global,
     library: &mut Library,

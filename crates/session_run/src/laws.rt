@@ -12,21 +12,21 @@ pub fn proceeding_stands()
     session_report::pam_library::laws::calls_stand_for_their_events();
 }
 
-/// A transaction goes as it would alone.
+/// A transaction does what it would do alone.
 ///
 /// Take a run in which no access to a file fails and no step on another number changes a file, and the run of the
 /// same script in which every step on another number is a blank line. In both, the steps on this number report and
 /// return the same, and the same module data is set and cleaned up in the same order; only the numbers of data sets
-/// and the positions in the cleanup log may differ. It holds whatever the modules do.
+/// and the positions in the cleanup log may differ. This holds whatever the modules do.
 pub fn transactions_go_as_alone()
     ensures { TransactionsStandAlone }
 {
     session_report::pam_library::laws::calls_keep_to_themselves();
 }
 
-/// What the lines in some bytes do, number by number. The slot of a number after them, and the results of the steps
-/// on it, are those of its own steps alone, each in the world as it was before that step (`alone`). The report is
-/// that of all steps, in order (`steps`).
+/// What the lines in some bytes do, for each transaction number. The slot of a number after them,
+/// and the results of the steps on it, are those of its own steps alone, each in the world as it
+/// was before that step (`alone`). The report is that of all steps, in order (`steps`).
 pub fn numbers_stand_side_by_side()
     ensures { NumbersStandApart }
 {
@@ -39,8 +39,9 @@ pub fn refusals_are_of_the_bytes()
     ensures { RefusesByBytes }
 {}
 
-/// What the modules of the stack lines get that a script runs is said step by step (`ScriptAsks`), and their meanings
-/// change files, one after another, and nothing else does. The implicit pam_end calls after it change no file.
+/// For each step, what the modules of the stack lines that a script runs get (`ScriptAsks`). Their
+/// definitions change files, one after another, and nothing else does. The implicit pam_end calls
+/// after it change no file.
 pub fn runs_change_files_by_plays()
     ensures { FilesChangeByPlays }
 {

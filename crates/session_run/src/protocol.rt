@@ -51,7 +51,7 @@ pub trait Protocol {
     /// How the bytes that were read end a run, if only the source is modelled.
     ghost reads: { RunRead Self.Kind };
 
-    /// That a run doesn't give up by itself, if only the source is modelled.
+    /// That a run doesn't stop without a cause, if only the source is modelled.
     ghost completes: { RunComplete Self.Kind };
 
     /// The ends of transactions that a run makes, by the bytes of its source if that is modelled.
@@ -74,7 +74,7 @@ pub trait Protocol {
     fn does()
         ensures { Does asked wrapped step fails read_step };
 
-    /// A law: what is said of a whole run.
+    /// A law: what holds for a whole run.
     fn ends()
         ensures told { RunsSo looked asked wrapped last_text step fails runs }
         ensures read { ReadsSo looked read_step reads }

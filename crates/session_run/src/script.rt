@@ -8,7 +8,7 @@ use script_stream::{LineStepping, Lines, MAX_LINES, front_of_lines};
 use session_report::{read_fault_report, script_report};
 use std::alloc::Global;
 
-/// The lines of a script; their reports are written as they are.
+/// The lines of a script. Reports are written unchanged.
 pub struct Script;
 
 // What a line does, for the laws on streams of lines.

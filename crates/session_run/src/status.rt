@@ -4,7 +4,7 @@ ghost use Rattle.session_run.specs.Whole.{ending_status, stop_status};
 use item_stream::{Ending, Stop};
 use pam_base::Code;
 
-/// The status passed to pam_end for the transactions that are open when the input ends so.
+/// The status passed to pam_end for the transactions that are open when the input ends in this way.
 pub(crate) fn ending_status<F: Copy + Drop>(ending: Ending<F>) -> Code
     ensures { result ≡ ending_status ending }
 {

@@ -36,7 +36,7 @@ abbrev pub by_text : Option (List Failure) → PlainTally
 by_text (Some failures) = listed failures
 by_text None = damaged
 
--- a file that isn't there has no failures, and one of more than 65,536 bytes is damaged
+-- a file that doesn't exist has no failures, and one of more than 65,536 bytes is damaged
 abbrev pub by_file : Option (List ℕ) → PlainTally
 by_file None = listed []
 by_file (Some text) = if nat_lt 65536 (length text) then damaged else by_text (failures_of text)
@@ -49,12 +49,12 @@ unfoldable pub tally_of : VaultState → List ℕ → List ℕ → PlainTally
 tally_of vault root user = if is_failing vault then unread
     else by_file (file_at (tally_path root user) vault.files)
 
--- what was found is that
+-- the finding is this one
 pub record IsTally (finding : Finding) (t : PlainTally) : Type 0 where
   pub tallied : finding.tallied ≡ t.tallied
   pub text : finding.text ≡ t.text
 
--- It was found so, and its text is written, or a prefix of it.
+-- This was found, and its text is written, or a prefix of it.
 pub record Lists (result : Result Tallied Stop) (t : PlainTally) (old new : SinkState) : Type
     0 where
   pub front : List ℕ

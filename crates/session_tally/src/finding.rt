@@ -21,7 +21,7 @@ pub enum Tallied {
     Unread,
 }
 
-// What was found, and what is written of it.
+// What was found, and the text that is written.
 #[derive(Drop)]
 pub(crate) struct Finding {
     pub(crate) tallied: Tallied,

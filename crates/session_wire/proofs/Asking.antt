@@ -1,4 +1,4 @@
--- Which frames of a modelled input the frames are that were found in it, and what they ask for.
+-- The frames that were found in a modelled input, and what they ask for.
 use Rattle.std.proofs.Common.{◌≡◌, ◌+◌, ◌<◌, inl, inr, ℕ, suc, Bool, true, false, cond, leb, List, [], ◌∷◌, ◌++◌, length, Option, Some, None, Result, Ok, Err, refl, sym, ◌∙◌, ap, append_assoc, arith}
 use Rattle.std.specs.List.{AllByRecursion, concat}
 use Rattle.std.proofs.lemmas.Bool.{leb-false}
@@ -93,7 +93,7 @@ concat-append : (xs ys : List (List ℕ)) → concat (xs ++ ys) ≡ concat xs ++
 concat-append [] ys = refl
 concat-append (x ∷ xs) ys = ap (λ (z : List ℕ). x ++ z) (concat-append xs ys) ∙ sym (append_assoc x (concat xs) (concat ys))
 
--- an item that asks for an end, among items that are accepted before it, is a frame among frames
+-- an item that asks for an end, after items that are accepted, is a frame after frames
 has_end : AllAreLookedAt → ReadsTable → (input : List ℕ) (number status : ℕ) → HasEndAmong looked frame_asked 0 input number status → HasEndFrom 0 input number status
 has_end all law input number status h =
     let before : AreFrames h.before = are_frames law 0 h.before h.accepted in

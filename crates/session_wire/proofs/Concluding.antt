@@ -1,4 +1,4 @@
--- What is known of any run, said of the run of a front end's frames.
+-- What is known of any run, stated for the run of a front end's frames.
 use Rattle.std.proofs.Common.{◌≡◌, inl, inr, ℕ, Bool, true, false, List, [], ◌∷◌, Result, Ok, Err, refl}
 use Rattle.pam_outside.specs.Counts.{Rose}
 use Rattle.pam_outside.specs.Streams.{SourceState, SinkState}
@@ -74,7 +74,7 @@ reads_frames spell runs = record {
   left = λ ending stop m x y r. frames_left spell runs ending stop m x y r.runs r.takes;
 }
 
--- no run gives up by itself
+-- no run stops without a cause
 pub completes_frames : RunIsOfSteps call_read → CompletesSo looked (step_at call_read) Completes
 completes_frames runs = record {
   ended = λ ending m a b c d x y r read. completes runs ending m a b c d x y r.runs read;

@@ -20,7 +20,7 @@ module _ (setting : Setting) (start : RunState) (x y : SourceState) (p : SinkSta
       → end ≡ all_closed setting.players (stop_status stop) last → RunsFrames setting (Err stop) start end x y p q
   stopped stop frames last end q r e = record { served = Err stop; frames = frames; last = last; between = q; runs = r; behind = (refl, e, refl) }
 
-  -- all is answered
+  -- all frames are answered
   pub ended : (ending : Ending FrameFault) (frames : ℕ) (last end : RunState) (between q : SinkState) → Runs looked (step_at (answers setting)) (Fails setting) (Ok ending) frames start last x y p between
       → (done : Unit {0}) → Closes setting.players (ending_status ending) (Ok done) last end between q → RunsFrames setting (Ok ending) start end x y p q
   ended ending frames last end between q r done c = record { served = Ok ending; frames = frames; last = last; between = between; runs = r; behind = (refl, c) }

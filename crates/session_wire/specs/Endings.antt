@@ -1,2 +1,2 @@
--- With which status open transactions are ended after the frames of a run (this project's own).
+-- The status with which open transactions are ended after the frames of a run (this project's own).
 pub use Rattle.session_run.specs.Endings.{ending_status, stop_status}

@@ -26,7 +26,7 @@ pub record HasEndFrom (n : ℕ) (bytes : List ℕ) (number status : ℕ) : Type 
 
 -- ---- all ends
 
--- a status with which a run ends what is open after its frames
+-- a status with which a run ends the transactions that are open after its frames
 abbrev pub IsClosingStatus : ℕ → Type 0
 IsClosingStatus status =
     ((ending : Ending FrameFault) × (status ≡ number_of (ending_status ending)))

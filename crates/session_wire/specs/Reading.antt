@@ -37,8 +37,8 @@ abbrev pub EndsAtBytes : Result (Ending FrameFault) Stop → List ℕ → List �
 EndsAtBytes (Ok ending) taken left = SpellsTo ending taken left
 EndsAtBytes (Err stop) taken left = Unit {0}
 
--- All frames are looked at before the next read: without the bytes of the last read, at most 512,
--- nothing that was taken is refused.
+-- All frames are processed before the next read: the bytes taken before the last read, which takes
+-- at most 512, hold nothing that is refused.
 pub record LooksBefore (taken : List ℕ) : Type 0 where
   pub early : List ℕ
   pub late : List ℕ

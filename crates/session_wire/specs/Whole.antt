@@ -22,8 +22,9 @@ pub use Rattle.session_wire.specs.Endings.{ending_status, stop_status}
 use Rattle.session_wire.specs.Reading.{SpellsTo}
 use Rattle.session_wire.specs.Step.{answers, Fails}
 
--- What follows the frames, by how they ended or stopped and by what the run returns: all transactions are ended and
--- answered; or up to one whose answer isn't whole, and the others are ended; or all are ended and nothing is written.
+-- What follows the frames, by how they ended or stopped and by the result of the run: all
+-- transactions are ended and answered; or those up to one whose answer isn't completely written,
+-- and the others are ended; or all are ended and nothing is written.
 abbrev pub IsBehind : List Player → Result (Ending FrameFault) Stop
     → Result (Ending FrameFault) Stop → RunState → RunState → SinkState → SinkState → Type 0
 IsBehind players (Ok ending) (Ok same) last end p q =
@@ -128,9 +129,9 @@ pub record RunsAnswered (setting : Setting) (result : Result (Ending FrameFault)
   pub told : RunsFrames setting result start end x y p q
   pub answered : Answers setting result start end x y p q
 
--- ---- no run gives up by itself
+-- ---- no run stops without a cause
 
--- how a run ends whose whole input has this fault, or none
+-- how a run ends if its whole input has this fault, or none
 abbrev pub ending_by : Option FrameFault → Ending FrameFault
 ending_by None = Done
 ending_by (Some fault) = Refused fault

@@ -1,7 +1,7 @@
 //! The protocol of a front end: a frame is a call, and its report is written as an answer. `session_run::run_stream` runs
 //! its frames.
 //!
-//! Begin at frames.rt, which says how a frame is read and what is said of a run.
+//! Begin at frames.rt, which says how a frame is read and what holds for a run.
 #![tactic(auto)]
 
 mod frames;

@@ -1,4 +1,4 @@
--- pam_env(8) leaves each file.
+-- pam_env(8) leaves each file as it was.
 use Rattle.std.proofs.Common.{ℕ, Bool, true, false, cond, List, [], ◌∷◌, Option, Some, None, codes, unwrap_or}
 use Rattle.pam_base.specs.declared.code.Code.TheVariants as returns
 use Rattle.pam_room.specs.Call.{PlainCall, value_among}

@@ -1,4 +1,4 @@
--- The modules of mod_lists leave each file.
+-- The modules of mod_lists leave each file as it was.
 use Rattle.std.proofs.Common.{ℕ, Bool, true, false, ◌==◌, List, [], ◌∷◌, Option, Some, None, codes}
 use Rattle.pam_base.specs.declared.code.Code.{Code}
 use Rattle.pam_base.specs.declared.code.Code.TheVariants as returns

@@ -9,7 +9,7 @@ use Rattle.tally_run.specs.Others.{IsApart, IsPart, tally_path}
 abbrev slash : ℕ → Bool
 slash b = b == 47
 
--- a text with a slash is no part
+-- a text with a slash isn't a part of a path
 or_true : (a : Bool) → (a || true) ≡ true
 or_true true = refl
 or_true false = refl
@@ -29,7 +29,7 @@ abbrev tail_in : List ℕ → List ℕ
 tail_in [] = []
 tail_in (b ∷ bs) = bs
 
--- what is before the last slash, and what is behind it
+-- what is before the last slash, and what is after it
 record Cut (xs ys u v : List ℕ) : Type 0 where
   pub before : xs ≡ ys
   pub behind : u ≡ v
@@ -62,7 +62,7 @@ module _ (root folder user : List ℕ) (apart : IsApart folder) (named : is_no_f
       ∙ sym (append_assoc (root_before root) (apart.above ++ 47 ∷ apart.last) (47 ∷ user))
       ∙ ap (λ (f : List ℕ). f ++ 47 ∷ user) (sym (append_assoc (root_before root) apart.above (47 ∷ apart.last))))
 
-  -- no file in a directory whose last part is another one
+  -- the path isn't that of a file in a directory whose last part is another one
   differs : (front part name : List ℕ) → IsPart part → IsPart name → apart.last ≢ part
       → (front ++ 47 ∷ part) ++ 47 ∷ name ≡ tally_path root folder user → ⊥
   differs front part name is_part is_name other e =

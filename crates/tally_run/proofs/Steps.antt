@@ -1,4 +1,4 @@
--- Which steps of a module leave a file.
+-- Which steps of a module leave a file as it was.
 use Rattle.std.proofs.Common.{◌≡◌, ℕ, Bool, true, false, not, cond, List, [], ◌∷◌, Option, Some, None, Result, Ok, Err, codes, refl, ap, ◌∙◌}
 use Rattle.std.specs.Str.{bytes_eq}
 use Rattle.std.specs.Bool.{Decides}
@@ -48,7 +48,7 @@ module _ (path bytes other : List ℕ) (differs : path ≡ other → ⊥) where
   put_past (f ∷ fs) = past_by f fs (bytes_eq f.path path) refl (put_past fs)
 
 module _ (path : List ℕ) where
-  -- what was played left it
+  -- what the module did left the file as it was
   abbrev pub Left : Sight → Played → Type 0
   Left sight p = file_at path p.files ≡ file_at path sight.files
 

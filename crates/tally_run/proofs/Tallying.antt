@@ -1,4 +1,4 @@
--- Of the lines that a run runs, those of pam_faillock.
+-- The lines of pam_faillock among those that a run runs.
 use Rattle.std.proofs.Common.{◌≡◌, ◌≢◌, ◌⊎◌, inl, inr, ◌<◌, ◌^◌, ℕ, List, [], ◌∷◌, map, Option, Some, None, unwrap_or, slice_get, refl, ap, ◌∙◌, sym, subst}
 use Rattle.std.specs.List.{AllByRecursion}
 use Rattle.pam_room.specs.item_store.specs.Items.{ItemTexts}
@@ -26,7 +26,7 @@ module _ (path : List ℕ) (players : List Player) (alone : FaillockAloneWrites 
     pub follow : Follow path before (calls_in lines) after
     pub with_one : (interval : ℕ) → AllByRecursion (CanRecordIf interval players) asked → AllByRecursion (IsWith interval) (deeds_of (calls_in lines))
 
-  -- of a module among these, what is said of all
+  -- what holds for all modules holds for one of these
   by_number : (number : Option ℕ) (p : Player) → player_numbered players number ≡ Some p → (p.plays ≡ faillock_plays) ⊎ LeavesFile path p.plays
   by_number None p e = absurd cc
   by_number (Some n) p e = alone n p e

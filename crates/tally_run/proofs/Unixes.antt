@@ -1,4 +1,4 @@
--- pam_unix(8) leaves each file but shadow(5).
+-- pam_unix(8) leaves each file as it was, except shadow(5).
 use Rattle.std.proofs.Common.{◌≡◌, ℕ, Bool, true, false, ◌==◌, List, [], ◌∷◌, Option, Some, None, Result, Ok, Err, codes}
 use Rattle.pam_base.specs.declared.code.Code.{Code}
 use Rattle.pam_base.specs.declared.code.Code.TheVariants as returns

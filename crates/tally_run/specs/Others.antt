@@ -33,7 +33,7 @@ abbrev pub IsAmong : Plays → List Plays → Type 0
 IsAmong plays [] = ⊥
 IsAmong plays (p ∷ ps) = (plays ≡ p) ⊎ IsAmong plays ps
 
--- each is pam_faillock or one of the others
+-- each module is pam_faillock or one of the others
 abbrev pub AreKnown : List Player → Type 0
 AreKnown players = AllByRecursion (λ (p : Player). IsAmong p.plays (faillock_plays ∷ other_plays))
     players

@@ -15,14 +15,14 @@ abbrev pub LeavesFile : List ℕ → Plays → Type 0
 LeavesFile path plays = (call : PlainCall) (room : SeenRoom) (held : List NamedData) (sight : Sight)
     → file_at path (plays call room held sight).files ≡ file_at path sight.files
 
--- of these modules pam_faillock alone writes the file
+-- of these modules only pam_faillock writes the file
 abbrev pub FaillockAloneWrites : List ℕ → List Player → Type 0
 FaillockAloneWrites path players = (n : ℕ) (p : Player) → slice_get players n ≡ Some p
     → (p.plays ≡ faillock_plays) ⊎ LeavesFile path p.plays
 
 -- ---- a line that was run, and what it did to the file
 
--- its module is pam_faillock, and this is its call; or no module that writes the file is there
+-- either its module is pam_faillock and this is its call; or its module doesn't write the file
 pub data TalliedLine : Type 0 where
   counted : AskedLine → Served → TalliedLine
   passed_by : AskedLine → TalliedLine
@@ -31,7 +31,7 @@ abbrev pub line_in : TalliedLine → AskedLine
 line_in (counted a s) = a
 line_in (passed_by a) = a
 
--- The call is that of this line: its module is pam_faillock, and got exactly this.
+-- The call is the call of this line: its module is pam_faillock, which got exactly this.
 pub record IsCallOf (players : List Player) (a : AskedLine) (s : Served) : Type 0 where
   pub player : Player
   pub module_is : module_of_path players a.visit.path ≡ Some player
@@ -42,7 +42,7 @@ pub record IsCallOf (players : List Player) (a : AskedLine) (s : Served) : Type 
   pub sight_is : s.sight ≡ a.asked.sight
   pub answer_is : a.visit.answer ≡ answer_of (played s)
 
--- the module of a line, if it is there, leaves the file
+-- the module of a line, if it exists, leaves the file as it was
 abbrev pub LeavesFileIf : List ℕ → Option Player → Type 0
 LeavesFileIf path None = Unit {0}
 LeavesFileIf path (Some p) = LeavesFile path p.plays
@@ -51,7 +51,7 @@ abbrev pub IsTallied : List ℕ → List Player → TalliedLine → Type 0
 IsTallied path players (counted a s) = IsCallOf players a s
 IsTallied path players (passed_by a) = LeavesFileIf path (module_of_path players a.visit.path)
 
--- the calls of pam_faillock among them
+-- the calls of pam_faillock among the lines
 abbrev pub calls_in : List TalliedLine → List Served
 calls_in [] = []
 calls_in (counted a s ∷ ls) = s ∷ calls_in ls
@@ -79,9 +79,9 @@ CanRecordIf interval players a = (p : Player) → module_of_path players a.visit
     → p.plays ≡ faillock_plays → CanRecord interval a.asked
 
 -- These lines lead the file from its state in some files to that in others: each line run is one of pam_faillock, and
--- its call finds the file as the one before left it, or its module leaves the file. If the lines of pam_faillock have
--- one `fail_interval`, the file has what it had at the start while nothing was written, and otherwise those that count
--- of the failures that were recorded since they were last cleared.
+-- its call finds the file as the one before left it, or its module leaves the file. If the lines of
+-- pam_faillock have one `fail_interval`, the file is as at the start if nothing was written, and
+-- otherwise has the failures that count among those recorded since they were last cleared.
 pub record Tallies (path : List ℕ) (players : List Player) (before : List File)
     (asked : List AskedLine) (after : List File) : Type 0 where
   pub lines : List TalliedLine

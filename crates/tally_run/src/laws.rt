@@ -12,12 +12,12 @@ ghost use Rattle.mod_tally.specs.Faillock.{is_no_file};
 ghost use Rattle.tally_run.specs.Others.{AreKnown, IsApart, other_plays, tally_path};
 ghost use Rattle.tally_run.specs.Tallied.{FaillockAloneWrites, LeavesFile, Tallies};
 
-/// If pam_faillock(8) alone writes a user's file, then whatever the steps of a run are, the file has
-/// what the calls of its lines that the run runs make of it, in order: each with the arguments of
-/// its rule, and with the room, the files and the time as the line before left them (`script`). A
-/// recorded failure is dropped only when a later one is recorded and it doesn't count any more, or
-/// when the failures are cleared. The implicit ends of the run change nothing of the file
-/// (`closings`). This is a law about the definitions: its contract states it.
+/// If pam_faillock(8) alone writes a user's file, then whatever the steps of a run are, the file
+/// holds what the calls of its lines make of it, in order: each with the arguments of its rule, and
+/// with the room, the files and the time as the line before left them (`script`). A recorded
+/// failure is dropped only when a later one is recorded and it doesn't count any more, or when the
+/// failures are cleared. The implicit ends of the run don't change the file (`closings`). This is a
+/// law about the definitions: its contract states it.
 pub fn runs_keep_recorded_failures()
     ensures script { (path : List ℕ) (setting : Setting) (n : ℕ) (s : RunState) (script : List
         (List ℕ)) →
@@ -39,10 +39,10 @@ pub fn runs_keep_recorded_failures()
 }
 
 /// The fourteen other modules leave the file of each user in the directory of pam_faillock(8), under
-/// any root: that of its argument `dir=` if its last part is neither `etc` nor `security`, and
-/// `/var/run/faillock`, which holds without that argument. So pam_faillock alone writes it if a
-/// library has no other modules than these fifteen. This is a law about the definitions: its
-/// contract states it.
+/// any root: the one named by its argument `dir=`, if the last part of that is neither `etc` nor
+/// `security`, or `/var/run/faillock`, which is used without that argument. So pam_faillock alone
+/// writes it if a library has no other modules than these fifteen. This is a law about the
+/// definitions: its contract states it.
 pub fn other_modules_leave_tallies()
     ensures others { (root folder user : List ℕ) → IsApart folder → is_no_file user ≡ false →
         AllByRecursion (LeavesFile (tally_path root folder user)) other_plays }

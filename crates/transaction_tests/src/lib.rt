@@ -1,4 +1,4 @@
-//! Tests of a conversation over a terminal, if reader or writer fails, and over pipes of the
+//! Tests of a conversation over a terminal, whose reader or writer fails, and over pipes of the
 //! system. It has no functions of its own.
 #![tactic(auto)]
 

@@ -4,7 +4,7 @@ use Rattle.pam_base.specs.declared.fault.NoMemory.{NoMemory}
 use Rattle.pam_outside.specs.Streams.{SourceState}
 use Rattle.transcript_audit.specs.Transcript.{ReadsMore, Takes}
 
--- what was taken in whole pieces, none of which was empty, and then once more
+-- what was taken in pieces, none of them empty, and then by one more read
 pub taken_more : (result : Result (Option ℕ) NoMemory) (text after : List ℕ) (start now next : SourceState) → start.left ≡ text ++ now.left
     → now.calls ≤ start.calls + length text → now.reads_at_end ≡ start.reads_at_end → ReadsMore result text after now next → Takes start next
 taken_more result text after start now next left calls ends r = record {

@@ -26,7 +26,7 @@ pub record Audit : Type 0 where
   pub found : Audited
   pub text : List ℕ
 
--- by the line that differs, if one does
+-- the finding, by the line that differs, if one does
 abbrev pub judged : Option ℕ → Audit
 judged None = record { found = Fits; text = codes "fits\n" }
 judged (Some line) = record {
@@ -71,7 +71,7 @@ pub record IsAudit (finding : Finding) (a : Audit) : Type 0 where
   pub found : finding.audited ≡ a.found
   pub text : finding.text ≡ a.text
 
--- they are those of the audit of a transcript, or of one that couldn't be read
+-- they are those of the audit of this transcript, or of one that couldn't be read
 abbrev pub IsAuditOf : Finding → (Option (List ℕ) → Audit) → List ℕ → Type 0
 IsAuditOf finding audit transcript = IsAudit finding (audit (Some transcript))
     ⊎ IsAudit finding (audit None)
@@ -92,8 +92,8 @@ pub record Audits (result : Result Audited Stopped) (a : Audit) (old new : SinkS
 abbrev pub IsVerdict : Audited → Type 0
 IsVerdict found = (found ≡ Fits) ⊎ (found ≡ Differs)
 
--- how far the transcript was read, by what was found: to its end if there is a verdict, past the most bytes that one
--- may have if it is too long, and not at all if the configuration is refused
+-- how far the transcript was read, by what was found: to its end if there is a verdict, one byte
+-- past the limit if it is too long, and not at all if the configuration is refused
 abbrev pub ReadsUpTo : Audited → List ℕ → List ℕ → Type 0
 ReadsUpTo Fits before left = left ≡ []
 ReadsUpTo Differs before left = left ≡ []

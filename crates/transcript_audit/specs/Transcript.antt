@@ -19,7 +19,7 @@ IsRead (Whole text) left = text ≡ left
 IsRead TooLong left = 1048576 < length left
 IsRead Unread left = Unit {0}
 
--- how far the source was read: to its end, or past the most that a transcript may have
+-- how far the source was read: to its end, or one byte past the limit
 abbrev pub ReadsTo : Transcript → List ℕ → List ℕ → Type 0
 ReadsTo (Whole text) before left = left ≡ []
 ReadsTo TooLong before left = length left + 1048576 < length before
@@ -34,8 +34,8 @@ abbrev pub is_unread : Transcript → Bool
 is_unread Unread = true
 is_unread transcript = false
 
--- One read: what it got comes after the text so far, or it failed and got nothing. If an allocation fails, what it got
--- is lost.
+-- One read: the bytes that it got are added to the text so far, or it failed and got nothing. If an
+-- allocation fails, these bytes are lost.
 pub record ReadsMore (result : Result (Option ℕ) NoMemory) (before after : List ℕ)
     (old new : SourceState) : Type 0 where
   pub got : List ℕ

@@ -16,11 +16,11 @@ use std::alloc::Global;
 /// under a root, and writes the verdict on one line.
 ///
 /// The service is loaded first. If its configuration is refused, the line of its first fault is
-/// written, and the source isn't read. A transcript with a verdict was read to its end; of one that
-/// is too long 1,048,577 bytes are read; if the source fails, nothing is written. The source is
-/// read at most once more than bytes were taken, the sink is written at most once more than bytes
-/// were written. Of the world only the counts of `Vault` change. The text is complete before the
-/// first byte is written.
+/// written, and the source isn't read. If there is a verdict, the transcript was read to its end;
+/// if it is too long, 1,048,577 bytes of it were read; if the source fails, nothing is written.
+/// There is at most one read more than bytes were taken, and at most one write more than bytes were
+/// written. Of the world only the counts of `Vault` change. The text is complete before the first
+/// byte is written.
 pub fn audit_transcript<S: Source, K: Sink>(
     alloc: Global,
     root: &[u8],
@@ -32,7 +32,8 @@ pub fn audit_transcript<S: Source, K: Sink>(
     ensures source_tells { S.source_tells source.new ≡ S.source_tells source.old }
     ensures sink_tells { K.sink_tells out.new ≡ K.sink_tells out.old }
     ensures vault_tells { vault_tells vault.new ≡ vault_tells vault.old }
-    // It is the audit of the transcript, or that of one that couldn't be read: `unread` says when.
+    // The result is the audit of the transcript, or of one that couldn't be read; `unread` says
+    // when.
     ensures told { IsTrue (K.sink_tells out.old) → IsTrue (vault_tells vault.old) →
         IsTrue (S.source_tells source.old) →
         Audits result (audit_of (vault_holds vault.old) root.now service.now

@@ -30,7 +30,7 @@ pub enum Audited {
     Unread,
 }
 
-// What was found, and what is written of it.
+// What was found, and the text that is written.
 #[derive(Drop)]
 pub(crate) struct Finding {
     pub(crate) audited: Audited,

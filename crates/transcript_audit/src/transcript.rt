@@ -9,13 +9,13 @@ use std::alloc::Global;
 // How many bytes are read at once.
 const CHUNK: usize = 4096;
 
-// One byte more than a transcript may have: so much is read of one that is too long.
+// One byte more than a transcript may have: this much is read of one that is too long.
 const MOST: usize = 1_048_577;
 
 /// What was read of a transcript.
 #[derive(Drop)]
 pub enum Transcript {
-    /// All of it.
+    /// All of the transcript.
     Whole(Text),
     /// It has more than 1,048,576 bytes.
     TooLong,
