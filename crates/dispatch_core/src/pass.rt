@@ -117,14 +117,14 @@ fn end_pass(
 /// module of each line on its way serves the call, and the line run is added to the trace. A run by
 /// cached codes acts by these; an incomplete pass is resumed after the lines that it ran. The code
 /// is INCOMPLETE if a line is; then the codes of the pass are kept to resume it with, and after any
-/// other code none are. After a first run its codes may be cached; a run without cached codes
-/// leaves none.
+/// other code none are. After a first run its codes are cached, and after a run by cached codes
+/// these still are; a run without cached codes leaves none.
 ///
 /// It allocates everything that it needs itself before the first module serves. `NoMemory`
 /// therefore means one of two things: either nothing happened, or the pass stopped in a module that
 /// ran out of memory; with modelled objects, the state is then one that this module's `breaks`
-/// allows. After it a pass whose codes are to be cached has nothing cached, any other leaves what
-/// was cached; no pass is incomplete, and all replaced data have been cleaned up.
+/// allows. After it a first run has nothing cached, any other leaves what was cached; no pass is
+/// incomplete, and all replaced data have been cleaned up.
 pub fn dispatch(
     alloc: Global,
     chain: &mut Chain,
