@@ -1,9 +1,10 @@
 /*
  * Lets calls of the system fail, in a program that is run with LD_PRELOAD: the call of number FAIL_AT, from 1, and each from number
- * FAIL_FROM on, with the error FAIL_ERROR; a write with FAIL_ERROR=0 answers 0 instead. With FAIL_KILL=1 the process is killed where the
- * call would fail. With FAIL_SHORT=1 each read and write of several bytes moves one. What is counted are calls that the program makes on files and folders and on its input and output, not those of the
- * C library itself, and a close, which is made and then answers the error. The file FAIL_PAGE, of 4,096 bytes, gets how many there were,
- * how many failed, and of the first that failed its name and the path, or `-` and the descriptor.
+ * FAIL_FROM on, with the error FAIL_ERROR; a write with FAIL_ERROR=0 returns 0 instead. With FAIL_KILL=1 the process is killed when the
+ * call would fail. With FAIL_SHORT=1 each read and write of several bytes moves one. Counted are the calls that the program makes on
+ * files and directories and on its input and output, but not those of the C library itself. A close is made and then returns the error.
+ * The file FAIL_PAGE, of 4,096 bytes, gets the number of calls, the number of those that failed, and for the first that failed its name
+ * and its path, or `-` and the descriptor.
  */
 #define _GNU_SOURCE
 #include <dlfcn.h>
@@ -117,7 +118,7 @@ static mode_t mode_in(int flags, va_list more)
         return fails("open", 0, path) ? -1 : opened(opens(folder, path, flags, mode), path); \
     }
 
-/* A call that answers an int, by its parameters, its arguments, and what it is told with. */
+/* A call that returns an int: its parameters, its arguments, and the file and path to report. */
 #define CALL(NAME, PARAMETERS, ARGUMENTS, FILE, PATH)                                    \
     int NAME PARAMETERS                                                                  \
     {                                                                                    \
@@ -152,7 +153,7 @@ CALL(fdatasync, (int file), (file), file, path_of(file))
 CALL(ftruncate, (int file, off_t size), (file, size), file, path_of(file))
 CALL(flock, (int file, int how), (file, how), file, path_of(file))
 
-/* It answers the error itself. */
+/* It returns the error itself. */
 int posix_fadvise(int file, off_t from_here, off_t length, int advice)
 {
     int (*real)(int, off_t, off_t, int) = own("posix_fadvise");

@@ -1,5 +1,5 @@
 /*
- * Runs commands in turns and prints for each the least processor time (user and system) of its runs in microseconds, and the most memory
+ * Runs commands in turns and prints for each the minimum processor time (user and system) of its runs in microseconds, and the maximum memory
  * that it held, in KB. It is small and linked statically, so that a command's memory isn't that of whoever started it.
  *
  *   interleaved ROUNDS INPUT COMMAND ARGUMENT.. [-- INPUT COMMAND ARGUMENT..]..

@@ -3,7 +3,7 @@
  * types the files of the service. The first type reads the first FIRST of them, and the other three read all: a service of auth lines alone
  * has its own file and `other`, which is read for the types of which it has no line; one that includes files has its own and those. A read
  * looks at the path (statx) and reads the file from its start: one that stayed open, or one that is opened, looked at and closed. Prints the
- * least microseconds of the processor for such a set of calls, of ROUNDS rounds: with files that stay open, and with files that are opened.
+ * minimum microseconds of the processor for such a set of calls, of ROUNDS rounds: with files that stay open, and with files that are opened.
  *
  *   reads DIRECTORY ROUNDS FIRST FILE..
  */

@@ -17,7 +17,7 @@ _pamsess_users() {
 # What the argument of a kind may be, in COMPREPLY. The root is the second argument, as it was typed.
 _pamsess_kind() {
     local word=$1 kind=$2 root=$3 IFS=$'\n'
-    # (a `~` in front stands for a home directory)
+    # (a leading `~` means a home directory)
     case $root in
         "~" | "~/"*) root=$HOME${root#"~"} ;;
     esac
@@ -40,7 +40,7 @@ _pamsess() {
         pamsess-check-all) kinds="directory" ;;
         pamsess-explain)
             kinds="directory service"
-            # (an option in front of ROOT)
+            # (an option before ROOT)
             [ "$first" != --html ] || kinds="option directory service"
             ;;
         pamsess-stand-in) kinds="directory directory user" ;;

@@ -33,7 +33,7 @@ struct wire {
     bool broken;
 };
 
-/* A value of a variable that was handed to the application, kept for as long as it stays the same. */
+/* A value of a variable that the application has got, kept for as long as it stays the same. */
 struct value {
     struct value *next;
     char *name, *text;
@@ -75,7 +75,7 @@ const char *next_line(const struct answer *answer, const char *line);
 const char *result_of(const struct answer *answer, enum kind kind);
 /* Whether the last line is `asks N`. */
 bool is_exchange(const struct answer *answer, uint32_t *prompts);
-/* The code of a result `NAME NUMBER`, or -1. It is PAM_SUCCESS for `SUCCESS 0` alone. */
+/* The code of a result `NAME NUMBER`, or -1. It is PAM_SUCCESS only for `SUCCESS 0`. */
 int code_of(const char *result);
 /* What follows a word that the text begins with, or NULL. */
 const char *after(const char *text, const char *word);
@@ -90,7 +90,7 @@ int stack_call(pam_handle_t *handle, enum kind kind, int flags);
 
 /* user.c */
 bool is_prompt(int style);
-/* Gives one message to the conversation. The reply to a prompt is kept if there is a place for it. */
+/* Gives one message to the conversation. The reply to a prompt is stored if there is room for it. */
 int ask_user(const pam_handle_t *handle, int style, const char *text, char **reply);
 void wipe_free(char *text);
 /* The wait that follows an authentication, `NAME NUMBER ASKED WAIT`. */

@@ -63,7 +63,7 @@ static void log_opened(pam_handle_t *handle)
         login_name(login, sizeof login), (unsigned)getuid());
 }
 
-/* What is no answer to the user, but a fault of the machine or of the configuration. */
+/* What isn't an answer to the user, but a fault of the machine or of the configuration. */
 static bool is_fault(unsigned code)
 {
     return code == PAM_SERVICE_ERR || code == PAM_SYSTEM_ERR || code == PAM_BUF_ERR || code == PAM_AUTHINFO_UNAVAIL

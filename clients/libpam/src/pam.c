@@ -31,7 +31,7 @@ static size_t put_value(unsigned char *at, const char *text)
     return size + 1;
 }
 
-/* The fault of a refused configuration, and modules that aren't there, go to the log. */
+/* The fault of a refused configuration, and modules that don't exist, are logged. */
 static int read_start(const pam_handle_t *handle, const struct answer *answer)
 {
     const char *line = NULL, *result = result_of(answer, START), *text;
@@ -132,7 +132,7 @@ STACK_CALL(pam_open_session, OPEN_SESSION)
 STACK_CALL(pam_close_session, CLOSE_SESSION)
 STACK_CALL(pam_chauthtok, CHAUTHTOK)
 
-/* XAUTHDATA is no text; the conversation and the delay function never leave this process. */
+/* XAUTHDATA isn't a text; the conversation and the delay function never leave this process. */
 static bool is_text_item(int item)
 {
     return item >= PAM_SERVICE && item <= PAM_AUTHTOK_TYPE && item != PAM_XAUTHDATA && item != PAM_CONV
@@ -174,7 +174,7 @@ int pam_set_item(pam_handle_t *handle, int item, const void *value)
     return code;
 }
 
-/* Asks for a text. What was handed out before stays where it is, unless it is another one now. */
+/* Asks for a text. A value that was returned before stays where it is, unless it has changed. */
 static int get_text(const pam_handle_t *handle, enum kind kind, const void *rest, size_t size, char **kept)
 {
     struct wire *wire = (struct wire *)&handle->wire; /* the handle that libpam's prototypes call const never is */
@@ -242,7 +242,7 @@ int pam_putenv(pam_handle_t *handle, const char *text)
     return strlen(text) > MAX_TEXT ? PAM_BUF_ERR : wire_code(&handle->wire, PUTENV, text, strlen(text));
 }
 
-/* Where the value of a variable is kept; NULL if an allocation fails. */
+/* Where the value of a variable is stored; NULL if an allocation fails. */
 static struct value *place_of(pam_handle_t *handle, const char *name)
 {
     struct value *value = handle->variables;

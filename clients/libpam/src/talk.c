@@ -8,7 +8,7 @@
 
 #include "handle.h"
 
-/* Shows one text, `STYLE TEXT`. What the conversation returns counts for prompts alone, for which there is a place. */
+/* Shows one text, `STYLE TEXT`. What the conversation returns counts only for prompts, for which there is room. */
 static int show(const pam_handle_t *handle, uint32_t style, const char *quoted, char **reply)
 {
     char *text = quoted != NULL ? unquoted(quoted) : NULL;
@@ -53,7 +53,7 @@ static bool exchange(pam_handle_t *handle, const struct answer *answer, uint32_t
     return is_sent;
 }
 
-/* The code of the call's own answer, after the log and the wait that it tells of. */
+/* The code of the call's own answer, once its log lines are written and its wait is over. */
 static int finish(pam_handle_t *handle, enum kind kind, const struct answer *answer)
 {
     int code = code_of(result_of(answer, kind));

@@ -1,4 +1,4 @@
-/* Frames and answers (docs/wire.md). Nothing in an answer is trusted: one byte out of place breaks the wire for good. */
+/* Frames and answers (docs/wire.md). Nothing in an answer is trusted: after one wrong byte nothing more is sent or believed. */
 #define _GNU_SOURCE
 #include <errno.h>
 #include <poll.h>
@@ -50,7 +50,7 @@ static bool is_ready(int fd, short events, int64_t until)
     }
 }
 
-/* Sends or receives so many bytes and not one more, so a copy of this process may go on with the next call. */
+/* Sends or receives exactly so many bytes, so a copy of this process may go on with the next call. */
 static bool transfer(int fd, bool sends, void *bytes, size_t size, int64_t until)
 {
     unsigned char *at = bytes;
@@ -83,7 +83,7 @@ static bool receive_answer(int fd, struct answer *answer)
     return transfer(fd, false, answer->text, size, until);
 }
 
-/* Whether a line may stand before the last one. */
+/* Whether a line may come before the last one. */
 static bool is_detail(const char *line)
 {
     static const char *const details[] = { "say ", "line ", "clean ", "wait ", "note ", "env " };
@@ -93,7 +93,7 @@ static bool is_detail(const char *line)
     return false;
 }
 
-/* Makes a string of each line. Whether they are lines, and the last is one that the call may be answered. */
+/* Makes a string of each line. Returns whether they are lines, and the last is a possible answer to the call. */
 static bool is_well_formed(struct answer *answer, enum kind kind)
 {
     char *at = answer->text, *end = at + answer->size, *newline;

@@ -1,5 +1,5 @@
 /*
- * fake_server MODE-FILE: a server for tests/life.c. It says yes to everything, but for what the file's first word says. After
+ * fake_server MODE-FILE: a server for tests/life.c. It says yes to everything except for what the file's first word says. After
  * `says` the rest of the file is its answer to authenticate, and after `asks` it asks for a password before that answer.
  */
 #define _GNU_SOURCE

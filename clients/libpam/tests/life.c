@@ -1,5 +1,5 @@
 /*
- * life MODE-FILE: what an application has to stand, and what mustn't reach it, over tests/fake_server. The library is built with
+ * life MODE-FILE: what an application has to bear, and what mustn't reach it, over tests/fake_server. The library is built with
  * PATIENCE=2 and with ROOT the file that says what the server does.
  */
 #define _GNU_SOURCE
