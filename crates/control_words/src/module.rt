@@ -3,7 +3,8 @@ ghost use Rattle.control_words.specs.Module.{last_part, without_suffix, name_of_
 
 use pam_base::first_place;
 
-/// The name of the module that the path in a line names: the last part of the path, without `.so`.
+/// The name of the module that the path in a line names (libpam: `extract_modulename`): the last
+/// part of the path, without `.so`.
 pub fn module_name(path: &[u8]) -> &[u8]
     ensures { result.now ≡ name_of_module path.now }
 {

@@ -44,11 +44,12 @@ pub trait Conv: Drop {
     /// How often it returned Again. The count never falls, and stops at 2^64 - 1.
     ghost conv_deferrals: { Self → ℕ };
 
-    /// One exchange, of 1 to 32 messages of at most 512 bytes each. It gives one reply for each message, of at most 512
-    /// bytes, and the empty one for a message that isn't a prompt. Gone is returned only if the count of faults rose,
-    /// Again only if a message is a prompt and the count of deferrals rose, and neither count rises otherwise. The
-    /// result of a modelled conversation depends only on its content, and the messages are added to what was passed to
-    /// it, whatever it returns, unless memory runs out; then its content stays.
+    /// One exchange, of 1 to 32 messages (PAM_MAX_NUM_MSG) of at most 512 bytes each. It gives one
+    /// reply for each message, of at most 512 bytes, and the empty one for a message that isn't a
+    /// prompt. Gone is returned only if the count of faults rose, Again only if a message is a
+    /// prompt and the count of deferrals rose, and neither count rises otherwise. The result of a
+    /// modelled conversation depends only on its content, and the messages are added to what was
+    /// passed to it, whatever it returns, unless memory runs out; then its content stays.
     fn talk(&mut self, alloc: Global, messages: &Messages) -> Result<Replies, ConvFault>
         requires { IsExchange messages.now }
         ensures replies { IfOk result (λ replies. AreReplies messages.now replies) }

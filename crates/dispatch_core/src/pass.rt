@@ -22,7 +22,8 @@ use pam_room::{Module, Room, RoomTold, World, WorldTold};
 use stack_walk::PassKind;
 use std::alloc::Global;
 
-// Walks a stack from its first line. Returns its code, or None if the walk is incomplete.
+// Walks a stack from its first line (the loop of libpam's `_pam_dispatch_aux`). Returns its code,
+// or None if the walk is incomplete.
 fn walk(
     alloc: Global,
     chain: &mut Chain,

@@ -2,7 +2,8 @@ use pam_base::Func;
 use stack_walk::PassKind;
 
 /// What a pass is for: the function that its modules serve, with the flags of the application's
-/// call, and what becomes of its return codes.
+/// call, and whether its return codes are cached, or cached ones are used (libpam:
+/// `_PAM_PLEASE_FREEZE`, `_PAM_MUST_BE_FROZEN`).
 #[derive(Clone, Copy)]
 pub struct PassRequest {
     pub func: Func,

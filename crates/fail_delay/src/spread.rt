@@ -4,9 +4,9 @@ ghost use Rattle.fail_delay.specs.Delay.{asked_delay, spread};
 use crate::delay::LONGEST_REQUEST;
 use crate::delay_fn::LONGEST_ASKED;
 
-/// The delay for the longest request, both in microseconds: the request, lengthened or shortened at
-/// random by up to half of it, so that an attacker learns nothing from its length. 0 if there was
-/// no request; the request itself for the random word 0.
+/// The delay for the longest request (libpam: `_pam_compute_delay`), both in microseconds: the
+/// request, lengthened or shortened at random by up to half of it, so that an attacker learns
+/// nothing from its length. 0 if there was no request; the request itself for the random word 0.
 pub fn asked(longest: u32, word: u64) -> u32
     requires { longest ≤ LONGEST_REQUEST }
     ensures asked { result ≡ asked_delay longest word }

@@ -120,7 +120,8 @@ impl Items {
         self.get(Access::ModuleGets, item)
     }
 
-    /// Unsets AUTHTOK and OLDAUTHTOK, and nothing else. Allocates nothing.
+    /// Unsets AUTHTOK and OLDAUTHTOK (libpam: `_pam_sanitize`), and nothing else. Allocates
+    /// nothing.
     pub fn clear_tokens(&mut self)
         ensures { self.new ≡ without_tokens self.old }
     {

@@ -1,7 +1,8 @@
 ghost use Rattle.std.specs.Prelude.{◌≡◌};
 ghost use Rattle.pam_base.specs.Style.{style_number, is_prompt};
 
-/// How a message is shown to the user, by its number in `pam_conv(3)`.
+/// How a message is shown to the user, by its number in `pam_conv(3)`. PAM_RADIO_TYPE and
+/// PAM_BINARY_PROMPT aren't supported.
 #[derive(Clone, Copy, Debug, PartialEq, Eq)]
 pub enum Style {
     /// PAM_PROMPT_ECHO_OFF (1): a prompt; the reply isn't shown while it is typed.

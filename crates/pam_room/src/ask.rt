@@ -47,7 +47,7 @@ pub fn get_user(
 }
 
 /// Asks for a token with one PAM_PROMPT_ECHO_OFF message of at most 512 bytes, and sets AUTHTOK, or
-/// if `old` OLDAUTHTOK, to the reply (`pam_get_authtok(3)`).
+/// if `old` OLDAUTHTOK, to the reply (`pam_get_authtok(3)`, `pam_get_authtok_noverify(3)`).
 ///
 /// ConvErr is returned if and only if `say` would return it. If an allocation fails, the question
 /// may be among the messages, a modelled conversation is as it was or has replied to this question
