@@ -65,7 +65,7 @@ shown style [] room = room
 shown style (b ∷ bs) room =
     (speak (record { style = style; text = take 512 (b ∷ bs) } ∷ []) room).room
 
--- a text is shown, whatever the conversation makes of it
+-- a text is shown; it doesn't matter if the conversation fails
 unfoldable pub shows : Style → List ℕ → Act → Act
 shows style text act stage = act (in_room (shown style text stage.room) stage)
 

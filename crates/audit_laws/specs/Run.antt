@@ -78,7 +78,7 @@ module _ (setting : Setting) where
   HaveAlong stacks n s [] = Unit {0}
   HaveAlong stacks n s (l ∷ ls) = OnState (step_at (line_step setting) n s l) (λ t. HaveStacks stacks t.slots × HaveAlong stacks (n + 1) t ls)
 
-  -- the lines that a run looked at, by how it ended
+  -- the lines that a run looked at, depending on how it ended
   abbrev pub lines_looked : Ending → List ℕ → List ℕ → List (List ℕ)
   lines_looked ReadFault input taken = looked 0 taken false
   lines_looked ending input taken = looked 0 input true

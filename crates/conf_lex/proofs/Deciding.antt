@@ -153,7 +153,7 @@ which_fault : (o : Option LexFault) → (o ≡ None) ⊎ ((f : LexFault) × (o �
 which_fault None = inl refl
 which_fault (Some f) = inr (f, refl)
 
--- what a line's fault says of the one reading
+-- what a line's fault says about the one reading
 line_fault_of : (text : List ℕ) (f : LexFault) → HasLineFault text f → faults text ≡ Some f
 line_fault_of text f h = ap (λ (ps : List Piece). first_fault (joined_lines ps)) (one_reading text h.pieces h.reading) ∙ h.fault_is
 

@@ -32,7 +32,7 @@ units_behind zero (b ∷ bs) =
     elim (unit_at (b ∷ bs)) [ Some u ↦ u ∷ units_behind (length (unit_bytes u) - 1) bs | None ↦ [] ]
 units_behind (suc n) (b ∷ bs) = units_behind n bs
 
--- the bracket of these units, closed or open by what follows them (own)
+-- the bracket of these units: what follows them decides whether it is closed (own)
 abbrev pub bracket_of : List BracketUnit → List ℕ → Piece
 bracket_of us text = if begins_with 93 (drop (length (units_bytes us)) text) then bracket us
     else open_bracket us

@@ -90,7 +90,7 @@ control_unless (first ∷ more) entries = Err first
 abbrev pub control_of_entries : List ControlPair → Result (List Action) ControlFault
 control_of_entries entries = control_unless (filter_map fault_of_entry entries) entries
 
--- the control that a token names, by whether it is bracketed and by its text (pam.conf(5)); a word
+-- the control that a token names, from its text and whether it is bracketed (pam.conf(5)); a word
 -- outside brackets is a keyword
 abbrev pub control_of : Bool → List ℕ → Result (List Action) ControlFault
 control_of true text = control_of_entries (entries_in text)

@@ -1,4 +1,4 @@
-//! The words of a stack: what a line makes of each return code (the controls and keywords of
+//! The words of a stack: what a line does for each return code (the controls and keywords of
 //! `pam.conf(5)`), the rule of a line, and the nested lists of lines and substacks. Begin at
 //! `control.rt`.
 #![tactic(auto)]

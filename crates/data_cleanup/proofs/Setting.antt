@@ -112,7 +112,7 @@ false_unless false h = refl
 fresh : (births : List Birth) (filed : List Filed) → IsSound births filed → (k : ℕ) → length births ≤ k → list_any (eqb k) (filed_ids filed) ≡ false
 fresh births filed sound k le = false_unless _ (λ t. omega (arith, le, ids_below (length births) k filed sound.born sound.marks t))
 
--- what the soundness of a cleanup log says of the sets that were added
+-- what the soundness of a cleanup log says about the sets that were added
 added_numbered : (before after : PlainLedger) (added : List Birth) → after.births ≡ before.births ++ added → AreNumbered 0 after.births
     → AreNumbered (length before.births) added
 added_numbered before after added e all = subst (λ k. AreNumbered k added) (let z : 0 + length before.births ≡ length before.births = omega arith in z) (numbered_back 0 before.births added (subst (AreNumbered 0) e all))

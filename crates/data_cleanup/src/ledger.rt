@@ -53,7 +53,7 @@ impl Ledger {
         &self.filed
     }
 
-    // A law: reading this field brings in the invariant of the model.
+    // A law: the invariant, which a proof gets by reading a field.
     pub(crate) fn sound(&self)
         ensures sound { IsSound self.now.births self.now.filed }
         ensures numbered { AreNumbered 0 self.now.births }

@@ -200,7 +200,8 @@ leaves_as kind w (Some code) cells old new view paused t keeps at held walks =
       state_is = walks.state_is;
     }
 
--- the whole pass, by how its walk ended: what is cached after it, and the codes to resume with
+-- the whole pass, depending on how its walk ended: what is cached after it, and the codes to resume
+-- with
 module _ (kind : PassKind) (cells old new : Answers) (view : AnswersView) (paused : Option (List Code)) (held : kind ≡ kinds.Keep → is_some cells ≡ true) where
   pub pass_leaves : {T : Type 0} (w : Walked (PassState T)) (t : T) (ended : Result (Option Code) NoMemory) (result : Result Code NoMemory)
       → result ≡ code_by ended → new ≡ kept_behind kind (is_ok ended) cells old → paused ≡ paused_by ended view.taken

@@ -1,4 +1,4 @@
--- One turn of the walk by index, by what the code looks up.
+-- One turn of the walk by index, from what the code looks up.
 use Rattle.std.proofs.Common.{◌≡◌, ℕ, ◌+◌, ◌<◌, ◌≤◌, Bool, true, false, true≢false, if◌then◌else◌, nat_le, Some, None, List, [], drop, drop_of_length-le, refl, sym, ◌∙◌, ap, subst, arith}
 use Rattle.std.proofs.Math.Path.{fun_ext}
 use Rattle.std.proofs.lemmas.List.{drop-drop}

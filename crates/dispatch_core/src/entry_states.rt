@@ -5,8 +5,8 @@ ghost use Rattle.dispatch_core.specs.EntryStates.{entry_at, entered};
 use stack_walk::Opinion;
 use std::marker::Model;
 
-/// The states of the stack in which the lists around a line were entered, by how many substacks are
-/// around them: 0 to 16.
+/// The states of the stack in which the lists around a line were entered, indexed by the number of
+/// substacks around them, 0 to 16.
 #[derive(Clone, Copy, Debug)]
 pub struct EntryStates {
     opinions: [Opinion; 17],

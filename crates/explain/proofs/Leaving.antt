@@ -1,4 +1,4 @@
--- What an exit status says of the arguments and of failures.
+-- What an exit status says about the arguments and about failures.
 use Rattle.std.proofs.Common.{◌≡◌, ◌≢◌, ◌⊎◌, ℕ, List, [], Option, Some, None, Result, Ok, Err, inl, inr, refl, sym, ◌∙◌, subst, arith}
 use Rattle.std.specs.Prelude.{IfOk}
 use Rattle.pam_outside.specs.Counts.{Rose, RisesIf}

@@ -111,7 +111,7 @@ abbrev pub IsRefused : Output → Refuse LoadFault → Type 0
 IsRefused e (Named fault) = IsExplained e (refused_explained fault)
 IsRefused e NoMemory = ⊥
 
--- by whether the places of the rules were found
+-- depending on whether the places of the rules were found
 abbrev pub IsExplainedWith : Output → Stacks → Result Sources (Refuse Failed) → List ℕ → Type 0
 IsExplainedWith e stacks (Ok sources) report = IsExplained e (explained_of stacks sources report)
 IsExplainedWith e stacks (Err (Named failed)) report = IsExplained e unread_explained

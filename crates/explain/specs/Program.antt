@@ -45,7 +45,7 @@ ExplainsRead P (Whole text) old root service new = Explains P old root service t
 ExplainsRead P TooLong old root service new = P too_long_written
 ExplainsRead P Unread old root service new = P unread_explained
 
--- by whether the input is too long
+-- depending on whether the input is too long
 abbrev pub ExplainsIf : Bool → (Written → Type 0) → VaultState → List ℕ → List ℕ → List ℕ
     → VaultState → Type 0
 ExplainsIf true P old root service input new = P too_long_written
@@ -94,7 +94,7 @@ pub record IsOutputOfInput (e : Output) (input_before input_now before now : ℕ
   pub read : RisesIf (is_unread report) input_before input_now
   pub shown : IsOutputOfRead e report before now
 
--- what the status of an output says of the arguments and of failures
+-- what the status of an output says about the arguments and about failures
 pub record Causes (status : ℕ) (words : Option Asked) (input_before input_now before now : ℕ) :
     Type 0 where
   pub usage : words ≡ None → status ≡ 2

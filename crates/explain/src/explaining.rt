@@ -93,7 +93,7 @@ fn explained_by(
     explained_with(alloc, trees, found, report)
 }
 
-// The output, by whether the places of the rules were found.
+// The output, depending on whether the places of the rules were found.
 fn explained_with(
     alloc: Global,
     trees: &Trees,

@@ -1,4 +1,4 @@
--- What a rule adds, by what it says.
+-- What a rule adds, from what it says.
 use Rattle.std.proofs.Common.{◌≡◌, ℕ, Bool, true, false, cond, ◌&&◌, List, ◌∷◌, Option, Some, None, Result, Ok, Err, refl, sym, ◌∙◌}
 use Rattle.std.specs.Prelude.{IfOk, codes}
 use Rattle.pam_base.specs.declared.fault.FaultKind.{FaultKind}

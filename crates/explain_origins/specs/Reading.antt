@@ -41,7 +41,7 @@ ReadsRules (Ok (Some rules)) service meant = meant ≡ own_rules service rules
 ReadsRules (Ok None) service meant = meant ≡ []
 ReadsRules (Err x) service meant = Unit {0}
 
--- what a rule in a line adds, by what it says
+-- what a rule in a line adds, from what it says
 abbrev pub step_at : ℕ → RuleContent → Step
 step_at line (contents.Line rule) = Line line
 step_at line (contents.Include name) = File name false

@@ -156,7 +156,7 @@ module _ (settles : FrontSettles) where
     after_refused n c (Ok x) f g k h e = ap (with_text x.1) (h x.0 e)
     after_refused n c (Err j) f g k h e = refl
 
-    -- by what the bytes begin with, if fewer frames than the maximum come before it
+    -- depending on what the bytes begin with, if fewer frames than the maximum come before it
     stay_front : (n : ℕ) (c : State) (taken more : List ℕ) (ended : Bool) (kind : FrameFault) (f : FirstFrame) → n < 65536 → 0 < length taken → front_of taken ≡ f
         → (run_of looked (step_at answers) n c taken false).refused ≡ Some kind
         → ((size : ℕ) (d : State) → 4 ≤ size → (run_of looked (step_at answers) (n + 1) d (drop size taken) false).refused ≡ Some kind

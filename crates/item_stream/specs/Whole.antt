@@ -12,9 +12,9 @@ abbrev pub at_last : {Kind : Type 0} → Result (Ending Kind) Stop
 at_last (Ok ending) = Ok (Some ending)
 at_last (Err stop) = Err stop
 
--- What a run says of the whole input, by how it ends: the input was read completely, and its result; the result of the
--- bytes read before the source failed; the refused item, the same in the bytes read and in the whole input; or where
--- the run stopped.
+-- What a run says about the whole input, depending on how it ends: the input was read completely,
+-- and its result; the result of the bytes read before the source failed; the refused item, the same
+-- in the bytes read and in the whole input; or where the run stopped.
 abbrev pub Reports : {State Kind : Type 0} → Looks → ItemStep State Kind
     → (State → List ℕ → State → Type 0) → Result (Ending Kind) Stop → ℕ → State
     → State → List ℕ → List ℕ → List ℕ → List ℕ → Type 0

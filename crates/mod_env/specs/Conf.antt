@@ -64,7 +64,7 @@ abbrev pub with_value : Key → List Piece → Values → Values
 with_value Default pieces values = record values { default = Some pieces }
 with_value Override pieces values = record values { overriding = Some pieces }
 
--- by how the text begins, and the values in the rest, given those found so far; the last one of
+-- the values, from how the text begins and from the rest, given those found so far; the last one of
 -- each kind counts
 abbrev pub by_pieces : (Values → List Mark → Option Values) → Values → Key → List Mark
     → Option (List Piece) → Option Values

@@ -43,7 +43,7 @@ abbrev pub in_front : Piece → Option (List Piece) → Option (List Piece)
 in_front piece (Some more) = Some (piece ∷ more)
 in_front piece None = None
 
--- by how the value begins, and the pieces of the rest
+-- the pieces, from how the value begins and from the pieces of the rest
 abbrev pub by_next : (List Mark → Option (List Piece)) → Next → Option (List Piece)
 by_next more ended = Some []
 by_next more broken = None

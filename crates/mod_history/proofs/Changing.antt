@@ -27,7 +27,7 @@ use Rattle.mod_history.specs.History.{history_text}
 use Rattle.mod_history.specs.Pwhistory.{remember_in_history, by_length, renew_if_known, by_remember, by_use, history_in, history_limit, history_name, is_refused, refuses_token, remember_of, remembers, renews, stores_text, unsets_item}
 use Rattle.mod_history.specs.Renewal.{hashes_of, renewed}
 
--- ---- by what is known of the user
+-- ---- depending on what is known of the user
 
 module _ (call : PlainCall) (user : List ℕ) (look : KnownPassword) (s : Scene) where
   pub by_unknown : look ≡ Unknown → Returns (Ok returns.UserUnknown) (renew_if_known call user look) s s

@@ -35,7 +35,7 @@ module _ (remember : ℕ) (some : 0 < remember) where
       let parts = either_false (bytes_eq name user) (is_renewed user ds) e in
       (rw parts.0 refl, parts.1)
 
-  -- by whether the renewed line is the user's
+  -- depending on whether the renewed line is the user's
   hashes_by : (b : Bool) (user name hash : List ℕ) (history : List Remembered) → bytes_eq name user ≡ b
       → hashes_of user (renewed remember name hash history) ≡ cond b (renewed_hashes remember hash (hashes_of user history)) (hashes_of user history)
   hashes_by true user name hash history e =

@@ -36,7 +36,8 @@ abbrev room_with : List ℕ → Option (List ℕ) → PlainRoom
 room_with user tty = let t = new_transaction 1 in
     room_of (record t { items = record no_texts { user = Some user; tty = tty; auth_tok = Some (codes "n") } }) (record { offers = []; waits = false; handed = [] })
 
--- with these files below /r/, a caller, and the numbers of the calls of `Vault` that are to fail
+-- with these files below /r/, a caller, and the numbers of the calls of `Vault` that are set to
+-- fail
 abbrev play : Plays → PlainCall → PlainRoom → List File → ℕ → List ℕ → Played
 play plays call room files caller fails =
     plays call (seen_of room) [] (sight_of (scene_of room (record { files = files; calls = 0; fails = fails }) (record { moment = 0; word = 0; draws = 0 }) (record { ledger = record { births = []; filed = [] }; root = codes "/r/"; caller = caller })))

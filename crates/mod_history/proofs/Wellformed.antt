@@ -22,7 +22,7 @@ onto_lack : (byte b : ℕ) (ps : List (List ℕ)) → eqb b byte ≡ false → L
 onto_lack byte b [] e h = (rw e refl, tt)
 onto_lack byte b (p ∷ ps) e h = (rw e h.0, h.1)
 
--- by whether the next byte is a separator
+-- depending on whether the next byte is a separator
 split_lack : (byte b : ℕ) (x : Bool) (ps : List (List ℕ)) → (x ≡ false → eqb b byte ≡ false) → Lack byte ps → Lack byte (cond x ([] ∷ ps) (onto_first b ps))
 split_lack byte b true ps e h = (refl, h)
 split_lack byte b false ps e h = onto_lack byte b ps (e refl) h

@@ -45,7 +45,7 @@ pub(crate) fn check_token(
     renew_if_known(asked, user.bytes(), &look, transaction, conv, vault)
 }
 
-// Continues by what is known of the user's password.
+// Continues, depending on what is known of the user's password.
 fn renew_if_known(
     asked: &Asked,
     user: &[u8],

@@ -75,8 +75,8 @@ fn has_hash(alloc: Global, token: &[u8], hash: &[u8]) -> Result<bool, NoMemory>
     }
 }
 
-/// Unsets AUTHTOK, so that no later module takes the token, and sends the user a message, whatever
-/// the conversation makes of it.
+/// Unsets AUTHTOK, so that no later module takes the token, and sends the user a message, even if
+/// the conversation fails.
 pub(crate) fn refuse_token(
     alloc: Global,
     transaction: &mut Transaction,

@@ -32,7 +32,7 @@ passwd = record { path = codes "/r/etc/passwd"; bytes = codes "joe:x:1000:1000:J
 abbrev joe : PlainRoom
 joe = let t = new_transaction 1 in room_of (record t { items = record no_texts { user = Some (codes "joe") } }) (record { offers = []; waits = false; handed = [] })
 
--- with these files below /r/, of whose calls those with these numbers are to fail
+-- with these files below /r/, of whose calls those with these numbers are set to fail
 abbrev play : Plays → PlainCall → List File → List ℕ → Played
 play plays call files fails =
     plays call (seen_of joe) [] (sight_of (scene_of joe (record { files = files; calls = 0; fails = fails }) (record { moment = 0; word = 0; draws = 0 }) (record { ledger = record { births = []; filed = [] }; root = codes "/r/"; caller = 65534 })))

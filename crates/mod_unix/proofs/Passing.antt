@@ -86,7 +86,7 @@ module _ (seeing : (act : ItemTexts → Act) (known : Known) (s : Scene) (code :
     unfolding verifies_token
     asks try = by_none r look s new _ _ use_first try h
 
--- ---- by what is known of the user
+-- ---- depending on what is known of the user
 
 module _ (call : PlainCall) (look : KnownPassword) (s new : Scene) where
   by_opened : (r : Result Authenticated (Refuse ConvErr)) (opened : Bool) → false ≡ opened → Returns r (λ act. delays (has_argument (codes "nodelay") call.args) (verifies_token call look act)) s new → Returns r (by_open opened call look) s new

@@ -113,7 +113,7 @@ module _ (seeing : (act : Time → Act) (known : Known) (s : Scene) (code : Code
         → Returns (Ok code) (changes_entry call user entry) s new
     stored token code mid k f h d = by_day (Ok code) false k (by_flag (Ok code) false f (then (takes_token call) (λ t (act : Code → Act). stores_token call user t act) (Ok code) token s mid new h d))
 
--- ---- by what is known of the user
+-- ---- depending on what is known of the user
 
 module _ (call : PlainCall) (user : List ℕ) (look : KnownPassword) (s : Scene) where
   pub by_unknown : look ≡ Unknown → Returns (Ok returns.UserUnknown) (change_by call user look) s s

@@ -70,7 +70,7 @@ pub(crate) fn change_token(
     )
 }
 
-// Continues by what is known of the user's password.
+// Continues, depending on what is known of the user's password.
 fn change_by(
     alloc: Global,
     call: &Call,

@@ -26,9 +26,9 @@ pub fn user_of(transaction: &Transaction) -> &[u8]
     }
 }
 
-/// Shows a text (`pam_info(3)`, `pam_error(3)`), of which 512 bytes count, whatever the
-/// conversation makes of it. An empty one isn't shown. If an allocation fails, a modelled
-/// conversation is as it was, and none failed.
+/// Shows a text (`pam_info(3)`, `pam_error(3)`), of which 512 bytes count; it doesn't matter if the
+/// conversation fails. An empty one isn't shown. If an allocation fails, a modelled conversation is
+/// as it was, and none failed.
 pub fn show(
     alloc: Global,
     transaction: &mut Transaction,

@@ -6,7 +6,7 @@ pub const DISALLOW_NULL_AUTHTOK: u32 = 0x1;
 pub const ESTABLISH_CRED: u32 = 0x2;
 /// PAM_DELETE_CRED, of `pam_setcred(3)`: deletes them.
 pub const DELETE_CRED: u32 = 0x4;
-/// PAM_REINITIALIZE_CRED, of `pam_setcred(3)`: sets them anew.
+/// PAM_REINITIALIZE_CRED, of `pam_setcred(3)`: sets them again.
 pub const REINITIALIZE_CRED: u32 = 0x8;
 /// PAM_REFRESH_CRED, of `pam_setcred(3)`: extends their lifetime.
 pub const REFRESH_CRED: u32 = 0x10;

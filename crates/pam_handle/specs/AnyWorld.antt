@@ -1,4 +1,5 @@
--- What holds of a transaction after its calls, with real objects and out of memory too (this project's own).
+-- What holds for a transaction after its calls, with real objects and out of memory too (this
+-- project's own).
 use Rattle.std.specs.Prelude.{◌≡◌, ℕ, ◌≤◌, Bool, false, Option, None, Some, IfSome, IsTrue}
 use Rattle.pam_base.specs.declared.code.Code.{Code}
 use Rattle.pam_base.specs.declared.code.Code.TheVariants as codes

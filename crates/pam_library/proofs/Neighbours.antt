@@ -48,7 +48,7 @@ module _ (players : List Player) (number_of : Code → ℕ → ℕ) where
   other_slot number slots m differs =
       ap (λ (t : Stepped). slot_at t.slots number) (at_place slots m (slot_at slots m.step.number) refl) ∙ other_place slots m number (slot_at slots m.step.number) differs
 
-  -- the steps, by whether the first is on this number
+  -- the steps, depending on whether the first is on this number
   module _ (number : ℕ) where
     abbrev SlotAgrees : List PlainSlot → PlainSlot → List Met → Type 0
     SlotAgrees slots slot steps = slot_at (slots_after players number_of slots steps) number ≡ Some (alone players number_of number slot (own_steps number steps))

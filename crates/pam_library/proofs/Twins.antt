@@ -1,4 +1,5 @@
--- A transaction and the world, in two runs that are alike for its number: what a call makes of them while it runs.
+-- A transaction and the world, in two runs that are alike for its number: how a call changes them
+-- while it runs.
 use Rattle.std.proofs.Common.{◌≡◌, ℕ, zero, suc, false, nat_eq, List, [], ◌∷◌, ◌++◌, length, Option, Some, None, slice_get, refl, sym, ap, ◌∙◌, subst, append_assoc}
 use Rattle.std.proofs.Math.Path.{fun_ext}
 use Rattle.std.proofs.lemmas.List.{append-nil}

@@ -118,7 +118,7 @@ fn serve_by(
     Ok(unless_put_off(room.transaction.put_off, code))
 }
 
-// The code of a line that was run, by what its module did.
+// The code of a line that was run, from what its module did.
 fn unless_put_off(put_off: bool, code: Code) -> Code
     ensures { result ≡ answer_or_incomplete put_off code }
 {

@@ -137,7 +137,7 @@ fn process_of(alloc: Global, caller: u32) -> Process
     }
 }
 
-// What the system says of the process; empty if it can't be read.
+// What the system says about the process; empty if it can't be read.
 fn own_status(rt: HostRuntime) -> Text {
     let alloc = rt.alloc();
     FolderVault::new(rt)

@@ -135,7 +135,7 @@ pub record IsFrameOf (rest : List ℕ) (step : Step) (size : ℕ) : Type 0 where
   pub size_is : size ≡ length (frame_of step)
   pub fits : size ≤ length rest
 
--- by what a length says
+-- depending on what the length says
 record IsSaid (a b : ℕ) (more : List ℕ) (size : ℕ) : Type 0 where
   said : ℕ
   said_is : from_be_bytes w16 (a ∷ b ∷ []) ≡ said

@@ -95,8 +95,8 @@ step_in body = None
 
 -- ---- how long a frame is
 
--- How long a frame is, by the length that it begins with and by how many bytes follow; the length
--- may be 2 to 580.
+-- How long a frame is: its first two bytes say so, and so many bytes have to follow; the length may
+-- be 2 to 580.
 abbrev pub front_by : ℕ → ℕ → FirstFrame
 front_by said follow =
     if nat_lt said 2 || nat_lt 580 said then OutOfRange

@@ -1,4 +1,4 @@
--- What the checker holds of a transaction, in the words of the calls (this project's own).
+-- What the checker knows about a transaction, in terms of the calls (this project's own).
 use Rattle.std.specs.Prelude.{Option, Some, None}
 use Rattle.dispatch_core.specs.Calls as calls
 use Rattle.dispatch_core.specs.Pending as calls_pending

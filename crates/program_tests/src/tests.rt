@@ -1,5 +1,5 @@
 //! What the program prints, and what it leaves, if calls of the input, the output or the files are
-//! to fail.
+//! set to fail.
 
 ghost use Rattle.std.specs.Prelude.{◌≡◌, []};
 
@@ -20,7 +20,7 @@ const CALLER: u32 = 65534;
 const TRANSACTIONS: usize = 16;
 
 /// A run over the service file `/r/etc/pam.d/t`: the arguments, the script, the numbers of the
-/// calls of `Source`, `Sink` and `Vault` that are to fail, and the expected output and status.
+/// calls of `Source`, `Sink` and `Vault` that are set to fail, and the expected output and status.
 #[derive(Clone, Copy)]
 struct Row {
     words: &'static [&'static str],

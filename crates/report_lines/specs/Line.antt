@@ -1,4 +1,4 @@
--- The lines of a report (this project's own), by what they say, and their texts.
+-- The lines of a report (this project's own): what they say, and their texts.
 use Rattle.std.specs.Prelude.{◌≡◌, ℕ, ◌-◌, ◌%◌, ◌<◌, ◌^◌, false, List, [], ◌∷◌, ◌++◌, codes, map, length, replicate, Option, Some, None}
 use Rattle.std.specs.List.{flat_map, AllByRecursion}
 use Rattle.std.specs.Fmt.{decimal, digits}

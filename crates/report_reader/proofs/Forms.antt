@@ -95,7 +95,7 @@ seen_is v is =
     ∙ ap (λ (x : List ℕ). seen_at v.place (unquoted q) (guessed_code x)) (last_word-cut q w k.one)
     ∙ ap (λ (x : List ℕ). seen_at v.place x (guessed_code w)) (unquoted-quoted v.name is.name) ∙ ap (λ (x : Code). seen_at v.place v.name x) k.back
 
--- the names of a cleanup, cut anew
+-- the names of a cleanup, cut again
 abbrev recut : Cleanup → Cleanup
 recut c = record { id = c.id; status = c.status; note = c.note; owner = before_space (c.owner ++ 32 ∷ c.datum); datum = after_space (c.owner ++ 32 ∷ c.datum) }
 

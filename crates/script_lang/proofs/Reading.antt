@@ -110,7 +110,7 @@ item_of_word-word items.XDisplay = refl
 item_of_word-word items.XAuthData = refl
 item_of_word-word items.AuthTokType = refl
 
--- ---- what the commands make of such words
+-- ---- the calls that the commands make from such words
 
 step : ℕ → AppCall → Result Line ScriptKind
 step n call = Ok (lines.Step (record { number = n; call = call }))

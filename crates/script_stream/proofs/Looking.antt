@@ -8,7 +8,7 @@ pub neither : (a b : Bool) → (a || b) ≡ false → (a ≡ false) × (b ≡ fa
 neither true b e = absurd cc
 neither false b e = (refl, e)
 
--- ---- by what comes first
+-- ---- depending on what comes first
 
 pub looked-line : (n : ℕ) (line more : List ℕ) (ended : Bool) → has_byte 10 line ≡ false → looked n (line ++ 10 ∷ more) ended ≡ line ∷ looked (n + 1) more ended
 unfolding looked

@@ -1,4 +1,4 @@
--- What the entries of a file bring, one after another.
+-- What the entries of a file add, one after another.
 use Rattle.std.proofs.Common.{◌≡◌, ℕ, ◌+◌, ◌-◌, ◌≤◌, ◌<◌, length, Bool, true, false, cond, List, [], ◌∷◌, ◌++◌, Option, Some, None, Result, Ok, Err, refl, sym, ap, subst, ◌∙◌, arith}
 use Rattle.std.specs.Prelude.{OnOk}
 use Rattle.std.proofs.lemmas.Bool.{lt-leb, le-leb}
@@ -69,7 +69,7 @@ grows_line level is now rule low few = record {
   deep = λ n le left. depth-joined n now (line rule none) le (omega arith);
 }
 
--- by a file that is brought in, one level deeper
+-- by a file that is included, one level deeper
 pub grows_in : (level : ℕ) (is on : Loader) (now inner : Stack) (as_substack : Bool) → Grows (level + 1) is on none inner
     → Grows level is on now (joined now (brought_in as_substack inner))
 grows_in level is on now inner true g = record {
@@ -123,7 +123,7 @@ module _ (texts : List ℕ → Option (List ℕ)) (fails : List ℕ) where
   pub look_stops : (counts : Counts) (s : Stop) (xs ys : List Item) → look texts fails counts xs ≡ Err s → look texts fails counts (xs ++ ys) ≡ Err s
   look_stops counts s xs ys stops = look-append counts xs ys ∙ rw stops refl
 
-  -- what all entries bring is what was added so far and what those that are left bring
+  -- what all entries add is what was added so far and what those that are left add
   pub record Going (was is : Counts) (level : ℕ) (type : RuleType) (name : List ℕ) (all left : List ConfigEntry) (before now : Stack) : Type 0 where
     pub looks : look texts fails was (entries_items texts level type name all) ≡ look texts fails is (entries_items texts level type name left)
     pub nodes : joined before (entries_nodes texts level type all) ≡ joined now (entries_nodes texts level type left)
@@ -159,7 +159,7 @@ module _ (texts : List ℕ → Option (List ℕ)) (fails : List ℕ) where
   unfolding look
   look_line_over counts name number many = rw (le-leb 4096 counts.lines many) refl
 
-  -- if the file that an entry brings in stops the load, so does the entry
+  -- if the file that an entry includes stops the load, so does the entry
   pub file_stops : (r : Refuse LoadFault) (is on : Counts) (items its : List Item) → its ≡ items
       → Looks {A = Bool} (Err r) (look texts fails is items) on → Looks {A = Option Inclusion} (Err r) (look texts fails is its) on
   file_stops (refusals.Named f) is on items its same looks = rw same looks
@@ -178,7 +178,7 @@ module _ (texts : List ℕ → Option (List ℕ)) (fails : List ℕ) where
   line_stops (refusals.Named f) was is before after vault name number rule adds = rw adds.2 (look_line_over (counts_of was vault) name number adds.0)
   line_stops refusals.NoMemory was is before after vault name number rule adds = tt
 
-  -- an entry that is refused, one that is passed with its line, and one that brings in a file
+  -- an entry that is refused, one that is passed with its line, and one that includes a file
   module _ (vault : VaultState) (was is : Loader) (before after : Stack) (level : ℕ) (type : RuleType) (name : List ℕ) (number : ℕ) where
     abbrev items_if : Bool → RuleContent → List Item
     items_if serving content = cond serving (content_items (items_at texts (level + 1) type) name number content) []
@@ -216,7 +216,7 @@ module _ (texts : List ℕ → Option (List ℕ)) (fails : List ℕ) where
     taking_grows true (Include file) low takes = absurd cc
     taking_grows true (Substack file) low takes = absurd cc
 
-    -- what such an entry brings is what the file brings
+    -- what such an entry adds is what the file adds
     pub record BringsIn (serving : Bool) (content : RuleContent) (i : Inclusion) : Type 0 where
       pub items : items_if serving content ≡ items_at texts (level + 1) type (by_rule name i.line) i.file
       pub nodes : nodes_if serving content ≡ brought_in i.as_substack (nodes_at texts (level + 1) type i.file)
@@ -245,7 +245,7 @@ module _ (texts : List ℕ → Option (List ℕ)) (fails : List ℕ) where
 
 -- ---- over files of which only the calls have changed
 
--- what a part of a load brings, stated for the files as they were
+-- what a part of a load adds, stated for the files as they were
 pub record Since {A : Type 0} (r : Result A (Refuse LoadFault)) (root : List ℕ) (first old new : VaultState) (was is : Loader) (items : List Item) (before after added : Stack) : Type 0 where
   pub looks : Looks r (look (texts_of root first) first.fails (counts_of was old) items) (counts_of is new)
   pub nodes : OnOk r (after ≡ joined before added)
@@ -259,7 +259,7 @@ since r root first old new was is items before after added only brings =
     let b : P (record first { calls = old.calls }) = subst P only brings in
     record { looks = b.looks; nodes = b.nodes; stays = b.stays }
 
--- what a file that is brought in brings
+-- what an included file adds
 pub file_since : (r : Result Bool (Refuse LoadFault)) (root : List ℕ) (first old new : VaultState) (was is : Loader) (level : ℕ) (type : RuleType) (name : List ℕ) (i : Inclusion) (inner : Stack)
     → OnlyCalls first old
     → Brings r (texts_of root old) old new was is (items_at (texts_of root old) (level + 1) type (by_rule name i.line) i.file) none inner (nodes_at (texts_of root old) (level + 1) type i.file)

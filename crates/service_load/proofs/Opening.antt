@@ -314,7 +314,7 @@ module _ (type : RuleType) (name : List ℕ) where
   err_served false (Err g) (refusals.Named f) e = let same : fault_at name g.line g.kind ≡ f = cc in ap Err same
   err_served b found refusals.NoMemory e = tt
 
--- an entry that doesn't serve the type brings nothing
+-- an entry that doesn't serve the type adds nothing
 module _ (texts : List ℕ → Option (List ℕ)) (level : ℕ) (type : RuleType) where
   items_by : (b : Bool) (name : List ℕ) (e : ConfigEntry) (es all : List ConfigEntry) → serves type e.rule_type ≡ b
       → entries_items texts level type name es ≡ entries_items texts level type name all

@@ -58,7 +58,7 @@ module _ (root : List ℕ) (first : VaultState) (was : Loader) (own other : Rule
   abbrev fresh : Counts
   fresh = counts_of (record was { lines = 0 }) first
 
-  -- what the file of `other` brings, if it is opened
+  -- what the file of `other` adds, if it is opened
   abbrev others : List Item
   others = cond (eqb (count (nodes texts 17 type own)) 0) (items texts 17 type (other_opener texts own) other) []
 
@@ -113,7 +113,7 @@ module _ (root : List ℕ) (first : VaultState) (was : Loader) (own other : Rule
     stop_other (refusals.Named f) looks only = record { looks = on_to_other ∙ looks; made = tt; stays = only }
     stop_other refusals.NoMemory looks only = record { looks = tt; made = tt; stays = only }
 
--- what the file of `other` brings, stated for the files as they were
+-- what the file of `other` adds, stated for the files as they were
 pub other_since : (r : Result Bool (Refuse LoadFault)) (root : List ℕ) (first mid now : VaultState) (half is : Loader) (own other : RuleFile) (type : RuleType) (there : Bool) (before after : Stack)
     → OnlyCalls first mid
     → Brings r (texts_of root mid) mid now half is (items_at (texts_of root mid) 0 type (cond there as_other (as_last own.name)) other) before after (nodes_at (texts_of root mid) 0 type other)

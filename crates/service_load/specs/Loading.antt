@@ -55,7 +55,7 @@ Looks (Err NoMemory) looked now = Unit {0}
 abbrev pub OnlyCalls : VaultState → VaultState → Type 0
 OnlyCalls old new = new ≡ record old { calls = new.calls }
 
--- the content of an opened file, by whether the access is set to fail
+-- the content of an opened file, depending on whether the access is set to fail
 abbrev pub opened_answer : {A : Type 0} → Bool → List ℕ → Result A LexFault → Result A LoadFault
 opened_answer true name found = Err (fault_at name 0 ReadFailed)
 opened_answer false name (Ok x) = Ok x
@@ -82,7 +82,7 @@ AddsLine (Err (Named f)) was is before after name number rule = (4096 ≤ was.li
 AddsLine (Err NoMemory) was is before after name number rule = Unit {0}
 
 -- an entry was processed, which is for the type or isn't: its line was added, or it gives the file
--- that it brings in
+-- that it includes
 abbrev pub TakesContent : Bool → RuleContent → Result (Option Inclusion) (Refuse LoadFault) → Loader
     → Loader → Stack → Stack → List ℕ → ℕ → Type 0
 TakesContent false content result was is before after name number = (result ≡ Ok None) × (is ≡ was)
@@ -108,14 +108,14 @@ brought_in true inner = sub inner none
 brought_in false inner = inner
 
 module _ (texts : List ℕ → Option (List ℕ)) where
-  -- what a file that is opened at this level brings: what a load meets, and its nodes
+  -- what a file that is opened at this level adds: what a load meets, and its nodes
   abbrev pub items_at : ℕ → RuleType → Opener → RuleFile → List Item
   items_at level type opener file = items texts (17 - level) type opener file
 
   abbrev pub nodes_at : ℕ → RuleType → RuleFile → Stack
   nodes_at level type file = nodes texts (17 - level) type file
 
-  -- what an entry of the file with this name brings, at this level
+  -- what an entry of the file with this name adds, at this level
   abbrev pub entry_items_at : ℕ → RuleType → List ℕ → ConfigEntry → List Item
   entry_items_at level type name entry = entry_items (items_at (level + 1) type) type name entry
 
@@ -123,7 +123,7 @@ module _ (texts : List ℕ → Option (List ℕ)) where
   entry_nodes_at level type entry =
       entry_nodes (λ name. nodes_at (level + 1) type (plain_file name)) type entry
 
-  -- what the entries of a file at this level bring
+  -- what the entries of a file at this level add
   abbrev pub entries_items : ℕ → RuleType → List ℕ → List ConfigEntry → List Item
   entries_items level type name entries = items_of (items_at (level + 1) type) type name entries
 
@@ -131,7 +131,8 @@ module _ (texts : List ℕ → Option (List ℕ)) where
   entries_nodes level type entries =
       nodes_of (λ name. nodes_at (level + 1) type (plain_file name)) type entries
 
-  -- what is left of a file once it was opened at this level: what its entries bring; an absent one brings nothing
+  -- what is left of a file once it was opened at this level: what its entries add; an absent one
+  -- adds nothing
   abbrev pub left_items : ℕ → RuleType → RuleFile → Option (List ConfigEntry) → List Item
   left_items level type file None = []
   left_items level type file (Some entries) = entries_items level type file.name entries
@@ -140,7 +141,7 @@ module _ (texts : List ℕ → Option (List ℕ)) where
   left_nodes level type None = none
   left_nodes level type (Some entries) = entries_nodes level type entries
 
-  -- unless memory ran out, a file was opened, with the fault of that or with what it then brings
+  -- unless memory ran out, a file was opened, with the fault of that or with what it then adds
   abbrev pub Opens : Result (Option (List ConfigEntry)) (Refuse LoadFault) → List ℕ → Counts → Counts → ℕ
       → RuleType → Opener → RuleFile → Type 0
   Opens (Ok entries) fails was is level type opener file =

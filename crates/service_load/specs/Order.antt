@@ -46,7 +46,7 @@ abbrev pub entry_items : (Opener → RuleFile → List Item) → RuleType → Li
 entry_items deeper type name entry = if serves type entry.rule_type
     then content_items deeper name entry.line entry.content else []
 
--- what some entries bring, in order
+-- what some entries add, in order
 abbrev pub items_of : (Opener → RuleFile → List Item) → RuleType → List ℕ → List ConfigEntry → List Item
 items_of deeper type name entries = flat_map (entry_items deeper type name) entries
 

@@ -26,7 +26,7 @@ abbrev pub entry_nodes : (List ℕ → Stack) → RuleType → ConfigEntry → S
 entry_nodes deeper type entry = if serves type entry.rule_type
     then content_nodes deeper entry.content else none
 
--- what some entries bring, in order (pam.conf(5))
+-- what some entries add, in order (pam.conf(5))
 abbrev pub nodes_of : (List ℕ → Stack) → RuleType → List ConfigEntry → Stack
 nodes_of deeper type [] = none
 nodes_of deeper type (e ∷ es) = joined (entry_nodes deeper type e) (nodes_of deeper type es)

@@ -22,7 +22,7 @@ pub(crate) enum Opener<'a> {
     Rule(&'a [u8], u32),
 }
 
-/// Why `other` is opened, by whether the service exists.
+/// Why `other` is opened, depending on whether the service exists.
 pub(crate) fn opener_of_other<'a>(there: bool, own: &'a RuleFile) -> Opener<'a>
     ensures { opener_of result ≡ (if there then as_other else as_last own.now.name) }
 {

@@ -142,7 +142,7 @@ module _ (texts : List ℕ → Option (List ℕ)) (service : List ℕ) (stack : 
       → items_of_tree type ≡ begin ∷ own_file_items type
   tree_alone stands is type some = rw (own_nodes stands is type, some) (ap (λ (is : List Item). begin ∷ is) (append-nil (own_file_items type)))
 
-  -- one tree, by whether its stack is empty
+  -- one tree, depending on whether its stack is empty
   pass_tree : Stands texts service stack → IsPrintable stack → (type : RuleType) (calls openings lines : ℕ) → openings + openings_for (stack type) ≤ 256
       → Passes texts (counts_with calls openings lines) (items_of_tree type) (openings + openings_for (stack type)) (lines_in (stack type))
   pass_tree stands is type calls openings lines few =

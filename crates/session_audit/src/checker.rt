@@ -21,7 +21,7 @@ use service_load::Trees;
 use stack_walk::Seen;
 use std::alloc::Global;
 
-/// A block that has begun: the number of its lines, and what it has said so far.
+/// A block that has begun: the transaction number of its lines, and what they have said so far.
 #[derive(Drop)]
 pub struct Begun {
     pub number: u32,
@@ -70,7 +70,7 @@ impl Checker {
         self.take(alloc, trees, form, is_last)
     }
 
-    // Takes a line by what it says; None is a line that has none of the forms.
+    // Takes a line, given as what it says; None is a line that has none of the forms.
     fn take(
         &mut self,
         alloc: Global,

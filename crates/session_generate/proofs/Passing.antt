@@ -1,4 +1,5 @@
--- Parts of a load that meet no fault, if no call is to fail: how many files they open and lines they make, at most.
+-- Parts of a load that meet no fault, if no call is set to fail: how many files they open and lines
+-- they make, at most.
 use Rattle.std.proofs.Common.{◌≡◌, ℕ, suc, ◌+◌, ◌-◌, ◌≤◌, Bool, true, false, cond, List, [], ◌∷◌, ◌++◌, map, Option, Some, None, Result, Ok, Err, nat_le, refl, sym, ap, ◌∙◌, subst, arith}
 use Rattle.std.specs.Result.{is_ok}
 use Rattle.std.proofs.lemmas.Bool.{and_parts, le-ltb, lt-leb}

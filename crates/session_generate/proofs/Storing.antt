@@ -11,7 +11,7 @@ use Rattle.drawn_files.specs.declared.files.DrawnFile.{DrawnFile}
 use Rattle.drawn_files.specs.Files.{count_of, drawn_file, drawn_files, name_of, service, text_of}
 use Rattle.session_generate.specs.Placing.{Placed, fault_of, path_of_service, placed}
 
--- ---- if no call is to fail, all are stored
+-- ---- if no call is set to fail, all are stored
 
 pub never : (calls : ℕ) → fails_next calls [] ≡ false
 never calls = and_right (nat_lt calls (2 ^ 64 - 1)) false refl

@@ -89,7 +89,7 @@ finds setting seed lines s state (Ok login) (Err none) is comes = inr comes.1
 finds setting seed lines s state (Err (refusals.Named fault)) (Err none) is comes = inr comes.1
 finds setting seed lines s state (Err refusals.NoMemory) (Err none) is comes = inl comes
 
--- the ends, by what is found
+-- the ends, depending on what is found
 pub ends_by : (lines : ℕ) (login : Result Login (Refuse LoadFault)) (result : Result Finding faults.NoMemory) → IfOk result (λ (f : Finding). IsFound f lines login)
     → (number status : ℕ) → IsEndWith (number_of (end_status login)) number status → IsEndOfFinding result number status
 ends_by lines (Ok login) (Ok f) is number status e = e

@@ -6,7 +6,7 @@ use Rattle.service_load.specs.FirstFault.{Counts}
 use Rattle.service_load.specs.Load.{loaded}
 use Rattle.session_generate.specs.Placing.{placed}
 
--- there is no file, and no call is to fail
+-- there is no file, and no call is set to fail
 pub record IsFree (vault : VaultState) : Type 0 where
   pub files : vault.files ≡ []
   pub fails : vault.fails ≡ []

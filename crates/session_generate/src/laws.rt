@@ -18,9 +18,9 @@ pub fn generated_files_are_read()
         HoldsRules (service (count_of lines)).text (service_contents (count_of lines)) }
 {}
 
-/// If there is no file and no call is to fail, the files that a seed generates are stored and load
-/// without a fault, and the result of the authentication is written, whatever the modules. So if
-/// all objects are modelled, `generate` doesn't return `Refused` then. This is a law about the
+/// If there is no file and no call is set to fail, the files that a seed generates are stored and
+/// load without a fault, and the result of the authentication is written, whatever the modules. So
+/// if all objects are modelled, `generate` doesn't return `Refused` then. This is a law about the
 /// definitions: its contract states it.
 pub fn generated_files_load()
     ensures files { (seed lines : ℕ) (vault : VaultState) → lines ≤ 4096 → IsFree vault →

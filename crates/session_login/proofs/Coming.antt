@@ -69,7 +69,7 @@ module _ (setting : Setting) where
         to = to_behind l result xs s t c.whole c.others c.part (rw (← w.at) c.to);
       }
 
-  -- ---- a call, by what it is
+  -- ---- a call that is made or not
 
   pub made_as : (call other : AppCall) → call ≡ other → (result : Result Answer Stop) (s t : RunState) (p q : SinkState) → Makes setting (make setting call s) result s t p q
       → Makes setting (make setting other s) result s t p q

@@ -77,7 +77,7 @@ module _ (setting : Setting) where
             goes = goes_then setting (m ∷ []) s t p q w result (course setting calls (code_in answer) t).made u r more.goes;
           })
 
--- ---- the same, by what is known of the list and the call
+-- ---- the same, from what is known about the list and the call
 
 module _ (setting : Setting) (all : List LoginCall) (c : LoginCall) (calls : List LoginCall) (last : Code) (s : RunState) (e : all ≡ c ∷ calls) where
   pub told_not_due : is_due c.when last ≡ false → (result : Result (Option Code) Stop) (t : RunState) (p q : SinkState)

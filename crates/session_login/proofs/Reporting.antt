@@ -113,7 +113,7 @@ some_course (c ∷ calls) last = some_turn (SaysCourse calls) (some_course calls
 pub said_none : (last : Code) (p : SinkState) → Reports {T = Option Code} (SaysCourse [] last) (Ok None) p p
 said_none last p = record { text = []; written = sym (append-nil p.written); says = (refl, refl) }
 
--- ---- one call of a table, by what is known of the list
+-- ---- one call of a table, from what is known about the list
 
 module _ (all : List LoginCall) (c : LoginCall) (calls : List LoginCall) (last : Code) (e : all ≡ c ∷ calls) where
   says_turn : (due : Bool) → is_due c.when last ≡ due → (denied : Option Code) (text : List ℕ) → SaysTurn due c last (SaysCourse calls) denied text

@@ -61,12 +61,12 @@ pub record Course : Type 0 where
 abbrev pub then_course : Made → Course → Course
 then_course m c = record { made = m ∷ c.made; denied = c.denied }
 
--- by whether the login goes on after a call
+-- depending on whether the login goes on after a call
 abbrev pub judged : Bool → Made → (Code → RunState → Course) → Course
 judged true m others = then_course m (others (code_in m.answer) m.state)
 judged false m others = record { made = m ∷ []; denied = Some (code_in m.answer) }
 
--- by whether a call is made
+-- depending on whether a call is made
 abbrev pub turn : Setting → Bool → LoginCall → Code → RunState → (Code → RunState → Course) → Course
 turn setting false c last s others = others last s
 turn setting true c last s others = let m = make setting (call_of c) s in

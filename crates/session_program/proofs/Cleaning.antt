@@ -151,7 +151,7 @@ pub nothing_since : (Is : ℕ → ℕ → Type 0) (note : Notes) (old new : Plai
 nothing_since Is note old new same births filed =
     nothing_cleaned Is note old.process.ledger new.process.ledger (ap (λ (w : PlainWorld). w.process.ledger) same) births filed
 
--- ---- by what was asked for
+-- ---- for each command
 
 pub cleaned_as : (request asked : Option Command) (tells : Bool) (script : List ℕ) (status : ℕ) (note : Notes) (ledger : PlainLedger) → asked ≡ request
     → IsCleanedUp (MayEnd asked tells script status) note ledger → IsCleanedUp (MayEnd request tells script status) note ledger

@@ -1,5 +1,5 @@
--- What the program says of each command: a record for each, over what its objects hold before and after it (this project's
--- own).
+-- What the program says about each command: a record for each, over what its objects hold before
+-- and after it (this project's own).
 use Rattle.std.specs.Prelude.{◌≡◌, ◌≢◌, ◌⊎◌, ◌≤◌, ◌<◌, ◌^◌, ◌&&◌, ℕ, Bool, List, [], IsTrue, Option, Some, None}
 use Rattle.pam_base.specs.declared.code.Code.{Code}
 use Rattle.data_cleanup.specs.Ledger.{PlainLedger}

@@ -53,7 +53,7 @@ OtherCalls = (players : List Player) (number_of : Code → ℕ → ℕ) (number 
 
 -- ---- lines
 
--- what a line does, by whether it is one too many
+-- what a line does, depending on whether it is one too many
 abbrev counted : {A : Type 0} → Bool → Result A ScriptKind → Result A ScriptKind
 counted many r = if many then Err TooManyLines else r
 

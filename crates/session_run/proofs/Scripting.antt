@@ -1,4 +1,4 @@
--- What a line of a script does, by what it asks for.
+-- What a line of a script does, from what it asks for.
 use Rattle.std.proofs.Common.{◌≡◌, ℕ, Bool, true, false, cond, leb, ltb, List, length, Result, Ok, Err, refl, sym, ap, ◌∙◌}
 use Rattle.std.proofs.lemmas.Bool.{ltb-true}
 use Rattle.pam_base.specs.declared.fault.ScriptKind.{ScriptKind}

@@ -113,7 +113,8 @@ module _ (setting : Setting) where
         FilesStay (step_at (line_step setting) n s l) (is_on_another number (step_in (parsed l))) s
         (λ t. LeaveFiles (n + 1) t ls)
 
--- a run may begin here: slots and cleanup log belong together, and no call of `Vault` is to fail
+-- a run may begin here: slots and cleanup log belong together, and no call of `Vault` is set to
+-- fail
 pub record IsQuietStart (s : RunState) : Type 0 where
   pub order : AreInOrder s.slots s.world.process.ledger
   pub quiet : NoCallFails s.world.vault

@@ -1,5 +1,5 @@
--- What the bytes of a script alone say of a run of it, whatever its lines do; and what was written (this project's
--- own).
+-- What the bytes of a script alone say about a run of it, whatever its lines do; and what was
+-- written (this project's own).
 use Rattle.std.specs.Prelude.{◌≡◌, ℕ, ◌+◌, ◌≤◌, ◌<◌, All, Bool, true, false, List, [], ◌++◌, length, Option, Some, None, Result, Ok, Err, OnOk}
 use Rattle.pam_base.specs.declared.fault.ScriptKind.{ScriptKind}
 use Rattle.pam_outside.specs.Streams.{SourceState, SinkState}

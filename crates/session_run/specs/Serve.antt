@@ -1,4 +1,5 @@
--- What an item of a stream does, by what it asks for, whatever the items are (this project's own).
+-- What an item of a stream does, from what it asks for, whatever the items are (this project's
+-- own).
 use Rattle.std.specs.Prelude.{◌≡◌, ℕ, List, [], Result, Ok, Err}
 use Rattle.pam_base.specs.declared.call.Step.{Step}
 use Rattle.script_lang.specs.declared.line.Line.{Line}

@@ -44,7 +44,7 @@ by_file (Some text) = if nat_lt 65536 (length text) then damaged else by_text (f
 abbrev pub tally_path : List ℕ → List ℕ → List ℕ
 tally_path root user = path_of root (codes "/var/run/faillock/" ++ user)
 
--- the tally of a user under a root: unread if the call of `Vault` is to fail
+-- the tally of a user under a root: unread if the call of `Vault` is set to fail
 unfoldable pub tally_of : VaultState → List ℕ → List ℕ → PlainTally
 tally_of vault root user = if is_failing vault then unread
     else by_file (file_at (tally_path root user) vault.files)

@@ -1,4 +1,4 @@
--- What a frame does, by what it asks for.
+-- What a frame does, from what it asks for.
 use Rattle.std.proofs.Common.{◌≡◌, ℕ, Bool, true, false, cond, leb, List, Option, Some, None, Result, Ok, Err, refl}
 use Rattle.pam_base.specs.declared.call.Step.{Step}
 use Rattle.pam_wire.specs.Frame.{answer_of}

@@ -1,4 +1,4 @@
--- A whole run of frames, by how it ends.
+-- A whole run of frames, for each way in which it ends.
 use Rattle.std.proofs.Common.{◌≡◌, ℕ, Ok, Err, refl}
 use Rattle.pam_outside.specs.Streams.{SourceState, SinkState}
 use Rattle.item_stream.specs.declared.ending.Ending.{Ending}

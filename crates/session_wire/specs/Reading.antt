@@ -1,4 +1,4 @@
--- What the bytes of a stream of frames alone say of a run of it, whatever its calls do (this
+-- What the bytes of a stream of frames alone say about a run of it, whatever its calls do (this
 -- project's own).
 use Rattle.std.specs.Prelude.{◌≡◌, ℕ, ◌+◌, ◌≤◌, Bool, true, false, List, [], ◌++◌, length, None, Result, Ok, Err}
 use Rattle.pam_base.specs.declared.call.Step.{Step}

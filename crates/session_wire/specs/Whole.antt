@@ -22,7 +22,7 @@ pub use Rattle.session_wire.specs.Endings.{ending_status, stop_status}
 use Rattle.session_wire.specs.Reading.{SpellsTo}
 use Rattle.session_wire.specs.Step.{answers, Fails}
 
--- What follows the frames, by how they ended or stopped and by the result of the run: all
+-- What follows the frames, depending on how they ended or stopped and on the result of the run: all
 -- transactions are ended and answered; or those up to one whose answer isn't completely written,
 -- and the others are ended; or all are ended and nothing is written.
 abbrev pub IsBehind : List Player → Result (Ending FrameFault) Stop

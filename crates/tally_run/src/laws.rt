@@ -13,11 +13,11 @@ ghost use Rattle.tally_run.specs.Others.{AreKnown, IsApart, other_plays, tally_p
 ghost use Rattle.tally_run.specs.Tallied.{FaillockAloneWrites, LeavesFile, Tallies};
 
 /// If pam_faillock(8) alone writes a user's file, then whatever the steps of a run are, the file
-/// holds what the calls of its lines make of it, in order: each with the arguments of its rule, and
-/// with the room, the files and the time as the line before left them (`script`). A recorded
-/// failure is dropped only when a later one is recorded and it doesn't count any more, or when the
-/// failures are cleared. The implicit ends of the run don't change the file (`closings`). This is a
-/// law about the definitions: its contract states it.
+/// holds what the calls of its lines write, in order: each with the arguments of its rule, and with
+/// the room, the files and the time as the line before left them (`script`). A recorded failure is
+/// dropped only when a later one is recorded and it doesn't count any more, or when the failures
+/// are cleared. The implicit ends of the run don't change the file (`closings`). This is a law
+/// about the definitions: its contract states it.
 pub fn runs_keep_recorded_failures()
     ensures script { (path : List ℕ) (setting : Setting) (n : ℕ) (s : RunState) (script : List
         (List ℕ)) →

@@ -26,8 +26,8 @@ enum Asked {
     SucceedIf,
 }
 
-// Has a module serve a call for joe at a terminal, with these arguments; one call of `Vault` is to
-// fail.
+// Has a module serve a call for joe at a terminal, with these arguments; one call of `Vault` is set
+// to fail.
 fn serve_joe(alloc: Global, asked: Asked, words: &[&[u8]], failing: u64) -> Result<Outcome, Fail> {
     let func = match asked {
         Asked::Env => Func::OpenSession,

@@ -17,8 +17,8 @@ struct Outcome {
     kept: bool,
 }
 
-// Has pam_unix serve a call for joe, with one argument and this AUTHTOK; one call of `Vault` is to
-// fail.
+// Has pam_unix serve a call for joe, with one argument and this AUTHTOK; one call of `Vault` is set
+// to fail.
 fn serve_joe(
     alloc: Global,
     func: Func,

@@ -52,7 +52,7 @@ loop-entry-preserved-in_default-2 g t c =
       counted = more_left _ _ e _ _ steps.0 steps.1 inv.counted;
     }
 
--- an entry that brings in a file
+-- an entry that includes a file
 pub loop-entry-preserved : goal.loop-entry-preserved
 loop-entry-preserved g t c =
     let root = c.args.at.root.now in
