@@ -131,7 +131,7 @@ answer_of lines = given (first_fault lines) (flat_map line_rules lines)
 unfoldable pub answer_at : ℕ → List ℕ → Result (List RawRule) LexFault
 answer_at n text = answer_of (numbered n (lines_of_pieces (pieces_of text)))
 
--- with the rules of earlier lines
+-- the same with the rules of earlier lines
 abbrev pub with_front : List RawRule → Result (List RawRule) LexFault
     → Result (List RawRule) LexFault
 with_front front (Ok rules) = Ok (front ++ rules)

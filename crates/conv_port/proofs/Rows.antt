@@ -60,7 +60,7 @@ no_prompt = refl
 mark_untouched : state_after (ready (Later ∷ [])) a_text ≡ behind a_text (ready (Later ∷ []))
 mark_untouched = refl
 
--- one that waits returns Again if a reply is missing, and keeps its replies
+-- a conversation that waits returns Again if a reply is missing, and keeps its replies
 waits : answer_to (waiting (Answer (codes "joe") ∷ [])) two_prompts ≡ Err Again
 waits = refl
 

@@ -17,7 +17,7 @@ use std::snapshot::Snapshot;
 #[derive(Drop)]
 pub(crate) struct Queue {
     offers: VecDeque<Offer>,
-    // For contracts alone: an element has no bytes, and neither has the memory of the list.
+    // Only for contracts: neither an element nor the memory of the list takes any bytes.
     handed: Vec<Snapshot<Messages>>,
 }
 

@@ -43,7 +43,7 @@ pub fn nothing_sets()
         Sets owner list ledger list ledger }
 {}
 
-/// One call of `DataList::set` sets.
+/// One call of `DataList::set` is a list of sets.
 pub fn one_birth_sets()
     ensures { (owner : ℕ) (old new : PlainDataList) (before after : PlainLedger)
         (name payload : List ℕ) →

@@ -139,7 +139,7 @@ pub fn growth_holds()
         AreHeld modules limit after next }
 {}
 
-/// So does the end of one transaction.
+/// The end of one transaction does the same.
 pub fn end_holds()
     ensures { (note : Notes) (modules limit handle status : ℕ) (before after : PlainLedger)
         (lists next : Lists) →

@@ -17,7 +17,7 @@ abbrev pub passed : Next → ℕ → ℕ
 passed (after n) left = n
 passed stop left = left
 
--- with the first n lines skipped
+-- the walk with the first n lines skipped
 abbrev pub run : {State : Type 0} → PassKind → Serving State → List FlatLine → ℕ → ℕ → Entries
     → Opinion → State → Walked State
 run kind serve [] skip at entries opinion state = walked opinion state

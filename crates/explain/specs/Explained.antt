@@ -58,7 +58,7 @@ unread_explained = written 5 []
 
 -- ---- with modelled files: what is written has this property
 
--- it is this, or nothing, if the last access failed when the files were read once more
+-- what is written is this; or nothing, if the last access failed when the files were read once more
 abbrev pub OrUnread : (Written → Type 0) → Written → VaultState → Type 0
 OrUnread P w vault = P w ⊎ (P unread_explained × IsTrue (ends_failing vault))
 
@@ -78,7 +78,8 @@ Explains P old root service report new =
 
 -- ---- with any files
 
--- it is the explanation by these stacks, with their rules at some places, and no access failed
+-- what is written is the explanation by these stacks, with their rules at some places, and no
+-- access failed
 pub record IsByStacks (e : Output) (stacks : Stacks) (report : List ℕ) (before now : ℕ) : Type
     0 where
   pub sources : Sources
@@ -90,7 +91,7 @@ pub record IsByFailure (e : Output) (before now : ℕ) : Type 0 where
   pub nothing : IsExplained e unread_explained
   pub failed : Rose before now
 
--- it is the fault of a configuration
+-- what is written is the fault of a configuration
 pub record IsByFault (e : Output) (before now : ℕ) : Type 0 where
   pub fault : LoadFault
   pub refused : IsExplained e (refused_explained fault)

@@ -58,7 +58,7 @@ ExplainsInput P old root service input new before now =
     ExplainsIf (nat_lt 1048576 (length input)) P old root service input new
     ⊎ (P unread_explained × Rose before now)
 
--- for these arguments
+-- what is written for these arguments
 abbrev pub Answers : (Written → Type 0) → Option Asked → VaultState → List ℕ → VaultState → ℕ → ℕ
     → Type 0
 Answers P None old input new before now = P usage_written

@@ -48,7 +48,7 @@ pub fn explanation(
         report.now (vault_holds vault.new)) }
     ensures stays { IsTrue (vault_tells vault.old) →
         OnlyCalls (vault_holds vault.old) (vault_holds vault.new) }
-    // With real files too.
+    // What holds with real files, too.
     ensures shows { IfOk result (λ output.
         IsOutputOf output report.now (vault_faults vault.old) (vault_faults vault.new)) }
 {

@@ -55,7 +55,7 @@ pub fn explain_to<S: Source, K: Sink>(
         (S.source_faults source.new) (K.sink_holds out.old) (K.sink_holds out.new) }
     ensures stays { IsTrue (vault_tells vault.old) →
         OnlyCalls (vault_holds vault.old) (vault_holds vault.new) }
-    // With real objects too.
+    // What holds with real objects, too.
     ensures usage { asked_of words.now ≡ None → (result ≡ 2) ⊎ ((result ≡ 4) ⊎ (result ≡ 6)) }
     ensures no_usage { result ≡ 2 → asked_of words.now ≡ None }
     ensures unread { result ≡ 5 → Rose (S.source_faults source.old) (S.source_faults source.new)

@@ -49,7 +49,7 @@ module _ (stacks : Stacks) (sources : Sources) (number : ℕ) where
   abbrev pub second_text : Option KeptAnswers → List Code → Telling → List ℕ
   second_text first past told = run_text ChAuthTok Password stacks.password Follow first past told
 
-  -- it follows if the first one returned SUCCESS
+  -- the second pass follows if the first one returned SUCCESS
   abbrev pub behind_text : Code → Option KeptAnswers → Telling → List ℕ
   behind_text Success kept told = second_text kept [] told
   behind_text code kept told = []

@@ -6,7 +6,7 @@ use Rattle.stack_walk.specs.declared.pass_kind.PassKind.{PassKind}
 use Rattle.stack_walk.specs.Walk.{Serving, Walked, walk, halted}
 use Rattle.explain_calls.specs.declared.turn.Turn.{Turn}
 
--- it goes on, or None if it waits there
+-- the walk goes on, or None if it waits there
 abbrev pub after_turn : {State : Type 0} → PassKind → Serving State → Stack → ℕ → Opinion → Opinion → Option Turn → State → Walked State
 after_turn kind serve rest at entry opinion None state = halted opinion state
 after_turn kind serve rest at entry opinion (Some turn) state = walk kind serve turn.skip rest at entry turn.opinion state

@@ -105,7 +105,7 @@ module _ (deeper : List ℕ → Placed) (type : RuleType) (name : List ℕ) wher
       ∙ ap (λ (b : Bool). b && is_nothing (of_rules in_folder rest)) (if_nothing (serves type e.rule_type) (content_placed deeper name e.line e.content) (step_at e.line e.content) (content_nothing e.line e.content)))
   rule_nothing in_folder rule rest (Err kind) is = rw is refl
 
-  -- one of the rules of a text is one that is meant, or isn't
+  -- a rule of a text was asked for, or wasn't
   record IsStep (in_folder : Bool) (own rest : List RawRule) : Type 0 where
     pub adds : places (of_rules in_folder (own ++ rest)) ≡ places_by (step_of_rules type in_folder own) ++ places (of_rules in_folder rest)
     pub finds : is_nothing (of_rules in_folder (own ++ rest)) ≡ nothing_by (step_of_rules type in_folder own) && is_nothing (of_rules in_folder rest)

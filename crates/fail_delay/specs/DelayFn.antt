@@ -10,7 +10,7 @@ pub record GivesOneNumber (Gives : Code → ℕ → ℕ → Type 0) : Type 0 whe
       → Gives code asked other → n ≡ other
   pub within : (code : Code) (asked n : ℕ) → asked ≤ 90000000 → Gives code asked n → n ≤ 60000000
 
--- that number is this one
+-- the number that the function returns is this one
 abbrev pub IsNumberGiven : (Code → ℕ → ℕ → Type 0) → (Code → ℕ → ℕ) → Type 0
 IsNumberGiven Gives number = (code : Code) (asked n : ℕ) → asked ≤ 90000000 → Gives code asked n
     → n ≡ number code asked

@@ -16,7 +16,7 @@ abbrev pub lines_kept : Answers → ℕ
 lines_kept None = 0
 lines_kept (Some cells) = length cells
 
--- with the code of line i cached
+-- the cells with the code of line i cached
 abbrev pub kept_at : Answers → ℕ → Code → Answers
 kept_at None i answer = None
 kept_at (Some cells) i answer = Some (slice_set cells i (Some answer))

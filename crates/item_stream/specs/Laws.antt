@@ -21,7 +21,7 @@ module _ {State Kind : Type 0} (step : ItemStep State Kind)
     (Fails : State → List ℕ → State → Type 0) where
   -- ---- one item
 
-  -- it has no text to write
+  -- the item has no text to write
   abbrev pub SilentIsServed : Type 0
   SilentIsServed = (n : ℕ) (item : List ℕ) (c d : State) (p : SinkState) →
       step n c item ≡ Ok (d, []) → ServesItem step Fails (Ok None) n item c d p p
@@ -33,7 +33,7 @@ module _ {State Kind : Type 0} (step : ItemStep State Kind)
       step n c item ≡ Ok (d, text) → WritesWhole result text p q →
       ServesItem step Fails (written_by result) n item c d p q
 
-  -- it is refused
+  -- the item is refused
   abbrev pub RefusedIsServed : Type 0
   RefusedIsServed = (kind : Kind) (n : ℕ) (item : List ℕ) (c : State) (p : SinkState) →
       step n c item ≡ Err kind → ServesItem step Fails (Ok (Some kind)) n item c c p p

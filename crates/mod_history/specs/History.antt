@@ -11,7 +11,7 @@ use Rattle.pam_base.specs.declared.fault.Refuse.TheVariants.{NoMemory, Named}
 use Rattle.mod_history.specs.declared.history.Damaged.{Damaged}
 use Rattle.mod_history.specs.declared.history.Remembered.{Remembered}
 
--- one more before them, if both are there
+-- one more element before the others, if both exist
 abbrev pub in_front : {A : Type 0} → Option A → Option (List A) → Option (List A)
 in_front None xs = None
 in_front (Some x) None = None

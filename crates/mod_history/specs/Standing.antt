@@ -112,7 +112,7 @@ Follow path before (s ∷ ss) after =
     × Does path s.call s.room s.sight (played s) s.deed
     × Follow path (file_at path (played s).files) ss after
 
--- one `remember` is used
+-- all calls use one `remember`
 abbrev pub Remembers : ℕ → Served → Type 0
 Remembers remember s = remember_of s.call.args ≡ remember
 

@@ -87,11 +87,11 @@ pub enum Order {
 /// A test of a field; its flag is false for the opposite test.
 #[derive(Clone, Copy, Debug)]
 pub enum Test<'a> {
-    /// As a number, with this one.
+    /// It is compared as a number, with this one.
     Compares(Order, u64),
-    /// As a text, with this one.
+    /// It is compared as a text, with this one.
     Equals(bool, &'a [u8]),
-    /// As a text, with those of a list, which colons separate.
+    /// It is compared as a text, with those of a list, separated by colons.
     IsAmong(bool, &'a [u8]),
 }
 

@@ -112,7 +112,7 @@ is_written (left ∷ ds) = is_written ds
 is_written (recorded interval failure ∷ ds) = true
 is_written (cleared ∷ ds) = true
 
--- one `fail_interval` is used, and what is recorded are failures of bytes, with times of at most 13 digits
+-- all calls use one `fail_interval`, and record failures of bytes, with times of at most 13 digits
 abbrev pub IsWith : ℕ → Deed → Type 0
 IsWith interval left = Unit {0}
 IsWith interval (recorded i failure) = (i ≡ interval) × IsFailure failure

@@ -20,7 +20,7 @@ spelled source = flat_map spelled_byte source
 
 -- ---- what a spelling means
 
--- one more before them, if both are there
+-- one more byte before the others, if both exist
 abbrev pub in_front : {A : Type 0} → Option A → Option (List A) → Option (List A)
 in_front None xs = None
 in_front (Some x) None = None

@@ -33,12 +33,12 @@ pub record CallsAs (c : Called) (code : Code) (handle : PlainHandle) (world : Pl
 
 -- ---- the room
 
--- with both tokens unset
+-- the room with both tokens unset
 abbrev pub without_its_tokens : PlainRoom → PlainRoom
 without_its_tokens r =
     record r { transaction = record r.transaction { items = without_tokens r.transaction.items } }
 
--- with no requested delay
+-- the room with no requested delay
 abbrev pub without_request : PlainRoom → PlainRoom
 without_request r = record r { transaction = record r.transaction { delay = 0 } }
 

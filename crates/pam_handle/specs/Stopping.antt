@@ -105,7 +105,8 @@ module _ {World : Type 0} (players : List Player) (flags : ℕ) (stack : Stack) 
       ⊎ (StopsAt players ChAuthTok (flags_seen ChAuthTok false flags) stack kinds.Keep
       (answers_held None) past tells start end ⊎ StopsLater past start end after)
 
-  -- with the codes that the first pass cached, if the call is resumed in its second pass
+  -- where it ran out of memory, with the codes that the first pass cached if the call is resumed in
+  -- its second pass
   abbrev pub StopsInChange : Option KeptAnswers → List Code → State → State → World → World → Type 0
   StopsInChange None past start end before after = StopsInCheck past start end before after
   StopsInChange (Some first) past start end before after =

@@ -16,7 +16,7 @@ abbrev pub slot_at : List PlainSlot → ℕ → Option PlainSlot
 slot_at slots zero = None
 slot_at slots (suc i) = slice_get slots i
 
--- with another in the slot of this number
+-- the slots with another content in the slot of this number
 abbrev pub with_slot : List PlainSlot → ℕ → PlainSlot → List PlainSlot
 with_slot slots zero slot = slots
 with_slot slots (suc i) slot = slice_set slots i slot

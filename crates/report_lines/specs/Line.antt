@@ -232,7 +232,7 @@ bytes_of text = map byte_of text
 abbrev pub word_of : ℕ → ℕ
 word_of n = n % 2 ^ 32
 
--- and as a word of 64 bits
+-- a number as a word of 64 bits
 abbrev pub long_of : ℕ → ℕ
 long_of n = n % 2 ^ 64
 

@@ -51,7 +51,7 @@ pub nothing_left : (left : List ConfigEntry) (n : ℕ) → n ≡ 0 → n ≡ len
 nothing_left [] n zero counted = refl
 nothing_left (e ∷ es) n zero counted = absurd (omega (arith, zero, counted))
 
--- one entry fewer is left
+-- one fewer entry is left
 pub more_left : (old left : List ConfigEntry) (e : ConfigEntry) (n m : ℕ) → old ≡ e ∷ left → m + 1 ≡ n → n ≡ length old → m ≡ length left
 more_left old left e n m steps fewer counted = omega (arith, ap length steps, fewer, counted)
 

@@ -11,7 +11,7 @@ abbrev pub filled : (RuleType → Stack) → List RuleType → Stacks → Stacks
 filled stack [] stacks = stacks
 filled stack (type ∷ types) stacks = filled stack types (with_stack stacks type (stack type))
 
--- one type more
+-- one more type
 pub filled_next : (stack : RuleType → Stack) (now next all : Stacks) (i : ℕ) (d : RuleType) → i < length all_types
     → filled stack (drop i all_types) now ≡ all → next ≡ with_stack now (get_or all_types i d) (stack (get_or all_types i d))
     → filled stack (drop (i + 1) all_types) next ≡ all

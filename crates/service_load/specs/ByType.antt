@@ -10,7 +10,7 @@ at_type values Account = values.account
 at_type values Password = values.password
 at_type values Session = values.session
 
--- with this value of a type
+-- the values with this one for a type
 abbrev pub with_type : {A : Type 0} → ByType A → RuleType → A → ByType A
 with_type values Auth value = record values { auth = value }
 with_type values Account value = record values { account = value }

@@ -18,7 +18,7 @@ stacks_of stack = record {
   session = stack Session;
 }
 
--- with this stack of a type
+-- the stacks with this one for a type
 abbrev pub with_stack : Stacks → RuleType → Stack → Stacks
 with_stack stacks Auth stack = record stacks { auth = stack }
 with_stack stacks Account stack = record stacks { account = stack }

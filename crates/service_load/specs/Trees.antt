@@ -17,6 +17,6 @@ nodes_in trees type = at_type trees type
 abbrev pub stacks_of_trees : Trees → Stacks
 stacks_of_trees trees = stacks_of (λ type. stack_of (nodes_in trees type).vec.items)
 
--- with these nodes of a type
+-- the trees with these nodes for a type
 abbrev pub with_nodes : Trees → RuleType → Nodes → Trees
 with_nodes trees type nodes = with_type trees type nodes

@@ -53,8 +53,8 @@ pub fn load(
     load_with(alloc, vault, root, service, &mut kept)
 }
 
-/// As `load`, but what an earlier load kept isn't parsed again, and what this one reads is kept for
-/// the next: at most 64 texts of 65,536 bytes in all, else none.
+/// Like `load`, but a text that an earlier load kept isn't parsed again, and what this one reads is
+/// kept for the next: at most 64 texts of 65,536 bytes in all, else none.
 pub fn load_with(
     alloc: Global,
     vault: &mut dyn Vault,

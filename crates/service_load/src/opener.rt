@@ -12,11 +12,11 @@ use std::alloc::Global;
 /// Why a file is opened.
 #[derive(Clone, Copy)]
 pub(crate) enum Opener<'a> {
-    /// It is the service's own.
+    /// The file is the service's own.
     Service,
-    /// It is that of `other`, and the service exists.
+    /// The file is that of `other`, and the service exists.
     Other,
-    /// It is that of `other`, and the service, whose file has this name, doesn't exist.
+    /// The file is that of `other`, and the service, whose file has this name, doesn't exist.
     Last(&'a [u8]),
     /// The rule in a line of the file with this name includes it.
     Rule(&'a [u8], u32),

@@ -57,12 +57,13 @@ impl RuleFile {
 pub struct ServiceFiles {
     /// The service's own.
     pub own: RuleFile,
-    /// That of the service `other`, for the types of which the service's own has no nodes.
+    /// The file of the service `other`, for the types for which the service's own file has no
+    /// nodes.
     pub other: RuleFile,
 }
 
 impl ServiceFiles {
-    /// Those of a service: in `/etc/pam.d` if that is a directory, else `/etc/pam.conf`.
+    /// The files of a service: in `/etc/pam.d` if that is a directory, else `/etc/pam.conf`.
     /// `NoMemory` is returned if an allocation fails.
     pub fn of(alloc: Global, is_folder: bool, service: &[u8]) -> Result<ServiceFiles, NoMemory>
         ensures own { IfOk result (λ files. files.own ≡ service_file is_folder service.now) }

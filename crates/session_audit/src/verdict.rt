@@ -17,7 +17,7 @@ use std::alloc::Global;
 #[derive(Clone, Copy, Debug, PartialEq, Eq)]
 pub enum Verdict {
     Fits,
-    /// It doesn't: this is the first line, from 1, that differs.
+    /// The report doesn't fit: this is the first line, from 1, that differs.
     Differs { line: u32 },
 }
 

@@ -69,7 +69,7 @@ contents_of seed lines k =
 abbrev pub service_contents : ℕ → List RuleContent
 service_contents count = map substack_content (filter is_odd (range_with_len 1 count))
 
--- as rules of the type auth, one in each line from this one on
+-- these lines as rules of the type auth, one in each line of a file from this one on
 abbrev pub entries_from : ℕ → List RuleContent → List ConfigEntry
 entries_from line [] = []
 entries_from line (c ∷ cs) =

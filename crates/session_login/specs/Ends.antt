@@ -16,7 +16,7 @@ IsEndWith code number status = (number ≡ 1) × (status ≡ number_of code)
 abbrev pub IsDenial : Code → Type 0
 IsDenial code = code ≡ Success → ⊥
 
--- one by the login itself: with SUCCESS, or with a code that denies it
+-- an end that the login itself makes: with SUCCESS, or with a code that denies it
 abbrev pub IsOwnEnd : ℕ → ℕ → Type 0
 IsOwnEnd number status = IsEndWith Success number status
     ⊎ ((code : Code) × IsDenial code × IsEndWith code number status)

@@ -18,8 +18,8 @@ use Rattle.session_program.specs.ByCommand.{Around, IfAllTold, Setup}
 use Rattle.session_program.specs.CleanedUp.{IsCleanedUp}
 use Rattle.session_program.specs.Run.{IsNotBegun, opening}
 
--- it was begun: what holds for it, and the world after it; before it no data were set and nothing
--- was ended
+-- the run was begun: what holds for it, and the world after it; before it no data were set and
+-- nothing was ended
 pub record IsBegunSo {Kind : Type 0} (runs_so : RunTold Kind) (setting : Setting)
     (result : Result (Ending Kind) Stop) (start : RunState) (world : PlainWorld)
     (x y : SourceState) (p q : SinkState) : Type 0 where
@@ -29,7 +29,7 @@ pub record IsBegunSo {Kind : Type 0} (runs_so : RunTold Kind) (setting : Setting
   pub none_yet : StandFor (notes_of setting.players) handle_limit start.world.process.ledger
       (lists_of start.slots) []
 
--- or an allocation for the root or the slots failed, and nothing happened
+-- the run was begun, or an allocation for the root or the slots failed, and nothing happened
 abbrev pub RunsOrNot : {Kind : Type 0} → RunTold Kind → Setting → Result (Ending Kind) Stop
     → RunState → PlainWorld → PlainWorld → SourceState → SourceState → SinkState → SinkState → Type
     0

@@ -22,7 +22,7 @@ IsEndStep step number status = step ≡ record { number = number; call = End sta
 abbrev pub AsksEnd : List ℕ → ℕ → ℕ → Type 0
 AsksEnd line number status = parsed line ≡ Ok (Step (record { number = number; call = End status }))
 
--- one of the lines of a text does
+-- one of the lines of a text asks for it
 pub record HasEnd (text : List ℕ) (number status : ℕ) : Type 0 where
   pub line : List ℕ
   pub before : List (List ℕ)

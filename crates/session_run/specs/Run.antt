@@ -93,7 +93,7 @@ pub record StopsSo (players : List Player) (stop : Stop) (s t : RunState) : Type
 module _ {Kind : Type 0} (looked : Looks) (asked : Asking Kind) (wrapped : List ℕ → List ℕ)
     (last_text : Ending Kind → ℕ → Option (List ℕ)) (step : Setting → ItemStep RunState Kind)
     (fails : Setting → RunState → List ℕ → RunState → Type 0) (setting : Setting) where
-  -- it ends
+  -- the run ends
   pub record RunsOut (ending : Ending Kind) (start end : RunState) (x y : SourceState)
       (p q : SinkState) : Type 0 where
     pub items : ℕ
@@ -104,7 +104,7 @@ module _ {Kind : Type 0} (looked : Looks) (asked : Asking Kind) (wrapped : List 
     pub few : length last.slots ≤ 16
     pub ends : EndsWith wrapped last_text setting.players ending items (Ok tt) last end between q
 
-  -- it stops among its items
+  -- the run stops among its items
   pub record StopsEarly (stop : Stop) (start end : RunState) (x y : SourceState)
       (p q : SinkState) : Type 0 where
     pub items : ℕ
@@ -113,7 +113,7 @@ module _ {Kind : Type 0} (looked : Looks) (asked : Asking Kind) (wrapped : List 
     pub takes : TakesBytes [] x y
     pub stops : StopsSo setting.players stop last end
 
-  -- it stops after them
+  -- the run stops after its items
   pub record StopsLate (stop : Stop) (start end : RunState) (x y : SourceState)
       (p q : SinkState) : Type 0 where
     pub ending : Ending Kind

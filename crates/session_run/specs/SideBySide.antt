@@ -64,7 +64,7 @@ module _ (setting : Setting) where
         (steps_of s bytes ended) ≡ outcomes_alone setting.players setting.delay number slot
         (own_steps number (steps_of s bytes ended))
 
--- so it is for each number, and the report is that of all steps, in order
+-- this holds for each number, and the report is that of all steps, in order
 pub record NumbersStandApart : Type 0 where
   pub alone : (setting : Setting) (start : RunState) (bytes : List ℕ) (ended : Bool) (number : ℕ)
       (slot : PlainSlot) → slot_at start.slots number ≡ Some slot

@@ -86,7 +86,7 @@ module _ (setting : Setting) where
     pub closed : end ≡ all_closed setting.players (stop_status stop) last
     pub stands : StandsCut setting (stop_status stop) lines start end input text
 
-  -- it stops after them
+  -- the run stops after its lines
   pub record StopsBehindLines (stop : Stop) (start end : RunState)
       (input taken left text : List ℕ) : Type 0 where
     pub ending : Ending

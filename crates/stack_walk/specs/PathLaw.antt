@@ -17,7 +17,7 @@ KeepsComplete State =
     let w = pass_after kinds.Keep before answering stack past s in
     w.stopped ≡ false → Complete stack (kept_in w.state.visits)
 
--- and lead to the lines that were run, in order
+-- these codes lead to the lines that were run, in order
 abbrev pub KeepsRoute : Type 0 → Type 0
 KeepsRoute State = (before : KeptAnswers) (answering : Answering State) (stack : Stack)
     (past : List Code) (s : State) →

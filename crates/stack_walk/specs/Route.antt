@@ -46,7 +46,7 @@ pub record Met : Type 0 where
 abbrev pub met : Bool → Met
 met negative = record { places = []; negative = negative; lacks = false }
 
--- with lines that were met before
+-- what is met, with lines that were met before
 abbrev pub behind : List ℕ → Met → Met
 behind places m = record { places = places ++ m.places; negative = m.negative; lacks = m.lacks }
 

@@ -71,7 +71,8 @@ pub record IsAudit (finding : Finding) (a : Audit) : Type 0 where
   pub found : finding.audited ≡ a.found
   pub text : finding.text ≡ a.text
 
--- they are those of the audit of this transcript, or of one that couldn't be read
+-- what was found, and its text, are those of the audit of this transcript, or of one that couldn't
+-- be read
 abbrev pub IsAuditOf : Finding → (Option (List ℕ) → Audit) → List ℕ → Type 0
 IsAuditOf finding audit transcript = IsAudit finding (audit (Some transcript))
     ⊎ IsAudit finding (audit None)

@@ -20,7 +20,7 @@ use std::alloc::Global;
 pub enum Audited {
     /// The transcript fits the service.
     Fits,
-    /// It doesn't.
+    /// The transcript doesn't fit.
     Differs,
     /// The service's configuration is refused.
     Refused,
