@@ -14,6 +14,7 @@ pub mod Ending
 pub mod Forgetting
 pub mod Recording
 pub mod Quiet
+pub mod Timing
 pub mod Twins
 pub mod Alongside
 pub mod Twofold

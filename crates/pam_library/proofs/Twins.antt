@@ -1,6 +1,6 @@
 -- A transaction and the world, in two runs that are alike for its number: how a call changes them
 -- while it runs.
-use Rattle.std.proofs.Common.{◌≡◌, ℕ, zero, suc, false, nat_eq, List, [], ◌∷◌, ◌++◌, length, Option, Some, None, slice_get, refl, sym, ap, ◌∙◌, subst, append_assoc}
+use Rattle.std.proofs.Common.{◌≡◌, ℕ, false, nat_eq, List, [], ◌∷◌, ◌++◌, length, Option, Some, None, slice_get, refl, sym, ap, ◌∙◌, subst, append_assoc}
 use Rattle.std.proofs.Math.Path.{fun_ext}
 use Rattle.std.proofs.lemmas.List.{append-nil}
 use Rattle.std.specs.List.{AllByRecursion}
@@ -14,7 +14,7 @@ use Rattle.data_cleanup.specs.declared.receipt.Filed.{Filed}
 use Rattle.pam_handle.specs.dispatch_core.specs.Lines.{answers_by, call_of, names_of}
 use Rattle.pam_handle.specs.handler_chain.specs.FlatLines.{module_of}
 use Rattle.pam_outside.specs.Files.{VaultState}
-use Rattle.pam_outside.specs.Time.{ClockState, after_draws, drawn, time_of}
+use Rattle.pam_outside.specs.Time.{ClockState, time_of}
 use Rattle.pam_handle.specs.pam_room.specs.Call.{PlainCall}
 use Rattle.pam_handle.specs.pam_room.specs.Module.{Played, Player, Plays, after_calls, births_of, failing_of, named_data, notes_of, played_in, seen_of, with_played}
 use Rattle.pam_handle.specs.pam_room.specs.Serve.{Answered, answer_or_incomplete, at_work, played_by, serve_line, served, served_by, swept, visited}
@@ -23,11 +23,7 @@ use Rattle.pam_library.specs.Alike.{AreRecorded, Cleaned, IsOfBirth, IsRecorded,
 use Rattle.pam_library.proofs.Forgetting.{births_added, named_without_ids, none_of_another, set_without_ids, unnumbered}
 use Rattle.pam_library.proofs.Quiet.{quiet_after, quiet_with_files}
 use Rattle.pam_library.proofs.Recording.{IsOwnFiled, cleanings, cleanings_without_ids, filed_of_births, filed_own, no_cleanings_of_another, receipts_filed, receipts_stay, set_recorded, still_of_births, still_own}
-
--- reading random words leaves the time
-draws_pass : (n : ℕ) (s : ClockState) → time_of (after_draws n s) ≡ time_of s
-draws_pass zero s = refl
-draws_pass (suc n) s = draws_pass n (drawn s)
+use Rattle.pam_library.proofs.Timing.{draws_pass}
 
 -- n is the number for which the two runs are compared, `number` that of the call
 module _ (n number : ℕ) where

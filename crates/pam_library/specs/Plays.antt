@@ -17,6 +17,7 @@ use Rattle.pam_handle.specs.service_load.specs.Stacks.{Stacks}
 use Rattle.pam_handle.specs.stack_walk.specs.Pass.{Answered}
 use Rattle.pam_handle.specs.dispatch_core.specs.Lines.{answers_by, call_of, names_of}
 use Rattle.pam_outside.specs.Files.{File}
+use Rattle.pam_outside.specs.Time.{Time}
 use Rattle.pam_handle.specs.pam_room.specs.Call.{PlainCall}
 use Rattle.pam_handle.specs.pam_room.specs.Module.{NamedData, Played, Player, SeenRoom, Sight, named_data, seen_of, sight_of}
 use Rattle.pam_handle.specs.pam_room.specs.Serve.{answer_or_incomplete, at_work}
@@ -170,6 +171,12 @@ StepAsks players number_of slots w step asked =
     let t = stepped players number_of slots w step in
     RunsBy players w (slot_at slots step.number) (stack_call_of step.call) t.outcome.trail asked
     t.world.vault.files
+
+-- ---- time
+
+-- The modules of all these lines see this time.
+abbrev pub AreAskedAt : Time → List AskedLine → Type 0
+AreAskedAt time asked = AllByRecursion (λ (l : AskedLine). l.asked.sight.clock ≡ time) asked
 
 -- ---- files
 

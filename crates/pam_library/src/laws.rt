@@ -3,8 +3,9 @@ ghost use Rattle.pam_base.specs.declared.code.Code.{Code};
 ghost use Rattle.pam_base.specs.declared.call.AppCall.{AppCall};
 ghost use Rattle.pam_base.specs.declared.call.Step.{Step};
 ghost use Rattle.pam_outside.specs.Files.{File, VaultState};
+ghost use Rattle.pam_outside.specs.Time.{time_of};
 ghost use Rattle.pam_handle.specs.pam_room.specs.State.{PlainWorld};
-ghost use Rattle.pam_library.specs.Plays.{AskedLine, LinesLead, StepAsks, visits_of};
+ghost use Rattle.pam_library.specs.Plays.{AreAskedAt, AskedLine, LinesLead, StepAsks, visits_of};
 ghost use Rattle.pam_library.specs.Step.{stepped};
 ghost use Rattle.conv_port.specs.Conv.{ConvState};
 ghost use Rattle.data_cleanup.specs.Ledger.{AreNumbered, IsSound as LedgerIsSound, PlainLedger};
@@ -124,9 +125,10 @@ pub fn calls_keep_to_themselves()
 
 /// For each step, what the modules of the lines that it runs get (`asks`): each line belongs to the
 /// stack of the step's function, and its module gets the arguments of its rule, and the room and
-/// the world as the line before left them. These are the lines that are recorded (`visits`). Their
-/// modules' definitions change files, one after another, and nothing else does (`step`). Two lists
-/// of lines, one run after the other, are one list of lines (`together`).
+/// the world as the line before left them. These are the lines that are recorded (`visits`). All
+/// modules see the time at which the step began (`moments`). Their definitions change files, one
+/// after another, and nothing else does (`step`). Two lists of lines, one run after the other, are
+/// one list of lines (`together`).
 pub fn steps_change_files_by_plays()
     ensures asks { (players : List Player) (number_of : Code → ℕ → ℕ) (slots : List PlainSlot)
         (w : PlainWorld) (step : Step) →
@@ -135,6 +137,9 @@ pub fn steps_change_files_by_plays()
         (w : PlainWorld) (step : Step) (asked : List AskedLine) →
         StepAsks players number_of slots w step asked →
         visits_of asked ≡ (stepped players number_of slots w step).outcome.trail }
+    ensures moments { (players : List Player) (number_of : Code → ℕ → ℕ) (slots : List PlainSlot)
+        (w : PlainWorld) (step : Step) (asked : List AskedLine) →
+        StepAsks players number_of slots w step asked → AreAskedAt (time_of w.clock) asked }
     ensures step { (players : List Player) (number_of : Code → ℕ → ℕ) (slots : List PlainSlot)
         (w : PlainWorld) (step : Step) (asked : List AskedLine) →
         StepAsks players number_of slots w step asked →

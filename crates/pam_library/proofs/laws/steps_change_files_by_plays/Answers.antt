@@ -1,4 +1,5 @@
 use Rattle.pam_library.proofs.Filing.{step_asks, step_leads, step_visits, together}
+use Rattle.pam_library.proofs.Timing.{step_at}
 use Rattle.pam_library.proofs.laws.steps_change_files_by_plays.Goals as goal
 
 pub returns-clause-asks : goal.returns-clause-asks
@@ -6,6 +7,9 @@ returns-clause-asks c = step_asks
 
 pub returns-clause-visits : goal.returns-clause-visits
 returns-clause-visits c = step_visits
+
+pub returns-clause-moments : goal.returns-clause-moments
+returns-clause-moments c = step_at
 
 pub returns-clause-step : goal.returns-clause-step
 returns-clause-step c = step_leads
