@@ -5,9 +5,10 @@ use Rattle.pam_base.specs.declared.call.Step.{Step}
 use Rattle.pam_base.specs.declared.fault.ScriptKind.{ScriptKind}
 use Rattle.pam_base.specs.declared.fault.ScriptKind.TheVariants.{LineTooLong, TooManyLines}
 use Rattle.pam_outside.specs.Files.{File}
+use Rattle.pam_outside.specs.Time.{time_of}
 use Rattle.session_report.specs.pam_room.specs.Module.{Player}
 use Rattle.session_report.specs.pam_room.specs.State.{PlainWorld}
-use Rattle.session_report.specs.pam_library.specs.Plays.{AskedLine, LinesLead, StepAsks}
+use Rattle.session_report.specs.pam_library.specs.Plays.{AreAskedAt, AskedLine, LinesLead, StepAsks}
 use Rattle.session_report.specs.pam_library.specs.SideBySide.{Met}
 use Rattle.session_report.specs.pam_library.specs.Slots.{PlainSlot, closed, opened}
 use Rattle.session_report.specs.pam_library.specs.Step.{stepped}
@@ -28,11 +29,15 @@ use Rattle.session_run.specs.Visits.{StepsAsk}
 abbrev AllStepsAsk : Type 0
 AllStepsAsk = (players : List Player) (number_of : Code → ℕ → ℕ) (slots : List PlainSlot) (w : PlainWorld) (step : Step) → (asked : List AskedLine) × StepAsks players number_of slots w step asked
 
+abbrev AllStepsAskAtOnce : Type 0
+AllStepsAskAtOnce = (players : List Player) (number_of : Code → ℕ → ℕ) (slots : List PlainSlot) (w : PlainWorld) (step : Step) (asked : List AskedLine)
+    → StepAsks players number_of slots w step asked → AreAskedAt (time_of w.clock) asked
+
 abbrev AllStepsLead : Type 0
 AllStepsLead = (players : List Player) (number_of : Code → ℕ → ℕ) (slots : List PlainSlot) (w : PlainWorld) (step : Step) (asked : List AskedLine)
     → StepAsks players number_of slots w step asked → LinesLead players w.vault.files asked (stepped players number_of slots w step).world.vault.files
 
-module _ (setting : Setting) (asks : AllStepsAsk) (step_leads : AllStepsLead)
+module _ (setting : Setting) (asks : AllStepsAsk) (at_once : AllStepsAskAtOnce) (step_leads : AllStepsLead)
     (together : (players : List Player) (first middle last : List File) (some others : List AskedLine) → LinesLead players first some middle → LinesLead players middle others last → LinesLead players first (some ++ others) last) where
   -- some steps lead from a state to these files
   abbrev pub Leads : RunState → List Met → List File → Type 0
@@ -48,7 +53,8 @@ module _ (setting : Setting) (asks : AllStepsAsk) (step_leads : AllStepsLead)
   parsed_leads s (Ok (lines.Step step)) = λ met last more.
       let a = asks setting.players setting.delay s.slots s.world step in
       let leads = step_leads setting.players setting.delay s.slots s.world step a.0 a.1 in
-      (a.0 ++ more.0, (a.0, more.0, refl, a.1, more.1), together setting.players _ _ last a.0 more.0 leads more.2)
+      let moments = at_once setting.players setting.delay s.slots s.world step a.0 a.1 in
+      (a.0 ++ more.0, (a.0, more.0, refl, a.1, moments, more.1), together setting.players _ _ last a.0 more.0 leads more.2)
   parsed_leads s (Ok (lines.At moment)) = λ met last more. more
   parsed_leads s (Ok (lines.Random word)) = λ met last more. more
   parsed_leads s (Ok (lines.Caller caller)) = λ met last more. more

@@ -1,10 +1,11 @@
 -- What the modules of the stack lines that a script runs get (this project's own).
 use Rattle.std.specs.Prelude.{◌≡◌, ℕ, List, [], ◌∷◌, ◌++◌}
-use Rattle.session_report.specs.pam_library.specs.Plays.{AskedLine, LinesLead, StepAsks}
+use Rattle.session_report.specs.pam_library.specs.Plays.{AreAskedAt, AskedLine, LinesLead, StepAsks}
 use Rattle.session_report.specs.pam_library.specs.SideBySide.{Met}
 use Rattle.session_report.specs.pam_library.specs.Slots.{PlainSlot}
 use Rattle.session_report.specs.pam_library.specs.Step.{stepped}
 use Rattle.pam_base.specs.declared.code.Code.{Code}
+use Rattle.pam_outside.specs.Time.{time_of}
 use Rattle.session_report.specs.pam_room.specs.Module.{Player}
 use Rattle.script_stream.specs.Run.{run_lines}
 use Rattle.session_run.specs.Closings.{all_closed}
@@ -13,12 +14,14 @@ use Rattle.session_run.specs.State.{RunState, Setting}
 use Rattle.session_run.specs.Step.{line_step}
 
 module _ (setting : Setting) where
-  -- What the modules of the stack lines that some steps run get, step by step.
+  -- What the modules of the stack lines that some steps run get, step by step, each at the time of
+  -- its step.
   abbrev pub StepsAsk : List PlainSlot → List Met → List AskedLine → Type 0
   StepsAsk slots [] asked = asked ≡ []
   StepsAsk slots (m ∷ steps) asked =
       (first : List AskedLine) × (others : List AskedLine) × (asked ≡ first ++ others)
       × StepAsks setting.players setting.delay slots m.world m.step first
+      × AreAskedAt (time_of m.world.clock) first
       × StepsAsk (stepped setting.players setting.delay slots m.world m.step).slots steps others
 
   -- The same for the lines of a script, which follow n lines, up to the first one that is refused.

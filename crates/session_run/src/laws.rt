@@ -39,9 +39,9 @@ pub fn refusals_are_of_the_bytes()
     ensures { RefusesByBytes }
 {}
 
-/// For each step, what the modules of the stack lines that a script runs get (`ScriptAsks`). Their
-/// definitions change files, one after another, and nothing else does. The implicit pam_end calls
-/// after it change no file.
+/// For each step, what the modules of the stack lines that a script runs get (`ScriptAsks`), each at
+/// the time of its step. Their definitions change files, one after another, and nothing else does.
+/// The implicit pam_end calls after it change no file.
 pub fn runs_change_files_by_plays()
     ensures { FilesChangeByPlays }
 {
