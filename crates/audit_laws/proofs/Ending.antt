@@ -25,8 +25,7 @@ use Rattle.session_audit.specs.Sound.{ArePrintable, AreSound}
 use Rattle.pam_handle.specs.StackCalls.{held_in}
 use Rattle.audit_laws.specs.Report.{closing_reported}
 use Rattle.audit_laws.specs.Step.{place_of, places_of, HaveStacks}
-use Rattle.audit_laws.specs.Loaded.{LoadedArePrintable}
-use Rattle.audit_laws.specs.Run.{run_blocks, lines_looked, closing_blocks, last_of, RunsFit, ScriptsFit}
+use Rattle.audit_laws.specs.Run.{run_blocks, lines_looked, closing_blocks, last_of, RunsFitIf, ScriptsFitIf}
 use Rattle.audit_laws.proofs.Printing.{closings_print}
 use Rattle.audit_laws.proofs.Stepping.{place_at-of, with_place-of, filed_visits}
 use Rattle.std.specs.Fmt.{decimal}
@@ -136,9 +135,9 @@ comes setting Done n start last input taken left body reports = record { refused
 comes setting ReadFault n start last input taken left body reports = record { refused = _; is = reports }
 comes setting (Refused kind) n start last input taken left body reports = record { refused = _; is = reports.0 }
 
-pub runs_fit : LoadedArePrintable → RunsFit
-runs_fit prints setting stacks ending start end input taken left text e loaded shuts finds =
-    let printable : ArePrintable stacks = prints stacks loaded in
+pub runs_fit : (AreSuch : Stacks → Type 0) (prints : (stacks : Stacks) → AreSuch stacks → ArePrintable stacks) → RunsFitIf AreSuch
+runs_fit AreSuch prints setting stacks ending start end input taken left text e such shuts finds =
+    let printable : ArePrintable stacks = prints stacks such in
     let by : ByRemainders = by_remainders in
     let ls : List (List ℕ) = lines_looked setting ending input taken in
     let c : Comes setting ls start e.last e.lines e.body = comes setting ending e.lines start e.last input taken left e.body e.comes in
@@ -168,6 +167,6 @@ runs_fit prints setting stacks ending start end input taken left text e loaded s
       fits = whole;
     }
 
-pub scripts_fit : LoadedArePrintable → ScriptsFit
-scripts_fit prints setting stacks ending start end x y p q r loaded shuts finds =
-    (r.sink, runs_fit prints setting stacks ending start end x.left r.taken y.left r.text r.outcome loaded shuts finds)
+pub scripts_fit : (AreSuch : Stacks → Type 0) (prints : (stacks : Stacks) → AreSuch stacks → ArePrintable stacks) → ScriptsFitIf AreSuch
+scripts_fit AreSuch prints setting stacks ending start end x y p q r such shuts finds =
+    (r.sink, runs_fit AreSuch prints setting stacks ending start end x.left r.taken y.left r.text r.outcome such shuts finds)

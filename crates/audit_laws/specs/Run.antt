@@ -28,7 +28,6 @@ use Rattle.session_run.specs.Closings.{world_behind}
 use Rattle.session_run.specs.Whole.{EndsAs, RunsScript, ending_status}
 use Rattle.report_lines.specs.Line.{long_of, Block, Last, unread, refused_at}
 use Rattle.session_audit.specs.Fits.{Fits, all_shut}
-use Rattle.audit_laws.specs.Loaded.{AreLoaded}
 use Rattle.audit_laws.specs.Report.{reported, closing_reported}
 use Rattle.audit_laws.specs.Step.{HaveStacks, places_of}
 
@@ -102,20 +101,20 @@ blocks_of_run setting ending start last input taken =
     run_blocks setting 0 start (lines_looked setting ending input taken) ++ closing_blocks setting.players (ending_status ending) [] last.slots last.world
 
 -- A run that ended, from sixteen closed transactions, each of whose successful starts finds these
--- stacks, which a service has in files of bytes: its report fits them.
-abbrev pub RunsFit : Type 0
-RunsFit = (setting : Setting) (stacks : Stacks) (ending : Ending) (start end : RunState) (input taken left text : List ℕ) →
+-- stacks, which are such: its report fits them.
+abbrev pub RunsFitIf : (Stacks → Type 0) → Type 0
+RunsFitIf AreSuch = (setting : Setting) (stacks : Stacks) (ending : Ending) (start end : RunState) (input taken left text : List ℕ) →
     (e : EndsAs setting ending start end input taken left text) →
-    AreLoaded stacks →
+    AreSuch stacks →
     places_of start.slots ≡ all_shut →
     StartsFind setting stacks 0 start (lines_looked setting ending input taken) →
     Fits stacks text
 
 -- The same for what a run writes to a modelled sink, however it ended.
-abbrev pub ScriptsFit : Type 0
-ScriptsFit = (setting : Setting) (stacks : Stacks) (ending : Ending) (start end : RunState) (x y : SourceState) (p q : SinkState) →
+abbrev pub ScriptsFitIf : (Stacks → Type 0) → Type 0
+ScriptsFitIf AreSuch = (setting : Setting) (stacks : Stacks) (ending : Ending) (start end : RunState) (x y : SourceState) (p q : SinkState) →
     (r : RunsScript setting (Ok ending) start end x y p q) →
-    AreLoaded stacks →
+    AreSuch stacks →
     places_of start.slots ≡ all_shut →
     StartsFind setting stacks 0 start (lines_looked setting ending x.left r.taken) →
     (q.written ≡ p.written ++ r.text) × Fits stacks r.text
