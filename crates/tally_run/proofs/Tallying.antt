@@ -104,5 +104,6 @@ module _ (path : List ℕ) (players : List Player) (alone : FaillockAloneWrites 
         lines_are = l.lines_are;
         each = l.each;
         follow = l.follow;
+        stands_by_deeds = λ interval failures one stood. all path interval (calls_in l.lines) _ _ failures l.follow one stood;
         stands = λ interval failures can stood. all path interval (calls_in l.lines) _ _ failures l.follow (l.with_one interval can) stood;
       }

@@ -7,7 +7,7 @@ use Rattle.pam_room.specs.Module.{NamedData, Player, Plays, SeenRoom, Sight}
 use Rattle.pam_library.specs.Plays.{Asked, AskedLine, answer_of, module_of_path}
 use Rattle.mod_tally.specs.declared.tally.Failure.{Failure}
 use Rattle.mod_tally.specs.Faillock.{faillock_plays}
-use Rattle.mod_tally.specs.Recorded.{Follow, Served, deeds_of, played, standing_in, stands_by}
+use Rattle.mod_tally.specs.Recorded.{Follow, IsWith, Served, deeds_of, played, standing_in, stands_by}
 use Rattle.mod_tally.specs.Settings.{settings_of}
 
 -- no call of the module changes the file with this path
@@ -79,15 +79,22 @@ CanRecordIf interval players a = (p : Player) → module_of_path players a.visit
     → p.plays ≡ faillock_plays → CanRecord interval a.asked
 
 -- These lines lead the file from its state in some files to that in others: each line run is one of pam_faillock, and
--- its call finds the file as the one before left it, or its module leaves the file. If the lines of
--- pam_faillock have one `fail_interval`, the file is as at the start if nothing was written, and
--- otherwise has the failures that count among those recorded since they were last cleared.
+-- its call finds the file as the one before left it, or its module leaves the file. If the failures
+-- that these calls record have one `fail_interval` and can be written (`stands_by_deeds`), as they do
+-- if each line of pam_faillock has it and can record (`stands`), the file is as at the start if
+-- nothing was written, and otherwise has the failures that count among those recorded since they were
+-- last cleared.
 pub record Tallies (path : List ℕ) (players : List Player) (before : List File)
     (asked : List AskedLine) (after : List File) : Type 0 where
   pub lines : List TalliedLine
   pub lines_are : map line_in lines ≡ asked
   pub each : AllByRecursion (IsTallied path players) lines
   pub follow : Follow path (file_at path before) (calls_in lines) (file_at path after)
+  pub stands_by_deeds : (interval : ℕ) (failures : List Failure)
+      → AllByRecursion (IsWith interval) (deeds_of (calls_in lines))
+      → standing_in (file_at path before) ≡ Some failures
+      → standing_in (file_at path after)
+      ≡ Some (stands_by interval (deeds_of (calls_in lines)) failures)
   pub stands : (interval : ℕ) (failures : List Failure)
       → AllByRecursion (CanRecordIf interval players) asked
       → standing_in (file_at path before) ≡ Some failures
