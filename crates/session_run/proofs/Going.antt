@@ -16,6 +16,7 @@ module _ (Is : ℕ → ℕ → Type 0) where
     tells = refl;
     world_tells = refl;
     gives = λ number gives. gives;
+    gives_no_other = λ number gives. gives;
     proceeds = nothing_done _ _ _ _ _ _ refl refl;
     sound = sound;
   }
@@ -26,6 +27,7 @@ module _ (Is : ℕ → ℕ → Type 0) where
     tells = y.tells ∙ x.tells;
     world_tells = y.world_tells ∙ x.world_tells;
     gives = λ number gives. y.gives number (x.gives number gives);
+    gives_no_other = λ number gives. x.gives_no_other number (y.gives_no_other number gives);
     proceeds = goes_on _ _ _ _ _ _ _ _ x.proceeds (rw x.players at y.proceeds);
     sound = y.sound;
   }
@@ -37,6 +39,7 @@ went_so Is Are so a b w = record {
   tells = w.tells;
   world_tells = w.world_tells;
   gives = w.gives;
+  gives_no_other = w.gives_no_other;
   proceeds = proceeds_so Is Are so _ _ _ _ _ w.proceeds;
   sound = w.sound;
 }
@@ -47,25 +50,29 @@ still_told Is a b w told = rw (w.tells, w.world_tells) told
 
 -- no call was made
 pub went_quietly : (Is : ℕ → ℕ → Type 0) (a b : Seen) → b.players ≡ a.players → b.tells ≡ a.tells → b.world_tells ≡ a.world_tells → ((number : Code → ℕ → ℕ) → a.gives number → b.gives number)
+    → ((number : Code → ℕ → ℕ) → b.gives number → a.gives number)
     → b.slots ≡ a.slots → b.world.process.ledger ≡ a.world.process.ledger → IsSoundIn a → Went Is a b
-went_quietly Is a b players tells world_tells gives slots ledger sound = record {
+went_quietly Is a b players tells world_tells gives no_other slots ledger sound = record {
   players = players;
   tells = tells;
   world_tells = world_tells;
   gives = gives;
+  gives_no_other = no_other;
   proceeds = nothing_done _ _ _ _ _ _ ledger (ap lists_of slots);
   sound = rw (players, slots, ledger) sound;
 }
 
 -- one call was made
 pub went_once : (Is : ℕ → ℕ → Type 0) (a b : Seen) → b.players ≡ a.players → b.tells ≡ a.tells → b.world_tells ≡ a.world_tells → ((number : Code → ℕ → ℕ) → a.gives number → b.gives number)
+    → ((number : Code → ℕ → ℕ) → b.gives number → a.gives number)
     → (ended : List Event) → Moves (notes_of a.players) 17 ended a.world.process.ledger (lists_of a.slots) b.world.process.ledger (lists_of b.slots) → EndsAre Is ended → IsSoundIn b
     → Went Is a b
-went_once Is a b players tells world_tells gives ended moves are sound = record {
+went_once Is a b players tells world_tells gives no_other ended moves are sound = record {
   players = players;
   tells = tells;
   world_tells = world_tells;
   gives = gives;
+  gives_no_other = no_other;
   proceeds = one_call _ _ _ _ _ _ _ moves are;
   sound = sound;
 }

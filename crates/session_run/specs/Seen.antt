@@ -19,6 +19,7 @@ pub record Went (Is : ℕ → ℕ → Type 0) (old new : Seen) : Type 0 where
   pub tells : new.tells ≡ old.tells
   pub world_tells : new.world_tells ≡ old.world_tells
   pub gives : (number : Code → ℕ → ℕ) → old.gives number → new.gives number
+  pub gives_no_other : (number : Code → ℕ → ℕ) → new.gives number → old.gives number
   pub proceeds : ProceedsFor Is old.players old.world.process.ledger old.slots
       new.world.process.ledger new.slots
   pub sound : IsSoundIn new

@@ -8,17 +8,17 @@ use Rattle.session_run.proofs.Going.{went_on, went_quietly}
 use Rattle.session_generate.proofs.generating.attempt.Goals as goal
 
 pub returns-in_err-set_process-clause-went : goal.returns-in_err-set_process-clause-went
-returns-in_err-set_process-clause-went g c = went_quietly _ _ _ refl refl c.set_process.ensures.tells (λ number gives. gives) refl c.set_process.ensures.ledger c.requires.sound
+returns-in_err-set_process-clause-went g c = went_quietly _ _ _ refl refl c.set_process.ensures.tells (λ number gives. gives) (λ number gives. gives) refl c.set_process.ensures.ledger c.requires.sound
 
 pub returns-in_err-files-clause-went : goal.returns-in_err-files-clause-went
-returns-in_err-files-clause-went g c = went_quietly _ _ _ refl refl c.set_process.ensures.tells (λ number gives. gives) refl c.set_process.ensures.ledger c.requires.sound
+returns-in_err-files-clause-went g c = went_quietly _ _ _ refl refl c.set_process.ensures.tells (λ number gives. gives) (λ number gives. gives) refl c.set_process.ensures.ledger c.requires.sound
 
 pub returns-in-Err-clause-went : goal.returns-in-Err-clause-went
-returns-in-Err-clause-went g c = went_quietly _ _ _ refl refl (c.place_in_world.ensures.tells ∙ c.set_process.ensures.tells) (λ number gives. gives) refl (rw (c.place_in_world.ensures.process, c.set_process.ensures.ledger) refl) c.requires.sound
+returns-in-Err-clause-went g c = went_quietly _ _ _ refl refl (c.place_in_world.ensures.tells ∙ c.set_process.ensures.tells) (λ number gives. gives) (λ number gives. gives) refl (rw (c.place_in_world.ensures.process, c.set_process.ensures.ledger) refl) c.requires.sound
 
 pub returns-clause-went : goal.returns-clause-went
 returns-clause-went g c =
-    went_on _ _ _ _ (went_quietly _ _ _ refl refl (c.place_in_world.ensures.tells ∙ c.set_process.ensures.tells) (λ number gives. gives) refl (rw (c.place_in_world.ensures.process, c.set_process.ensures.ledger) refl) c.requires.sound)
+    went_on _ _ _ _ (went_quietly _ _ _ refl refl (c.place_in_world.ensures.tells ∙ c.set_process.ensures.tells) (λ number gives. gives) (λ number gives. gives) refl (rw (c.place_in_world.ensures.process, c.set_process.ensures.ledger) refl) c.requires.sound)
     c.log_in.ensures.went
 
 pub returns-in_err-set_process-clause-told : goal.returns-in_err-set_process-clause-told

@@ -30,22 +30,22 @@ returns-clause-told g c = λ delay is told sink.
 
 pub returns-in-Err-clause-went : goal.returns-in-Err-clause-went
 returns-in-Err-clause-went g c =
-    went_once _ _ _ (rw c.apply.ensures.gear refl) c.apply.ensures.keeps.tells c.apply.ensures.keeps.world_tells (λ number gives. rw c.apply.ensures.gear gives)
+    went_once _ _ _ (rw c.apply.ensures.gear refl) c.apply.ensures.keeps.tells c.apply.ensures.keeps.world_tells (λ number gives. rw c.apply.ensures.gear gives) (λ number gives. rw c.apply.ensures.gear at gives)
     _ c.apply.ensures.keeps.moves (call_ends _ _ _) c.apply.ensures.keeps.sound
 
 pub returns-in-Err-line_of-clause-went : goal.returns-in-Err-line_of-clause-went
 returns-in-Err-line_of-clause-went g c =
-    went_once _ _ _ (rw c.apply.ensures.gear refl) c.apply.ensures.keeps.tells c.apply.ensures.keeps.world_tells (λ number gives. rw c.apply.ensures.gear gives)
+    went_once _ _ _ (rw c.apply.ensures.gear refl) c.apply.ensures.keeps.tells c.apply.ensures.keeps.world_tells (λ number gives. rw c.apply.ensures.gear gives) (λ number gives. rw c.apply.ensures.gear at gives)
     _ c.apply.ensures.keeps.moves (call_ends _ _ _) c.apply.ensures.keeps.sound
 
 pub returns-in-Ok-write_all-clause-went : goal.returns-in-Ok-write_all-clause-went
 returns-in-Ok-write_all-clause-went g c =
-    went_once _ _ _ (rw c.apply.ensures.gear refl) c.apply.ensures.keeps.tells c.apply.ensures.keeps.world_tells (λ number gives. rw c.apply.ensures.gear gives)
+    went_once _ _ _ (rw c.apply.ensures.gear refl) c.apply.ensures.keeps.tells c.apply.ensures.keeps.world_tells (λ number gives. rw c.apply.ensures.gear gives) (λ number gives. rw c.apply.ensures.gear at gives)
     _ c.apply.ensures.keeps.moves (call_ends _ _ _) c.apply.ensures.keeps.sound
 
 pub returns-clause-went : goal.returns-clause-went
 returns-clause-went g c =
-    went_once _ _ _ (rw c.apply.ensures.gear refl) c.apply.ensures.keeps.tells c.apply.ensures.keeps.world_tells (λ number gives. rw c.apply.ensures.gear gives)
+    went_once _ _ _ (rw c.apply.ensures.gear refl) c.apply.ensures.keeps.tells c.apply.ensures.keeps.world_tells (λ number gives. rw c.apply.ensures.gear gives) (λ number gives. rw c.apply.ensures.gear at gives)
     _ c.apply.ensures.keeps.moves (call_ends _ _ _) c.apply.ensures.keeps.sound
 
 pub returns-in-Err-clause-shows : goal.returns-in-Err-clause-shows

@@ -65,13 +65,13 @@ pub returns-in-Ok-Blank-clause-went : goal.returns-in-Ok-Blank-clause-went
 returns-in-Ok-Blank-clause-went g c = went_nowhere _ _ c.requires
 
 pub returns-in-Ok-At-clause-went : goal.returns-in-Ok-At-clause-went
-returns-in-Ok-At-clause-went g c = went_quietly _ _ _ refl refl c.set_world_moment.ensures.tells (λ number gives. gives) refl (rw c.set_world_moment.ensures.process refl) c.requires
+returns-in-Ok-At-clause-went g c = went_quietly _ _ _ refl refl c.set_world_moment.ensures.tells (λ number gives. gives) (λ number gives. gives) refl (rw c.set_world_moment.ensures.process refl) c.requires
 
 pub returns-in-Ok-Random-clause-went : goal.returns-in-Ok-Random-clause-went
-returns-in-Ok-Random-clause-went g c = went_quietly _ _ _ refl refl c.set_world_word.ensures.tells (λ number gives. gives) refl (rw c.set_world_word.ensures.process refl) c.requires
+returns-in-Ok-Random-clause-went g c = went_quietly _ _ _ refl refl c.set_world_word.ensures.tells (λ number gives. gives) (λ number gives. gives) refl (rw c.set_world_word.ensures.process refl) c.requires
 
 pub returns-in-Ok-Caller-clause-went : goal.returns-in-Ok-Caller-clause-went
-returns-in-Ok-Caller-clause-went g c = went_quietly _ _ _ refl refl c.set_caller.ensures.tells (λ number gives. gives) refl c.set_caller.ensures.ledger c.requires
+returns-in-Ok-Caller-clause-went g c = went_quietly _ _ _ refl refl c.set_caller.ensures.tells (λ number gives. gives) (λ number gives. gives) refl c.set_caller.ensures.ledger c.requires
 
 pub returns-in-Ok-Blank-clause-moves : goal.returns-in-Ok-Blank-clause-moves
 returns-in-Ok-Blank-clause-moves g c = λ none.

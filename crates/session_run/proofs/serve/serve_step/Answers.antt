@@ -38,27 +38,27 @@ step_report-requires-clause-from g c = rw c.in-Ok.ensures.answers.filed_from (re
 
 pub returns-in-Err-clause-went : goal.returns-in-Err-clause-went
 returns-in-Err-clause-went g c =
-    went_once _ _ _ (rw c.apply.ensures.gear refl) c.apply.ensures.keeps.tells c.apply.ensures.keeps.world_tells (λ number gives. rw c.apply.ensures.gear gives)
+    went_once _ _ _ (rw c.apply.ensures.gear refl) c.apply.ensures.keeps.tells c.apply.ensures.keeps.world_tells (λ number gives. rw c.apply.ensures.gear gives) (λ number gives. rw c.apply.ensures.gear at gives)
     _ c.apply.ensures.keeps.moves (call_ends _ _ _) c.apply.ensures.keeps.sound
 
 pub returns-in-Err-step_report-clause-went : goal.returns-in-Err-step_report-clause-went
 returns-in-Err-step_report-clause-went g c =
-    went_once _ _ _ (rw c.apply.ensures.gear refl) c.apply.ensures.keeps.tells c.apply.ensures.keeps.world_tells (λ number gives. rw c.apply.ensures.gear gives)
+    went_once _ _ _ (rw c.apply.ensures.gear refl) c.apply.ensures.keeps.tells c.apply.ensures.keeps.world_tells (λ number gives. rw c.apply.ensures.gear gives) (λ number gives. rw c.apply.ensures.gear at gives)
     _ c.apply.ensures.keeps.moves (call_ends _ _ _) c.apply.ensures.keeps.sound
 
 pub returns-in-Err-wrap-clause-went : goal.returns-in-Err-wrap-clause-went
 returns-in-Err-wrap-clause-went g c =
-    went_once _ _ _ (rw c.apply.ensures.gear refl) c.apply.ensures.keeps.tells c.apply.ensures.keeps.world_tells (λ number gives. rw c.apply.ensures.gear gives)
+    went_once _ _ _ (rw c.apply.ensures.gear refl) c.apply.ensures.keeps.tells c.apply.ensures.keeps.world_tells (λ number gives. rw c.apply.ensures.gear gives) (λ number gives. rw c.apply.ensures.gear at gives)
     _ c.apply.ensures.keeps.moves (call_ends _ _ _) c.apply.ensures.keeps.sound
 
 pub returns-in-Ok-write_all-clause-went : goal.returns-in-Ok-write_all-clause-went
 returns-in-Ok-write_all-clause-went g c =
-    went_once _ _ _ (rw c.apply.ensures.gear refl) c.apply.ensures.keeps.tells c.apply.ensures.keeps.world_tells (λ number gives. rw c.apply.ensures.gear gives)
+    went_once _ _ _ (rw c.apply.ensures.gear refl) c.apply.ensures.keeps.tells c.apply.ensures.keeps.world_tells (λ number gives. rw c.apply.ensures.gear gives) (λ number gives. rw c.apply.ensures.gear at gives)
     _ c.apply.ensures.keeps.moves (call_ends _ _ _) c.apply.ensures.keeps.sound
 
 pub returns-clause-went : goal.returns-clause-went
 returns-clause-went g c =
-    went_once _ _ _ (rw c.apply.ensures.gear refl) c.apply.ensures.keeps.tells c.apply.ensures.keeps.world_tells (λ number gives. rw c.apply.ensures.gear gives)
+    went_once _ _ _ (rw c.apply.ensures.gear refl) c.apply.ensures.keeps.tells c.apply.ensures.keeps.world_tells (λ number gives. rw c.apply.ensures.gear gives) (λ number gives. rw c.apply.ensures.gear at gives)
     _ c.apply.ensures.keeps.moves (call_ends _ _ _) c.apply.ensures.keeps.sound
 
 pub returns-in-Err-clause-moves : goal.returns-in-Err-clause-moves
