@@ -44,9 +44,9 @@ pub(crate) fn take_held(
 }
 
 /// Lets a file stay open; if there are too many, another one is closed. Only a regular file that everybody may read
-/// stays open, so that a program that the process executes later gets no secrets; and none of a
-/// file system that gives all files the inode number 0, since files can't be distinguished there.
-/// If memory runs out, it is closed.
+/// stays open, so that a process that gives up its rights later keeps no secrets within reach; and
+/// none of a file system that gives all files the inode number 0, since files can't be
+/// distinguished there. If memory runs out, it is closed.
 pub(crate) fn put_held(held: &mut Vec<HeldFile>, file: HeldFile) {
     let then = &file.then;
     if !then.is_file() || then.ino() == 0 || then.mode() & EVERYBODY != EVERYBODY {
