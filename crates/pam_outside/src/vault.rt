@@ -18,7 +18,7 @@ pub enum VaultFault {
     Failed,
 }
 
-/// Why a file couldn't be replaced, or a directory not be looked up.
+/// Why a file couldn't be replaced, or a directory couldn't be looked up.
 #[derive(Clone, Copy, Debug, PartialEq, Eq)]
 pub enum ReplaceFault {
     NoMemory,

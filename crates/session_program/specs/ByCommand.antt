@@ -1,4 +1,4 @@
--- What the program says about each command: a record for each, over what its objects hold before
+-- What the program promises for each command: a record for each, about what its objects hold before
 -- and after it (this project's own).
 use Rattle.std.specs.Prelude.{◌≡◌, ◌≢◌, ◌⊎◌, ◌≤◌, ◌<◌, ◌^◌, ◌&&◌, ℕ, Bool, List, [], IsTrue, Option, Some, None}
 use Rattle.pam_base.specs.declared.code.Code.{Code}

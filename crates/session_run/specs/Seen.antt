@@ -1,5 +1,5 @@
--- What every part of a run leaves unchanged of what a library and its world show (this project's
--- own).
+-- What every part of a run leaves unchanged in a library and its world, as contracts see them (this
+-- project's own).
 use Rattle.std.specs.Prelude.{◌≡◌, ℕ}
 use Rattle.pam_base.specs.declared.code.Code.{Code}
 pub use Rattle.session_report.specs.pam_library.specs.Seen.{AllTell, IsSoundIn, NoneIsOpenIn, Seen}
