@@ -1,5 +1,10 @@
+ghost use Rattle.std.specs.Prelude.{◌≡◌};
+ghost use Rattle.pam_room.specs.Plain.{plain_transaction};
+ghost use Rattle.pam_room.specs.State.{new_transaction};
+
 use crate::transaction::Transaction;
 use conv_port::Conv;
+use std::alloc::Global;
 
 /// A transaction and its conversation.
 pub struct Room {
@@ -7,7 +12,21 @@ pub struct Room {
     pub conv: Box<dyn Conv>,
 }
 
-/// Names what a room holds, and what contracts know of its conversation.
+impl Room {
+    /// A new transaction with this number (`Transaction::new`), and its conversation. It does not
+    /// allocate.
+    pub fn new(alloc: Global, handle: u32, conv: Box<dyn Conv>) -> Self
+        ensures transaction { plain_transaction result.transaction ≡ new_transaction handle }
+        ensures conv { result.conv ≡ conv }
+    {
+        Room {
+            transaction: Transaction::new(alloc, handle),
+            conv,
+        }
+    }
+}
+
+/// Names what a room holds and what is modelled of its conversation, for contracts.
 pub trait RoomTold {
     ghost use Rattle.std.specs.Prelude.{Bool};
     ghost use Rattle.pam_room.specs.State.{PlainRoom};
