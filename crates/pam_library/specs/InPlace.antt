@@ -156,6 +156,16 @@ stack_app_call funcs.OpenSession flags = calls.OpenSession flags
 stack_app_call funcs.CloseSession flags = calls.CloseSession flags
 stack_app_call funcs.ChAuthTok flags = calls.ChAuthTok flags
 
+-- whether it is one
+abbrev pub runs_stack : AppCall → Bool
+runs_stack (calls.Authenticate flags) = true
+runs_stack (calls.SetCred flags) = true
+runs_stack (calls.AcctMgmt flags) = true
+runs_stack (calls.OpenSession flags) = true
+runs_stack (calls.CloseSession flags) = true
+runs_stack (calls.ChAuthTok flags) = true
+runs_stack call = false
+
 -- a reply was offered to a conversation, or memory ran out, and then it holds what it held before
 abbrev pub IsOffered : Result Outcome NoMemory → List ℕ → ConvState → ConvState → Type 0
 IsOffered (Ok o) text old new = new ≡ offered text old

@@ -7,11 +7,11 @@ use crate::outcome::{Answer, Outcome};
 use crate::reply::offer_open;
 use crate::session::{Session, StepTold};
 use crate::slot::Slot;
-use crate::stack_call::call_stack;
+use crate::stack_call::{refusal, stack_call_in};
 use crate::values::{get_env, get_item, list_env, put_env, set_item};
 use crate::world::receipts_in;
 use data_cleanup::laws;
-use pam_base::{AppCall, Code, Func, NoMemory};
+use pam_base::{AppCall, Code, NoMemory};
 use pam_handle::pam_room::{Room, RoomTold, World};
 use pam_handle::{Gear, Handle};
 use std::alloc::Global;
@@ -36,25 +36,16 @@ pub(crate) fn call_open(
 {
     laws::nothing_grows();
     let filed = receipts_in(world);
+    if let Some((func, flags)) = stack_call_in(call) {
+        if let Some(refused) = refusal(handle, func, flags) {
+            return Ok(Outcome::only(alloc, filed, refused));
+        }
+        let code = handle.call(alloc, gear, world, func, flags)?;
+        let told = handle.take_told(alloc);
+        return Ok(Outcome::telling(alloc, filed, told, Answer::Code(code)));
+    }
     match call {
         AppCall::Start { .. } => Ok(Outcome::only(alloc, filed, Answer::AlreadyOpen)),
-        AppCall::End { .. } => unreachable!(),
-        AppCall::Authenticate { flags } => {
-            call_stack(alloc, gear, world, handle, Func::Authenticate, *flags)
-        }
-        AppCall::SetCred { flags } => call_stack(alloc, gear, world, handle, Func::SetCred, *flags),
-        AppCall::AcctMgmt { flags } => {
-            call_stack(alloc, gear, world, handle, Func::AcctMgmt, *flags)
-        }
-        AppCall::OpenSession { flags } => {
-            call_stack(alloc, gear, world, handle, Func::OpenSession, *flags)
-        }
-        AppCall::CloseSession { flags } => {
-            call_stack(alloc, gear, world, handle, Func::CloseSession, *flags)
-        }
-        AppCall::ChAuthTok { flags } => {
-            call_stack(alloc, gear, world, handle, Func::ChAuthTok, *flags)
-        }
         AppCall::SetItem { item, value } => set_item(alloc, handle, filed, *item, value),
         AppCall::GetItem { item } => get_item(alloc, handle, filed, *item),
         AppCall::PutEnv { text } => put_env(alloc, handle, filed, text),
@@ -69,5 +60,12 @@ pub(crate) fn call_open(
             Ok(Outcome::code(alloc, filed, Code::Success))
         }
         AppCall::Reply { text } => offer_open(alloc, handle, filed, text),
+        AppCall::End { .. }
+        | AppCall::Authenticate { .. }
+        | AppCall::SetCred { .. }
+        | AppCall::AcctMgmt { .. }
+        | AppCall::OpenSession { .. }
+        | AppCall::CloseSession { .. }
+        | AppCall::ChAuthTok { .. } => unreachable!(),
     }
 }

@@ -2,8 +2,7 @@
 //! with its conversation. A step is one call of an application on one of them; it leaves every
 //! other as it was.
 //!
-//! Begin at `apply.rt`; `step.rt` distinguishes closed slots from open ones, and `calls.rt` and `stack_call.rt` make
-//! the calls.
+//! Begin at `apply.rt`; `step.rt` distinguishes closed slots from open ones, and `calls.rt` makes the calls.
 #![tactic(auto)]
 
 mod apply;

@@ -1,21 +1,32 @@
-ghost use Rattle.std.specs.Prelude.{◌≡◌, OnErr};
+ghost use Rattle.std.specs.Prelude.{◌≡◌, false, IfNone, IfSome};
 ghost use Rattle.pam_handle.specs.Plain.{plain_handle};
 ghost use Rattle.pam_library.specs.AnyWorld.{stack_refusal};
-ghost use Rattle.pam_library.specs.InPlace.{CallsOpen, IsReadyIn, IsToldAll, stack_app_call};
+ghost use Rattle.pam_library.specs.InPlace.{runs_stack, stack_app_call};
 
-use crate::outcome::{Answer, Outcome};
-use crate::session::{Session, StepTold};
-use crate::slot::Slot;
-use crate::world::receipts_in;
-use data_cleanup::laws;
-use pam_base::{Code, Func, NoMemory};
-use pam_handle::pam_room::{Room, RoomTold, World};
-use pam_handle::{Gear, Handle, has_pass_flag};
-use std::alloc::Global;
+use crate::outcome::Answer;
+use pam_base::{AppCall, Code, Func};
+use pam_handle::pam_room::{Room, RoomTold};
+use pam_handle::{Handle, has_pass_flag};
 
-// What a stack call returns before a stack is run: SYSTEM_ERR for the flags of the two passes of a change of token, and
-// then the pending call, if it is another one.
-fn refusal(handle: &Handle, func: Func, flags: u32) -> Option<Answer>
+/// The function and the flags of a call that runs a stack; None for any other call.
+pub(crate) fn stack_call_in(call: &AppCall) -> Option<(Func, u32)>
+    ensures stack { IfSome result (λ asked. call.now ≡ stack_app_call asked.0 asked.1) }
+    ensures other { IfNone result (runs_stack call.now ≡ false) }
+{
+    match call {
+        AppCall::Authenticate { flags } => Some((Func::Authenticate, *flags)),
+        AppCall::SetCred { flags } => Some((Func::SetCred, *flags)),
+        AppCall::AcctMgmt { flags } => Some((Func::AcctMgmt, *flags)),
+        AppCall::OpenSession { flags } => Some((Func::OpenSession, *flags)),
+        AppCall::CloseSession { flags } => Some((Func::CloseSession, *flags)),
+        AppCall::ChAuthTok { flags } => Some((Func::ChAuthTok, *flags)),
+        _ => None,
+    }
+}
+
+/// What a stack call returns before a stack is run: SYSTEM_ERR for the flags of the two passes of a change of token, and
+/// then the pending call, if it is another one.
+pub(crate) fn refusal(handle: &Handle, func: Func, flags: u32) -> Option<Answer>
     ensures { result ≡ stack_refusal (plain_handle ⟦<Room as RoomTold>⟧.plain handle.now).pending
         func flags }
 {
@@ -26,31 +37,4 @@ fn refusal(handle: &Handle, func: Func, flags: u32) -> Option<Answer>
         Some(pending) if pending != func => Some(Answer::Pending(pending)),
         _ => None,
     }
-}
-
-// A stack call on a transaction without anything to report.
-pub(crate) fn call_stack(
-    alloc: Global,
-    gear: &Gear,
-    world: &mut World,
-    handle: &mut Handle,
-    func: Func,
-    flags: u32,
-) -> Result<Outcome, NoMemory>
-    requires told { IsToldAll (plain_handle ⟦<Room as RoomTold>⟧.plain handle.old) }
-    requires ready { let seen = ⟦<Session as StepTold>⟧.seen in
-        IsReadyIn (seen gear.now (Slot.Open handle.old) world.old) }
-    ensures called { let seen = ⟦<Session as StepTold>⟧.seen in
-        CallsOpen (stack_app_call func flags) (seen gear.now (Slot.Open handle.old) world.old)
-        world.old result (seen gear.now (Slot.Open handle.new) world.new) world.new }
-    ensures no_nap { OnErr result (world.new.nap ≡ world.old.nap) }
-{
-    laws::nothing_grows();
-    let filed_from = receipts_in(world);
-    if let Some(refused) = refusal(handle, func, flags) {
-        return Ok(Outcome::only(alloc, filed_from, refused));
-    }
-    let code = handle.call(alloc, gear, world, func, flags)?;
-    let told = handle.take_told(alloc);
-    Ok(Outcome::telling(alloc, filed_from, told, Answer::Code(code)))
 }

@@ -1,13 +1,13 @@
 //! `pamsess`: makes the calls of a script or of a front end in the transactions of a configuration and reports what each
 //! returns, logs a user in, audits a report, or prints a configuration or a tally.
 //!
-//! Begin at `main`: `run` makes the objects that objects.rt names for a command, and `serve` calls
+//! Begin at `main`: `run` makes the modules, and the objects that objects.rt names for a command, and calls
 //! `session_program::pamsess` with them.
 #![tactic(auto)]
 
 mod objects;
 
-ghost use Rattle.std.specs.Prelude.{◌≡◌, [], length};
+ghost use Rattle.std.specs.Prelude.{◌≡◌, []};
 
 use crate::objects::{Files, Replies, Time, objects_of};
 use command_line::{arguments, exit_status};
@@ -20,7 +20,7 @@ use mod_history::mod_unix::Unix;
 use mod_history::{Pwhistory, Securetty, Wheel};
 use mod_lists::{Listfile, Nologin, Shells, SucceedIf};
 use pam_base::{Code, Numbers, Text};
-use pam_outside::{Clock, FixedClock, MemVault, Nap, NapSum, Sink, Source, Vault};
+use pam_outside::{Clock, FixedClock, MemVault, Nap, NapSum, Vault};
 use session_program::mod_tally::Faillock;
 use session_program::{Desk, pamsess};
 use std::alloc::Global;
@@ -41,80 +41,13 @@ fn main(rt: HostRuntime) -> ExitCode {
     ExitCode::from(exit_status(run(rt)))
 }
 
-// Makes the objects that the command gets, a conversation for each transaction and one for the terminal, and calls the
-// program with them, without arguments if one of them isn't UTF-8.
+// Calls the program with the shipped modules, the objects that the command gets, a conversation for each transaction
+// and one for the terminal, and a delay function that waits as long as requested, at most three seconds, and doesn't
+// wait after SUCCESS. It gets no arguments if one of them isn't UTF-8.
 fn run(rt: HostRuntime) -> io::Result<u8> {
     let alloc = rt.alloc();
     let words = arguments(&rt)?.unwrap_or(Vec::new(alloc));
     let objects = objects_of(&words);
-    let clock: Box<dyn Clock> = match objects.time {
-        Time::Real => Box::new(alloc, RealClock::new(rt))?,
-        Time::Fixed => Box::new(alloc, FixedClock::new(0, 0))?,
-    };
-    let nap: Box<dyn Nap> = match objects.time {
-        Time::Real => Box::new(alloc, SleepNap::new(rt))?,
-        Time::Fixed => Box::new(alloc, NapSum::new())?,
-    };
-    let vault: Box<dyn Vault> = match objects.files {
-        Files::InMemory => Box::new(alloc, MemVault::new(alloc, Numbers::new(alloc)))?,
-        Files::OnDisk => Box::new(alloc, FolderVault::new(rt))?,
-    };
-    let mut world = World {
-        vault,
-        clock,
-        nap,
-        process: process_of_nobody(alloc),
-    };
-    let mut script = ReaderSource::new(rt.reader());
-    let mut out = WriterSink::new(io::writer(&rt));
-    let term: Box<dyn Conv> = Box::new(alloc, TermConv::new(rt.stdin(), rt.stderr()))?;
-    let mut convs: Vec<Box<dyn Conv>> = Vec::new(alloc);
-    for _ in 0..TRANSACTIONS {
-        let conv: Box<dyn Conv> = match objects.replies {
-            Replies::Awaited => Box::new(alloc, WireConv::new(alloc))?,
-            Replies::Queued => Box::new(alloc, QueueConv::new(alloc))?,
-        };
-        convs.push(conv)?;
-    }
-    serve(
-        alloc,
-        &words,
-        convs,
-        term,
-        &mut script,
-        &mut out,
-        &mut world,
-    )
-}
-
-// A process of nobody, with an empty cleanup log.
-fn process_of_nobody(alloc: Global) -> Process
-    ensures caller { result.caller ≡ CALLER }
-    ensures no_births { result.ledger.births ≡ [] }
-    ensures no_receipts { result.ledger.filed ≡ [] }
-{
-    Process {
-        ledger: Ledger::new(alloc),
-        root: Text::new(alloc),
-        caller: CALLER,
-    }
-}
-
-// Calls it with the shipped modules, and a delay function that waits as long as requested, at most
-// three seconds, and not at all after SUCCESS.
-fn serve<S: Source, K: Sink>(
-    alloc: Global,
-    words: &[String],
-    convs: Vec<Box<dyn Conv>>,
-    term: Box<dyn Conv>,
-    script: &mut S,
-    out: &mut K,
-    world: &mut World,
-) -> io::Result<u8>
-    requires sixteen { length convs.items ≡ TRANSACTIONS }
-    requires no_births { world.old.process.ledger.births ≡ [] }
-    requires no_receipts { world.old.process.ledger.filed ≡ [] }
-{
     let mut mods: Vec<Box<dyn Module>> = Vec::new(alloc);
     mods.push(Box::new(alloc, Permit::new())?)?;
     mods.push(Box::new(alloc, Deny::new())?)?;
@@ -131,18 +64,61 @@ fn serve<S: Source, K: Sink>(
     mods.push(Box::new(alloc, Wheel::new())?)?;
     mods.push(Box::new(alloc, Securetty::new())?)?;
     mods.push(Box::new(alloc, Pwhistory::new())?)?;
-    let delay = |code: Code, asked: u32| -> u32 {
+    let clock: Box<dyn Clock> = match objects.time {
+        Time::Real => Box::new(alloc, RealClock::new(rt))?,
+        Time::Fixed => Box::new(alloc, FixedClock::new(0, 0))?,
+    };
+    let nap: Box<dyn Nap> = match objects.time {
+        Time::Real => Box::new(alloc, SleepNap::new(rt))?,
+        Time::Fixed => Box::new(alloc, NapSum::new())?,
+    };
+    let vault: Box<dyn Vault> = match objects.files {
+        Files::InMemory => Box::new(alloc, MemVault::new(alloc, Numbers::new(alloc)))?,
+        Files::OnDisk => Box::new(alloc, FolderVault::new(rt))?,
+    };
+    let term: Box<dyn Conv> = Box::new(alloc, TermConv::new(rt.stdin(), rt.stderr()))?;
+    let mut convs: Vec<Box<dyn Conv>> = Vec::new(alloc);
+    for _ in 0..TRANSACTIONS {
+        let conv: Box<dyn Conv> = match objects.replies {
+            Replies::Awaited => Box::new(alloc, WireConv::new(alloc))?,
+            Replies::Queued => Box::new(alloc, QueueConv::new(alloc))?,
+        };
+        convs.push(conv)?;
+    }
+    let wait = |code: Code, asked: u32| -> u32 {
         if code == Code::Success {
             0
         } else {
             asked.min(LONGEST_WAIT)
         }
     };
+    let delay: Box<dyn Fn(Code, u32) -> u32> = Box::new(alloc, wait)?;
+    let mut world = World {
+        vault,
+        clock,
+        nap,
+        process: process_of_nobody(alloc),
+    };
+    let mut script = ReaderSource::new(rt.reader());
+    let mut out = WriterSink::new(io::writer(&rt));
     let desk = Desk {
         mods,
         convs,
         term,
-        delay: Box::new(alloc, delay)?,
+        delay,
     };
-    Ok(pamsess(alloc, words, script, out, world, desk))
+    Ok(pamsess(alloc, &words, &mut script, &mut out, &mut world, desk))
+}
+
+// A process of nobody, with an empty cleanup log.
+fn process_of_nobody(alloc: Global) -> Process
+    ensures caller { result.caller ≡ CALLER }
+    ensures no_births { result.ledger.births ≡ [] }
+    ensures no_receipts { result.ledger.filed ≡ [] }
+{
+    Process {
+        ledger: Ledger::new(alloc),
+        root: Text::new(alloc),
+        caller: CALLER,
+    }
 }

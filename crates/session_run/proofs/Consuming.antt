@@ -18,6 +18,7 @@ use Rattle.script_stream.specs.Run.{Run, step_at}
 use Rattle.session_run.specs.Asked.{Asking}
 use Rattle.session_run.specs.Serve.{Does}
 use Rattle.session_run.specs.State.{RunState, Setting}
+use Rattle.session_run.specs.Report.{WritesReport}
 use Rattle.session_run.specs.Reading.{ReadsAll, ReadsItem, ReadsScript, TakesBytes, WritesScript, WritesSome, line_read, read_as}
 
 -- ---- one item
@@ -88,6 +89,10 @@ all_written t u text p q w = record { text = w.front; written = w.written; calls
 pub front_written : {T : Type 0} (failed : Failed) (text : List ℕ) (p q : SinkState) → WritesWhole {T = Unit {0}} (Err failed) text p q
     → WritesSome {T = T} (Err WriteFault) p q
 front_written failed text p q w = record { text = w.front; written = w.written; calls = w.calls; calls_ok = tt }
+
+pub part_written : {T : Type 0} (stop : Stop) (text : List ℕ) (p q : SinkState) → WritesReport (Err stop) text p q → WritesSome {T = T} (Err stop) p q
+part_written WriteFault text p q w = front_written w.0 text p q w.1
+part_written NoMemory text p q same = rw same (err_unwritten NoMemory p)
 
 pub ok_as : {T U : Type 0} (t : T) (u : U) (p q : SinkState) → WritesSome {T = T} (Ok t) p q → WritesSome {T = U} (Ok u) p q
 ok_as t u p q w = record { text = w.text; written = w.written; calls = w.calls; calls_ok = w.calls_ok }

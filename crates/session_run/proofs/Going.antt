@@ -1,13 +1,19 @@
 -- Parts of a run, one after another.
-use Rattle.std.proofs.Common.{◌≡◌, ℕ, List, refl, ap, ◌∙◌}
+use Rattle.std.proofs.Common.{◌≡◌, ℕ, List, Result, Ok, refl, ap, ◌∙◌}
+use Rattle.pam_base.specs.declared.call.Step.{Step}
 use Rattle.pam_base.specs.declared.code.Code.{Code}
 use Rattle.data_cleanup.specs.Due.{Event}
 use Rattle.session_report.specs.data_due.specs.Moves.{Moves}
 use Rattle.session_report.specs.pam_room.specs.Module.{notes_of}
+use Rattle.session_report.specs.pam_library.specs.Applied.{Keeps, ended_by}
+use Rattle.session_report.specs.pam_library.specs.Seen.{slot_of}
 use Rattle.session_report.specs.pam_library.specs.Slots.{lists_of}
-use Rattle.session_run.specs.Ends.{EndsAre}
+use Rattle.script_lang.specs.declared.line.Line.{Line}
+use Rattle.script_lang.specs.declared.line.Line.TheVariants as lines
+use Rattle.session_run.specs.Asked.{IsEnd}
+use Rattle.session_run.specs.Ends.{EndsAre, IsEndStep}
 use Rattle.session_run.specs.Seen.{AllTell, IsSoundIn, Seen, Went}
-use Rattle.session_run.proofs.Proceeding.{goes_on, nothing_done, one_call, proceeds_so}
+use Rattle.session_run.proofs.Proceeding.{call_ends, goes_on, nothing_done, one_call, proceeds_so}
 
 module _ (Is : ℕ → ℕ → Type 0) where
   pub went_nowhere : (s : Seen) → IsSoundIn s → Went Is s s
@@ -76,3 +82,11 @@ went_once Is a b players tells world_tells gives no_other ended moves are sound 
   proceeds = one_call _ _ _ _ _ _ _ moves are;
   sound = sound;
 }
+
+-- the call was made that an item asks for
+pub went_as_asked : {Kind : Type 0} (asked : Result Line Kind) (step : Step) → asked ≡ Ok (lines.Step step) → (a b : Seen) → b.players ≡ a.players → ((number : Code → ℕ → ℕ) → a.gives number → b.gives number)
+    → ((number : Code → ℕ → ℕ) → b.gives number → a.gives number)
+    → Keeps (ended_by step a) a b → Went (IsEnd asked) a b
+went_as_asked asked step e a b players gives no_other k =
+    went_so (IsEndStep step) (IsEnd asked) (λ number status is. e ∙ ap (λ (s : Step). Ok (lines.Step s)) is) a b
+    (went_once (IsEndStep step) a b players k.tells k.world_tells gives no_other (ended_by step a) k.moves (call_ends (slot_of step a) step.number step.call) k.sound)

@@ -1,8 +1,7 @@
 -- Transactions that are ended and reported one after another.
 use Rattle.std.proofs.Common.{◌≡◌, ℕ, ◌+◌, ◌≤◌, map, true, false, List, [], ◌∷◌, ◌++◌, length, Ok, Err, refl, sym, ap, ◌∙◌, append_assoc, append-nil, length-append, arith}
 use Rattle.pam_base.specs.declared.code.Code.{Code}
-use Rattle.pam_base.specs.declared.fault.Failed.{Failed}
-use Rattle.pam_outside.specs.Streams.{SinkState, WritesWhole}
+use Rattle.pam_outside.specs.Streams.{SinkState}
 use Rattle.session_report.specs.pam_room.specs.Module.{Player}
 use Rattle.session_report.specs.pam_library.specs.Slots.{NoneIsOpen}
 use Rattle.item_stream.specs.declared.ending.Stop.{Stop}
@@ -11,6 +10,7 @@ use Rattle.session_report.specs.dispatch_core.specs.Lines.{names_of}
 use Rattle.session_report.specs.Closing.{closing_text}
 use Rattle.session_run.specs.State.{RunState}
 use Rattle.session_run.specs.Closings.{Closing, EndsNext, closings_text, last_state, text_of_end}
+use Rattle.session_run.specs.Report.{WritesReport}
 use Rattle.session_run.specs.Reported.{ClosesNext, Closes, wrapped_closing, wrapped_closings}
 use Rattle.session_run.proofs.Lowest.{closings_none}
 
@@ -32,23 +32,24 @@ module _ (wrapped : List ℕ → List ℕ) (players : List Player) (status : Cod
   wrapped_first : (number : ℕ) (s t : RunState) → EndsNext players status number s t → wrapped_closings wrapped players status s ≡ record { text = wrapped (text_of_end players status number s.world t.world); state = t } ∷ wrapped_closings wrapped players status t
   wrapped_first number s t e = ap (map (wrapped_closing wrapped)) e.first
 
-  -- it was ended, and its lines were to be written
-  module _ (number : ℕ) (s t : RunState) (text bytes : List ℕ) (names : List (List ℕ)) (filed : ℕ) (p q : SinkState) (e : EndsNext players status number s t) (is : text ≡ closing_text names number status t.world.process.ledger filed) (n : names ≡ names_of players) (f : filed ≡ length s.world.process.ledger.filed) (w : bytes ≡ wrapped text) where
-    whole : bytes ≡ wrapped (text_of_end players status number s.world t.world)
-    whole = w ∙ ap wrapped (as_text_of_end number s t text names filed is n f)
-
-    pub one_written : (u : Unit {0}) → WritesWhole {T = Unit {0}} (Ok u) bytes p q → ClosesNext wrapped players status (Ok true) s t p q
-    one_written u w =
-        (w.front, record { text = bytes; first = rw whole (wrapped_first number s t e); written = w.written; calls = w.calls }, sym w.all, w.calls_ok)
-
-    pub one_cut : (failed : Failed) → WritesWhole {T = Unit {0}} (Err failed) bytes p q → ClosesNext wrapped players status (Err WriteFault) s t p q
-    one_cut failed w =
-        (w.front, record { text = bytes; first = rw whole (wrapped_first number s t e); written = w.written; calls = w.calls }, (w.back, w.parts))
-
   -- an allocation for it failed
   pub one_unwritten : (number : ℕ) (s t : RunState) (p : SinkState) → EndsNext players status number s t → ClosesNext wrapped players status (Err NoMemory) s t p p
   one_unwritten number s t p e =
       ([], record { text = wrapped (text_of_end players status number s.world t.world); first = wrapped_first number s t e; written = sym (append-nil p.written); calls = omega arith }, refl)
+
+  -- it was ended, and its lines were to be written
+  module _ (number : ℕ) (s t : RunState) (text : List ℕ) (names : List (List ℕ)) (filed : ℕ) (p q : SinkState) (e : EndsNext players status number s t) (is : text ≡ closing_text names number status t.world.process.ledger filed) (n : names ≡ names_of players) (f : filed ≡ length s.world.process.ledger.filed) where
+    whole : wrapped text ≡ wrapped (text_of_end players status number s.world t.world)
+    whole = ap wrapped (as_text_of_end number s t text names filed is n f)
+
+    pub one_written : (u : Unit {0}) → WritesReport (Ok u) (wrapped text) p q → ClosesNext wrapped players status (Ok true) s t p q
+    one_written u w =
+        (w.front, record { text = wrapped text; first = rw whole (wrapped_first number s t e); written = w.written; calls = w.calls }, sym w.all, w.calls_ok)
+
+    pub one_stopped : (stop : Stop) → WritesReport (Err stop) (wrapped text) p q → ClosesNext wrapped players status (Err stop) s t p q
+    one_stopped WriteFault (failed, w) =
+        (w.front, record { text = wrapped text; first = rw whole (wrapped_first number s t e); written = w.written; calls = w.calls }, (w.back, w.parts))
+    one_stopped NoMemory same = rw same (one_unwritten number s t p e)
 
   pub none_left : (s t : RunState) (p : SinkState) → NoneIsOpen s.slots → t ≡ s → ClosesNext wrapped players status (Ok false) s t p p
   none_left s t p none same = (ap (map (wrapped_closing wrapped)) (closings_none players status s.slots s.world none), same, refl)

@@ -17,10 +17,15 @@ use Rattle.session_report.specs.pam_library.specs.Step.{stepped, StepsAs}
 use Rattle.script_lang.specs.declared.line.Line.{Line}
 use Rattle.script_lang.specs.declared.line.Line.TheVariants as lines
 use Rattle.script_lang.specs.Line.{without_return, parsed}
+use Rattle.pam_outside.specs.Streams.{SinkState}
+use Rattle.item_stream.specs.declared.ending.Stop.{Stop}
+use Rattle.item_stream.specs.declared.ending.Stop.TheVariants.{NoMemory, WriteFault}
+use Rattle.item_stream.specs.Laws.{BegunIsServed, WrittenIsServed}
 use Rattle.item_stream.specs.Run.{ItemStep}
-use Rattle.item_stream.specs.Turns.{IsBegun}
+use Rattle.item_stream.specs.Turns.{IsBegun, ServesItem}
 use Rattle.session_report.specs.Step.{step_text}
 use Rattle.session_run.specs.Asked.{Asking}
+use Rattle.session_run.specs.Report.{WritesReport}
 use Rattle.session_run.specs.Serve.{Does, served_line, written_for}
 use Rattle.session_run.specs.State.{Setting, RunState, state_of}
 use Rattle.session_run.specs.Step.{CallFails, applied}
@@ -58,20 +63,10 @@ module _ {Kind : Type 0} (asked : Asking Kind) (wrapped : List ℕ → List ℕ)
 
   module _ (call : Step) (e : asked n item ≡ Ok (lines.Step call)) where
     -- one that was applied
-    pub called_item : (outcome : PlainOutcome) (slots : List PlainSlot) (world : PlainWorld) (report text : List ℕ) (names : List (List ℕ))
-        → StepsAs (stepped setting.players setting.delay s.slots s.world call) outcome slots world → report ≡ step_text names call outcome world.process.ledger → names ≡ names_of setting.players
-        → text ≡ wrapped report → step setting n s item ≡ Ok (state_of slots world, text)
-    called_item outcome slots world report text names a t m w = rw (w, t, m, a.outcome_is, a.slots_is, a.world_is) (accepted (lines.Step call) e)
-
-    -- one that was applied, and an allocation for its report failed
-    pub applied_only : (outcome : PlainOutcome) (slots : List PlainSlot) (world : PlainWorld) → StepsAs (stepped setting.players setting.delay s.slots s.world call) outcome slots world
-        → IsBegun (step setting) (fails setting) n item s (state_of slots world)
-    applied_only outcome slots world a = record {
-      after = state_of slots world;
-      text = wrapped (step_text (names_of setting.players) call outcome world.process.ledger);
-      accepted = called_item outcome slots world _ _ _ a refl refl refl;
-      state = inl refl;
-    }
+    pub called_item : (outcome : PlainOutcome) (slots : List PlainSlot) (world : PlainWorld) (names : List (List ℕ))
+        → StepsAs (stepped setting.players setting.delay s.slots s.world call) outcome slots world → names ≡ names_of setting.players
+        → step setting n s item ≡ Ok (state_of slots world, wrapped (step_text names call outcome world.process.ledger))
+    called_item outcome slots world names a m = rw (m, a.outcome_is, a.slots_is, a.world_is) (accepted (lines.Step call) e)
 
     -- one that ran out of memory itself
     pub failed_call : (d : RunState) → CallFails setting call s d → IsBegun (step setting) (fails setting) n item s d
@@ -81,3 +76,9 @@ module _ {Kind : Type 0} (asked : Asking Kind) (wrapped : List ℕ → List ℕ)
       accepted = accepted (lines.Step call) e;
       state = inr (does.fails_so setting n s d item call e f);
     }
+
+-- an item was applied, and its report isn't whole
+pub report_stopped : {Kind : Type 0} (step : ItemStep RunState Kind) (fails : RunState → List ℕ → RunState → Type 0) → WrittenIsServed step fails → BegunIsServed step fails
+    → (stop : Stop) (n : ℕ) (item text : List ℕ) (c d : RunState) (p q : SinkState) → step n c item ≡ Ok (d, text) → WritesReport (Err stop) text p q → ServesItem step fails (Err stop) n item c d p q
+report_stopped step fails written begun WriteFault n item text c d p q e w = written (Err w.0) n item text c d p q e w.1
+report_stopped step fails written begun NoMemory n item text c d p q e same = rw same (begun n item c d p (record { after = d; text = text; accepted = e; state = inl refl }))

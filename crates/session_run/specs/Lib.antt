@@ -19,6 +19,7 @@ pub mod Asked
 pub mod Serve
 pub mod Read
 pub mod Script
+pub mod Report
 pub mod Closings
 pub mod Reported
 pub mod Whole

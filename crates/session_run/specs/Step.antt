@@ -1,5 +1,5 @@
 -- What one line of a script does (this project's own).
-use Rattle.std.specs.Prelude.{◌≡◌, ℕ, true, List, [], Option, None, Result, Ok, Err}
+use Rattle.std.specs.Prelude.{◌≡◌, ℕ, true, List, [], Result, Ok, Err}
 use Rattle.pam_base.specs.declared.call.Step.{Step}
 use Rattle.pam_base.specs.declared.fault.ScriptKind.{ScriptKind}
 use Rattle.session_report.specs.dispatch_core.specs.Lines.{names_of}
@@ -11,7 +11,6 @@ use Rattle.session_report.specs.pam_library.specs.Step.{Stepped, stepped}
 use Rattle.script_lang.specs.declared.line.Line.{Line}
 use Rattle.script_lang.specs.declared.line.Line.TheVariants as lines
 use Rattle.script_lang.specs.Line.{parsed}
-use Rattle.item_stream.specs.declared.ending.Stop.{Stop}
 use Rattle.script_stream.specs.Run.{LineStep}
 use Rattle.session_report.specs.Step.{step_text}
 use Rattle.session_run.specs.State.{Setting, RunState, state_of}
@@ -68,8 +67,3 @@ pub record Fails (setting : Setting) (s : RunState) (line : List ℕ) (t : RunSt
   pub step : Step
   pub asked : parsed line ≡ Ok (lines.Step step)
   pub fails : CallFails setting step s t
-
--- an item that was not refused
-abbrev pub unrefused : {T Kind : Type 0} → Result T Stop → Result (Option Kind) Stop
-unrefused (Ok done) = Ok None
-unrefused (Err stop) = Err stop

@@ -7,9 +7,10 @@ ghost use Rattle.session_run.specs.Closings.{EndsNext, all_closed, open_count};
 ghost use Rattle.session_run.specs.Reported.{Closes, ClosesNext};
 
 use crate::protocol::Protocol;
+use crate::report::write_report;
 use item_stream::Stop;
-use pam_base::{Code, Failed, NoMemory, code_number};
-use pam_outside::{Sink, write_all};
+use pam_base::{Code, NoMemory, code_number};
+use pam_outside::Sink;
 use session_report::closing_report;
 use session_report::pam_library::{Library, Session, Told};
 use session_report::pam_room::World;
@@ -86,13 +87,9 @@ fn close_next<P: Protocol, K: Sink>(
         Ok(report) => report,
         Err(NoMemory) => return Err(Stop::NoMemory),
     };
-    let text = match P::wrap(alloc, report) {
-        Ok(text) => text,
-        Err(NoMemory) => return Err(Stop::NoMemory),
-    };
-    match write_all(sink, text.bytes()) {
+    match write_report::<P, K>(alloc, report, sink) {
         Ok(()) => Ok(true),
-        Err(Failed) => Err(Stop::WriteFault),
+        Err(stop) => Err(stop),
     }
 }
 

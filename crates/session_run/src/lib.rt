@@ -10,6 +10,7 @@ mod items;
 pub mod laws;
 mod protocol;
 mod reading;
+mod report;
 mod run;
 mod script;
 mod serve;

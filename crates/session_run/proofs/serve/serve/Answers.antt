@@ -1,11 +1,10 @@
-use Rattle.std.proofs.Common.{Ok, refl, ap, ◌∙◌}
+use Rattle.std.proofs.Common.{Ok, refl, ap}
 use Rattle.std.proofs.lemmas.Bool.{and_parts}
-use Rattle.script_lang.specs.declared.line.Line.TheVariants as script_lines
-use Rattle.pam_base.specs.declared.call.Step.{Step}
 use Rattle.session_report.specs.pam_room.specs.declared.process.Process.{Process}
-use Rattle.session_run.proofs.Going.{went_nowhere, went_quietly, went_so}
-use Rattle.session_run.proofs.Consuming.{err_as, err_unwritten, ok_as, ok_unwritten, reads_accepted, reads_refused, reads_stopped, reads_unbegun}
-use Rattle.session_run.proofs.Serving.{accepted, refused}
+use Rattle.session_run.proofs.Going.{went_as_asked, went_nowhere, went_quietly}
+use Rattle.session_run.proofs.Proceeding.{receipts_stay}
+use Rattle.session_run.proofs.Consuming.{all_written, err_unwritten, ok_unwritten, part_written, reads_accepted, reads_refused, reads_stopped, reads_unbegun}
+use Rattle.session_run.proofs.Serving.{accepted, called_item, failed_call, failed_place, failed_stack, refused, report_stopped}
 use Rattle.session_run.proofs.serve.serve.Goals as goal
 
 pub returns-in-Err-Named-clause-told : goal.returns-in-Err-Named-clause-told
@@ -34,26 +33,6 @@ pub returns-in-Ok-Caller-clause-told : goal.returns-in-Ok-Caller-clause-told
 returns-in-Ok-Caller-clause-told g c = λ delay is told sink.
     let e = rw c.in-Ok-Caller.field-0-is at c.in-Ok-Caller.ensures.asks in
     rw (c.set_caller.ensures.plain, c.in-Ok-Caller.caller-is) (c.item_is_served.ensures.silent _ _ _ _ _ _ (accepted _ _ _ _ _ c.does.ensures _ _ _ _ _ e))
-
-pub returns-in-Ok-clause-told : goal.returns-in-Ok-clause-told
-returns-in-Ok-clause-told g c = λ delay is told sink.
-    let e = rw c.in-Ok-Step.field-0-is at c.in-Ok-Step.ensures.asks in
-    c.in-Ok.ensures.told delay is told sink _ _ e
-
-pub returns-clause-told : goal.returns-clause-told
-returns-clause-told g c = λ delay is told sink.
-    let e = rw c.in-Ok-Step.field-0-is at c.in-Ok-Step.ensures.asks in
-    c.in-Err.ensures.told delay is told sink _ _ e
-
-pub returns-in-Ok-clause-went : goal.returns-in-Ok-clause-went
-returns-in-Ok-clause-went g c =
-    let e = rw c.in-Ok-Step.field-0-is at c.in-Ok-Step.ensures.asks in
-    went_so _ _ (λ number status is. e ∙ ap (λ (s : Step). Ok (script_lines.Step s)) is) _ _ c.serve_step.ensures.went
-
-pub returns-clause-went : goal.returns-clause-went
-returns-clause-went g c =
-    let e = rw c.in-Ok-Step.field-0-is at c.in-Ok-Step.ensures.asks in
-    went_so _ _ (λ number status is. e ∙ ap (λ (s : Step). Ok (script_lines.Step s)) is) _ _ c.serve_step.ensures.went
 
 pub returns-in-Err-NoMemory-clause-went : goal.returns-in-Err-NoMemory-clause-went
 returns-in-Err-NoMemory-clause-went g c = went_nowhere _ _ c.requires
@@ -93,11 +72,6 @@ returns-in-Ok-Caller-clause-moves g c = λ none.
     let e = rw c.in-Ok-Caller.field-0-is at c.in-Ok-Caller.ensures.asks in
     rw e (c.nothing_moves.ensures _ _ _ _ _ _ c.set_caller.ensures.ledger (λ h. refl))
 
-pub returns-in-Ok-clause-moves : goal.returns-in-Ok-clause-moves
-returns-in-Ok-clause-moves g c = λ none.
-    let e = rw c.in-Ok-Step.field-0-is at c.in-Ok-Step.ensures.asks in
-    rw e c.serve_step.ensures.moves
-
 pub returns-in-Ok-Blank-clause-accepted : goal.returns-in-Ok-Blank-clause-accepted
 returns-in-Ok-Blank-clause-accepted g c = λ none.
     let e = rw c.in-Ok-Blank.field-0-is at c.in-Ok-Blank.ensures.asks in
@@ -116,11 +90,6 @@ returns-in-Ok-Random-clause-accepted g c = λ none.
 pub returns-in-Ok-Caller-clause-accepted : goal.returns-in-Ok-Caller-clause-accepted
 returns-in-Ok-Caller-clause-accepted g c = λ none.
     let e = rw c.in-Ok-Caller.field-0-is at c.in-Ok-Caller.ensures.asks in
-    (_, e)
-
-pub returns-in-Ok-clause-accepted : goal.returns-in-Ok-clause-accepted
-returns-in-Ok-clause-accepted g c = λ none.
-    let e = rw c.in-Ok-Step.field-0-is at c.in-Ok-Step.ensures.asks in
     (_, e)
 
 pub returns-in-Err-NoMemory-clause-reads : goal.returns-in-Err-NoMemory-clause-reads
@@ -143,12 +112,6 @@ returns-in-Ok-Random-clause-reads g c = reads_accepted _ _ _ _ _ c.does.ensures 
 pub returns-in-Ok-Caller-clause-reads : goal.returns-in-Ok-Caller-clause-reads
 returns-in-Ok-Caller-clause-reads g c = reads_accepted _ _ _ _ _ c.does.ensures _ _ _ (rw c.in-Ok-Caller.field-0-is at c.in-Ok-Caller.ensures.asks)
 
-pub returns-in-Ok-clause-reads : goal.returns-in-Ok-clause-reads
-returns-in-Ok-clause-reads g c = reads_accepted _ _ _ _ _ c.does.ensures _ _ _ (rw c.in-Ok-Step.field-0-is at c.in-Ok-Step.ensures.asks)
-
-pub returns-clause-reads : goal.returns-clause-reads
-returns-clause-reads g c = reads_stopped _ _ _ _ _ c.does.ensures _ _ c.in-Err.stop _ (rw c.in-Ok-Step.field-0-is at c.in-Ok-Step.ensures.asks)
-
 pub returns-in-Err-NoMemory-clause-writes : goal.returns-in-Err-NoMemory-clause-writes
 returns-in-Err-NoMemory-clause-writes g c = λ sink. err_unwritten _ _
 
@@ -167,14 +130,79 @@ returns-in-Ok-Random-clause-writes g c = λ sink. ok_unwritten _ _
 pub returns-in-Ok-Caller-clause-writes : goal.returns-in-Ok-Caller-clause-writes
 returns-in-Ok-Caller-clause-writes g c = λ sink. ok_unwritten _ _
 
-pub returns-in-Ok-clause-writes : goal.returns-in-Ok-clause-writes
-returns-in-Ok-clause-writes g c = λ sink. ok_as c.in-Ok.field-0 _ _ _ (c.in-Ok.ensures.writes sink)
-
-pub returns-clause-writes : goal.returns-clause-writes
-returns-clause-writes g c = λ sink. err_as c.in-Err.stop _ _ (c.in-Err.ensures.writes sink)
-
 pub set_world_moment-requires : goal.set_world_moment-requires
 set_world_moment-requires g c = rw c.in-Ok-At.field-0-is at c.in-Ok-At.ensures.fit
 
-pub serve_step-requires-clause-fit : goal.serve_step-requires-clause-fit
-serve_step-requires-clause-fit g c = rw c.in-Ok-Step.field-0-is at c.in-Ok-Step.ensures.fit
+-- ---- a call
+
+pub apply-requires-clause-fit : goal.apply-requires-clause-fit
+apply-requires-clause-fit g c = rw c.in-Ok-Step.field-0-is at c.in-Ok-Step.ensures.fit
+
+pub write_step-requires-clause-from : goal.write_step-requires-clause-from
+write_step-requires-clause-from g c = rw c.in-Ok.ensures.answers.filed_from (receipts_stay _ _ _ _ _ _ _ _ c.apply.ensures.leaves.spends)
+
+pub returns-in-Err-clause-told : goal.returns-in-Err-clause-told
+returns-in-Err-clause-told g c = λ delay is told sink.
+    let e = rw c.in-Ok-Step.field-0-is at c.in-Ok-Step.ensures.asks in
+    c.item_is_served.ensures.begun _ _ _ _ _ _ (failed_call _ _ _ _ _ c.does.ensures _ _ _ _ _ e _ (record {
+      place = failed_place _ _ _ _ _ told c.in-Err.ensures.fails.fails;
+      leaves = c.apply.ensures.leaves;
+      stops = failed_stack _ _ _ _ _ _ _ told c.in-Err.ensures.fails.stops;
+      world = λ h. rw (c.apply.ensures.world h) refl;
+      nap = rw c.in-Err.ensures.fails.no_nap refl;
+    }))
+
+pub returns-in-Ok-write_step-clause-told : goal.returns-in-Ok-write_step-clause-told
+returns-in-Ok-write_step-clause-told g c = λ delay is told sink.
+    let e = rw c.in-Ok-Step.field-0-is at c.in-Ok-Step.ensures.asks in
+    c.item_is_served.ensures.written _ (Ok c.in-Ok-write_step.field-0) _ _ _ _ _ _ _
+    (called_item _ _ _ _ _ c.does.ensures _ _ _ _ _ e _ _ _ _ (c.in-Ok.ensures.told delay is told) (rw c.apply.ensures.gear refl)) (c.in-Ok-write_step.ensures.told sink)
+
+pub returns-clause-told : goal.returns-clause-told
+returns-clause-told g c = λ delay is told sink.
+    let e = rw c.in-Ok-Step.field-0-is at c.in-Ok-Step.ensures.asks in
+    report_stopped _ _ (c.item_is_served.ensures.written _) (c.item_is_served.ensures.begun _) c.in-Err-write_step.stop _ _ _ _ _ _ _
+    (called_item _ _ _ _ _ c.does.ensures _ _ _ _ _ e _ _ _ _ (c.in-Ok.ensures.told delay is told) (rw c.apply.ensures.gear refl)) (c.in-Err-write_step.ensures.told sink)
+
+pub returns-in-Err-clause-went : goal.returns-in-Err-clause-went
+returns-in-Err-clause-went g c =
+    let e = rw c.in-Ok-Step.field-0-is at c.in-Ok-Step.ensures.asks in
+    went_as_asked _ _ e _ _ (rw c.apply.ensures.gear refl) (λ number gives. rw c.apply.ensures.gear gives) (λ number gives. rw c.apply.ensures.gear at gives) c.apply.ensures.keeps
+
+pub returns-in-Ok-write_step-clause-went : goal.returns-in-Ok-write_step-clause-went
+returns-in-Ok-write_step-clause-went g c =
+    let e = rw c.in-Ok-Step.field-0-is at c.in-Ok-Step.ensures.asks in
+    went_as_asked _ _ e _ _ (rw c.apply.ensures.gear refl) (λ number gives. rw c.apply.ensures.gear gives) (λ number gives. rw c.apply.ensures.gear at gives) c.apply.ensures.keeps
+
+pub returns-clause-went : goal.returns-clause-went
+returns-clause-went g c =
+    let e = rw c.in-Ok-Step.field-0-is at c.in-Ok-Step.ensures.asks in
+    went_as_asked _ _ e _ _ (rw c.apply.ensures.gear refl) (λ number gives. rw c.apply.ensures.gear gives) (λ number gives. rw c.apply.ensures.gear at gives) c.apply.ensures.keeps
+
+pub returns-in-Ok-write_step-clause-moves : goal.returns-in-Ok-write_step-clause-moves
+returns-in-Ok-write_step-clause-moves g c = λ none.
+    let e = rw c.in-Ok-Step.field-0-is at c.in-Ok-Step.ensures.asks in
+    rw e c.apply.ensures.keeps.moves
+
+pub returns-in-Ok-write_step-clause-accepted : goal.returns-in-Ok-write_step-clause-accepted
+returns-in-Ok-write_step-clause-accepted g c = λ none.
+    let e = rw c.in-Ok-Step.field-0-is at c.in-Ok-Step.ensures.asks in
+    (_, e)
+
+pub returns-in-Err-clause-reads : goal.returns-in-Err-clause-reads
+returns-in-Err-clause-reads g c = reads_unbegun _ _ _ _ _ c.does.ensures _ _
+
+pub returns-in-Ok-write_step-clause-reads : goal.returns-in-Ok-write_step-clause-reads
+returns-in-Ok-write_step-clause-reads g c = reads_accepted _ _ _ _ _ c.does.ensures _ _ _ (rw c.in-Ok-Step.field-0-is at c.in-Ok-Step.ensures.asks)
+
+pub returns-clause-reads : goal.returns-clause-reads
+returns-clause-reads g c = reads_stopped _ _ _ _ _ c.does.ensures _ _ c.in-Err-write_step.stop _ (rw c.in-Ok-Step.field-0-is at c.in-Ok-Step.ensures.asks)
+
+pub returns-in-Err-clause-writes : goal.returns-in-Err-clause-writes
+returns-in-Err-clause-writes g c = λ sink. err_unwritten _ _
+
+pub returns-in-Ok-write_step-clause-writes : goal.returns-in-Ok-write_step-clause-writes
+returns-in-Ok-write_step-clause-writes g c = λ sink. all_written _ c.in-Ok-write_step.field-0 _ _ _ (c.in-Ok-write_step.ensures.told sink)
+
+pub returns-clause-writes : goal.returns-clause-writes
+returns-clause-writes g c = λ sink. part_written c.in-Err-write_step.stop _ _ _ (c.in-Err-write_step.ensures.told sink)
