@@ -67,6 +67,24 @@ impl<R: Read + Drop, W: Write + Drop> FrontConv<R, W> {
     {
         self.cause
     }
+
+    // One exchange.
+    fn converse(&mut self, alloc: Global, messages: &[Message]) -> Result<Replies, Cause>
+        ensures replies { IfOk result (λ replies. AreReplies «messages».now replies) }
+        ensures shown { Writes result «messages».now (W.contents self.old.writer)
+            (W.contents self.new.writer) }
+        ensures taken { Takes result «messages».now (R.remaining self.old.reader)
+            (R.remaining self.new.reader) }
+        ensures others { self.new ≡ record self.old {
+          reader = self.new.reader;
+          writer = self.new.writer;
+        } }
+    {
+        let asked = exchange_text(alloc, messages)?;
+        let answer = answer_of(alloc, asked.as_bytes())?;
+        write_out(answer.bytes(), &mut self.writer)?;
+        take_replies(alloc, messages, &mut self.reader)
+    }
 }
 
 impl<R: Read + Drop, W: Write + Drop> Conv for FrontConv<R, W> {
@@ -118,7 +136,7 @@ impl<R: Read + Drop, W: Write + Drop> Conv for FrontConv<R, W> {
         ensures taken { Takes (outcome self.new.cause result) messages.now
             (R.remaining self.old.reader) (R.remaining self.new.reader) }
     {
-        match converse(alloc, messages.items(), &mut self.reader, &mut self.writer) {
+        match self.converse(alloc, messages.items()) {
             Ok(replies) => {
                 self.cause = None;
                 Ok(replies)
@@ -153,24 +171,6 @@ impl<R: Read + Drop, W: Write + Drop> Conv for FrontConv<R, W> {
     {
         Ok(())
     }
-}
-
-// One exchange.
-fn converse<R: Read, W: Write>(
-    alloc: Global,
-    messages: &[Message],
-    reader: &mut R,
-    writer: &mut W,
-) -> Result<Replies, Cause>
-    ensures replies { IfOk result (λ replies. AreReplies «messages».now replies) }
-    ensures shown { Writes result «messages».now (W.contents writer.old)
-        (W.contents writer.new) }
-    ensures taken { Takes result «messages».now (R.remaining reader.old) (R.remaining reader.new) }
-{
-    let asked = exchange_text(alloc, messages)?;
-    let answer = answer_of(alloc, asked.as_bytes())?;
-    write_out(answer.bytes(), writer)?;
-    take_replies(alloc, messages, reader)
 }
 
 fn write_out<W: Write>(bytes: &[u8], writer: &mut W) -> Result<(), Cause>
