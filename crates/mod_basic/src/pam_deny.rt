@@ -1,4 +1,4 @@
-ghost use Rattle.std.specs.Prelude.{◌≡◌, codes};
+ghost use Rattle.std.specs.Prelude.{codes};
 ghost use Rattle.mod_basic.specs.Deny.{denial};
 
 use crate::at_once::AtOnce;
@@ -19,17 +19,11 @@ impl AtOnce for DenyRules {
     }
 
     fn code_of(call: &Call, _items: &Items, _caller: u32) -> Code {
-        denial(call.func)
-    }
-}
-
-fn denial(func: Func) -> Code
-    ensures { result ≡ denial func }
-{
-    match func {
-        Func::Authenticate | Func::AcctMgmt => Code::AuthErr,
-        Func::SetCred => Code::CredErr,
-        Func::OpenSession | Func::CloseSession => Code::SessionErr,
-        Func::ChAuthTok => Code::AuthtokErr,
+        match call.func {
+            Func::Authenticate | Func::AcctMgmt => Code::AuthErr,
+            Func::SetCred => Code::CredErr,
+            Func::OpenSession | Func::CloseSession => Code::SessionErr,
+            Func::ChAuthTok => Code::AuthtokErr,
+        }
     }
 }
