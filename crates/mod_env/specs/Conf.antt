@@ -12,7 +12,7 @@ use Rattle.mod_env.specs.declared.conf.Values.{Values}
 use Rattle.mod_env.specs.declared.conf.EnvLine.{EnvLine}
 use Rattle.mod_env.specs.declared.conf.Setting.{Setting as LentSetting}
 use Rattle.mod_env.specs.declared.conf.Setting.TheVariants as lent
-use Rattle.mod_env.specs.Marks.{begins_with, behind_white, is_byte, is_white_mark, marks_of}
+use Rattle.mod_env.specs.Marks.{begins_with, behind, behind_white, is_byte, is_white_mark, marks_of}
 use Rattle.mod_env.specs.Value.{pieces_of}
 
 -- ---- the settings of a line
@@ -89,8 +89,7 @@ values_of marks = values_within (length marks) no_values marks
 
 -- a line without leading white space
 abbrev pub without_front : List ℕ → List ℕ
-without_front [] = []
-without_front (b ∷ bs) = if is_white b then without_front bs else b ∷ bs
+without_front line = behind is_white line
 
 -- a line counts unless it is all white space, or a comment
 abbrev pub counts : List ℕ → Bool

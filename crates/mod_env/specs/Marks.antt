@@ -32,10 +32,13 @@ begins_with [] marks = true
 begins_with (c ∷ cs) [] = false
 begins_with (c ∷ cs) (m ∷ ms) = is_byte c m && begins_with cs ms
 
--- what follows leading white space
+-- what follows leading white space, of bytes or of marks
+abbrev pub behind : {X : Type 0} → (X → Bool) → List X → List X
+behind white [] = []
+behind white (x ∷ xs) = if white x then behind white xs else x ∷ xs
+
 abbrev pub behind_white : List Mark → List Mark
-behind_white [] = []
-behind_white (m ∷ ms) = if is_white_mark m then behind_white ms else m ∷ ms
+behind_white marks = behind is_white_mark marks
 
 -- the bytes themselves
 abbrev pub byte_of : Mark → Option ℕ

@@ -1,7 +1,7 @@
 ghost use Rattle.std.specs.Prelude.{◌≡◌, ◌≤◌, ℕ, List, IfOk, Some, drop, length, position, option_map};
 ghost use Rattle.std.specs.List.{after_first, before_first};
 ghost use Rattle.pam_base.specs.White.{is_white};
-ghost use Rattle.mod_env.specs.Conf.{at_key, at_value, conf_of, counts, ends_word, entry_at, next_setting, no_values, plain_setting, quoted, unquoted, values_of, with_value, without_front};
+ghost use Rattle.mod_env.specs.Conf.{at_key, at_value, conf_of, counts, ends_word, entry_at, next_setting, no_values, plain_setting, quoted, unquoted, values_of, with_value};
 ghost use Rattle.mod_env.specs.Marks.{is_byte, is_white_mark};
 
 use crate::marks::{Mark, begins_with, behind_white, is_byte, is_white_mark, marks_of};
@@ -50,7 +50,7 @@ pub fn conf_of(alloc: Global, text: &[u8]) -> Result<Option<Entries>, NoMemory>
     let mut entries = Entries::new(alloc);
     let mut lines = Lines::new(text);
     while let Some(line) = lines.next_line() {
-        let line = without_front(line);
+        let line = behind_white(line);
         if counts(line) {
             match entry_at(alloc, line)? {
                 Some(entry) => entries.push(entry)?,
@@ -59,20 +59,6 @@ pub fn conf_of(alloc: Global, text: &[u8]) -> Result<Option<Entries>, NoMemory>
         }
     }
     Ok(Some(entries))
-}
-
-/// A line without leading white space.
-pub fn without_front(line: &[u8]) -> &[u8]
-    ensures { result.now ≡ without_front line.now }
-{
-    let mut rest = line;
-    while let [byte, after @ ..] = rest {
-        if !is_white(*byte) {
-            return rest;
-        }
-        rest = after;
-    }
-    rest
 }
 
 // Whether a line counts: it isn't all white space, nor a comment.

@@ -4,8 +4,8 @@ ghost use Rattle.pam_base.specs.Bytes.{has_byte};
 ghost use Rattle.env_list.specs.Environment.{name_in, value_in};
 ghost use Rattle.mod_env.specs.EnvFile.{assignment_at, assignment_in, assignments_of, is_name, is_name_byte, unquoted, without_export, without_last, without_quotes};
 
-use crate::conf::without_front;
 use crate::expand::assignment;
+use crate::marks::behind_white;
 use pam_base::{Lines, NoMemory, Text, Texts, first_place};
 use std::alloc::Global;
 
@@ -28,7 +28,7 @@ pub fn assignments_of(alloc: Global, text: &[u8]) -> Result<Texts, NoMemory>
 fn assignment_in(alloc: Global, line: &[u8]) -> Result<Option<Text>, NoMemory>
     ensures { IfOk result (λ text. text ≡ assignment_in line.now) }
 {
-    assignment_at(alloc, without_export(without_front(line)))
+    assignment_at(alloc, without_export(behind_white(line)))
 }
 
 fn without_export(text: &[u8]) -> &[u8]
@@ -44,10 +44,11 @@ fn without_export(text: &[u8]) -> &[u8]
 fn assignment_at(alloc: Global, text: &[u8]) -> Result<Option<Text>, NoMemory>
     ensures { IfOk result (λ text'. text' ≡ assignment_at text.now) }
 {
-    if !has_equals(text) || !is_name(name_in(text)) {
+    let (name, value) = halves(text);
+    if !has_equals(text) || !is_name(name) {
         return Ok(None);
     }
-    let text = assignment(alloc, name_in(text), unquoted(value_in(text)))?;
+    let text = assignment(alloc, name, unquoted(value))?;
     Ok(Some(text))
 }
 
@@ -57,30 +58,21 @@ fn has_equals(text: &[u8]) -> bool
     first_place(b'=', text).is_some()
 }
 
+// What comes before the first `=`, and what follows it.
+fn halves(text: &[u8]) -> (&[u8], &[u8])
+    ensures name { result.0.now ≡ name_in text.now }
+    ensures value { result.1.now ≡ value_in text.now }
+{
+    match equals_place(text) {
+        Some(n) => (&text[..n], &text[n + 1..]),
+        None => (text, b""),
+    }
+}
+
 fn equals_place(text: &[u8]) -> Option<usize>
     ensures { result ≡ position (λ (b : ℕ). b == 61) text.now }
 {
     text.iter().position(|byte| *byte == b'=')
-}
-
-// What comes before the first `=`.
-fn name_in(text: &[u8]) -> &[u8]
-    ensures { result.now ≡ name_in text.now }
-{
-    match equals_place(text) {
-        Some(n) => &text[..n],
-        None => text,
-    }
-}
-
-// What follows the first `=`.
-fn value_in(text: &[u8]) -> &[u8]
-    ensures { result.now ≡ value_in text.now }
-{
-    match equals_place(text) {
-        Some(n) => &text[n + 1..],
-        None => b"",
-    }
 }
 
 // Letters, digits and underscores, one or more.

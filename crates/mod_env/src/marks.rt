@@ -1,5 +1,6 @@
-ghost use Rattle.std.specs.Prelude.{◌≡◌, IfOk};
-ghost use Rattle.mod_env.specs.Marks.{begins_with, behind_white, is_byte, is_white_mark, marks_of, text_of};
+ghost use Rattle.std.specs.Prelude.{◌≡◌, Bool, IfOk};
+ghost use Rattle.pam_base.specs.White.{is_white};
+ghost use Rattle.mod_env.specs.Marks.{begins_with, behind, is_byte, is_white_mark, marks_of, text_of};
 
 use pam_base::{NoMemory, Text, is_white};
 use std::alloc::Global;
@@ -12,6 +13,32 @@ pub enum Mark {
     Plain(u8),
     /// A backslash without a byte after it.
     Stray,
+}
+
+/// What a text consists of: bytes, or marks.
+pub(crate) trait MaybeWhite {
+    /// Whether it is white space.
+    ghost white: { Self → Bool };
+
+    /// Whether it is white space.
+    fn is_white(&self) -> bool
+        ensures { result ≡ white self.now };
+}
+
+impl MaybeWhite for u8 {
+    ghost white = { is_white };
+
+    fn is_white(&self) -> bool {
+        is_white(*self)
+    }
+}
+
+impl MaybeWhite for Mark {
+    ghost white = { is_white_mark };
+
+    fn is_white(&self) -> bool {
+        is_white_mark(*self)
+    }
 }
 
 /// The bytes of a text; a backslash quotes the next one.
@@ -82,12 +109,12 @@ pub fn begins_with(word: &[u8], marks: &[Mark]) -> bool
 }
 
 /// What follows leading white space.
-pub fn behind_white(marks: &[Mark]) -> &[Mark]
-    ensures { result.now ≡ behind_white marks.now }
+pub(crate) fn behind_white<T: MaybeWhite>(text: &[T]) -> &[T]
+    ensures { result.now ≡ behind T.white text.now }
 {
-    let mut rest = marks;
-    while let [mark, after @ ..] = rest {
-        if !is_white_mark(*mark) {
+    let mut rest = text;
+    while let [first, after @ ..] = rest {
+        if !first.is_white() {
             return rest;
         }
         rest = after;
