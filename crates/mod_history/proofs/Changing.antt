@@ -1,5 +1,5 @@
 -- The second pass of a change, step by step.
-use Rattle.std.proofs.Common.{◌≡◌, ℕ, ◌==◌, nat_le, Bool, true, false, List, length, Option, Some, None, Result, Ok, refl, sym, ap, ◌∙◌, subst}
+use Rattle.std.proofs.Common.{◌≡◌, ◌≢◌, ℕ, ◌==◌, nat_le, Bool, true, false, List, length, Option, Some, None, Result, Ok, refl, sym, ap, ◌∙◌, subst}
 use Rattle.pam_base.specs.declared.code.Code.{Code}
 use Rattle.pam_base.specs.declared.code.Code.TheVariants as returns
 use Rattle.pam_base.specs.declared.fault.ConvErr.{ConvErr}
@@ -26,6 +26,10 @@ use Rattle.mod_history.specs.declared.history.Remembered.{Remembered}
 use Rattle.mod_history.specs.History.{history_text}
 use Rattle.mod_history.specs.Pwhistory.{remember_in_history, by_length, renew_if_known, by_remember, by_use, history_in, history_limit, history_name, is_refused, refuses_token, remember_of, remembers, renews, stores_text, unsets_item}
 use Rattle.mod_history.specs.Renewal.{hashes_of, renewed}
+
+pub none_if : {A : Type 0} (o : Option A) → ((x : A) → o ≢ Some x) → o ≡ None
+none_if None other = refl
+none_if (Some x) other = absurd (other x refl)
 
 -- ---- depending on what is known of the user
 

@@ -138,9 +138,8 @@ fn remember(
     ensures talks { OnlyTalks transaction.old transaction.new }
 {
     laws::talking();
-    let token = match token {
-        Some(token) => token,
-        None => return Ok(Code::AuthtokErr),
+    let Some(token) = token else {
+        return Ok(Code::AuthtokErr);
     };
     if remember_of(asked.call) == 0 {
         return Ok(Code::Success);
@@ -212,9 +211,8 @@ fn remember_in_history(
 {
     laws::acting();
     laws::talking();
-    let history = match history {
-        Some(history) => history,
-        None => return Ok(Code::AuthtokErr),
+    let Some(history) = history else {
+        return Ok(Code::AuthtokErr);
     };
     let hashes = hashes_of(user, &history);
     let refused = is_refused(

@@ -75,28 +75,17 @@ fn put_renewed_line(
         ++ (let hashes = renewed_hashes remember hash.now line.now.hashes in
         whole_line (record { name = line.now.name; hashes = hashes }))) }
 {
+    let hashes = line.hashes.items();
+    let remember = remember as usize;
     out.extend_from_slice(line.name.bytes())?;
-    put_renewed_hashes(out, remember as usize, hash, line.hashes.items())?;
-    out.push(b'\n')?;
-    Ok(())
-}
-
-fn put_renewed_hashes(
-    out: &mut Vec<u8>,
-    remember: usize,
-    hash: &[u8],
-    hashes: &[Text],
-) -> Result<(), NoMemory>
-    requires { 0 < remember }
-    ensures { OnOk result (out.new.items ≡ out.old.items
-        ++ flat_map hash_text (renewed_hashes remember hash.now hashes.now)) }
-{
     if is_left_out(hash, hashes) {
-        put_hashes(out, last_of(remember, hashes))
+        put_hashes(out, last_of(remember, hashes))?;
     } else {
         put_hashes(out, last_of(remember - 1, hashes))?;
-        put_hash(out, hash)
+        put_hash(out, hash)?;
     }
+    out.push(b'\n')?;
+    Ok(())
 }
 
 // Whether a hash isn't added: it is empty or locked, or already the last.

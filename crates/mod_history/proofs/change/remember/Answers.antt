@@ -2,11 +2,11 @@ use Rattle.std.proofs.Common.{◌≡◌, ◌==◌, ◌∙◌, true, false, arith
 use Rattle.std.proofs.lemmas.Bool.Decides.{nat_tests}
 use Rattle.pam_room.specs.Plain.{plain_call}
 use Rattle.mod_history.specs.Pwhistory.{remember_of}
-use Rattle.mod_history.proofs.Changing.{no_token, not_remembered, remembered}
+use Rattle.mod_history.proofs.Changing.{no_token, none_if, not_remembered, remembered}
 use Rattle.mod_history.proofs.change.remember.Goals as goal
 
-pub returns-in-None-clause-told : goal.returns-in-None-clause-told
-returns-in-None-clause-told g c = λ talks tells clock. no_token (plain_call c.args.asked.now.call.now) c.args.user.now c.args.hash.now c.args.token _ c.in-None.is
+pub returns-in_default-clause-told : goal.returns-in_default-clause-told
+returns-in_default-clause-told g c = λ talks tells clock. no_token (plain_call c.args.asked.now.call.now) c.args.user.now c.args.hash.now c.args.token _ (none_if c.args.token c.in_default.not-Some)
 
 pub returns-then-remember_of-eq0-clause-told : goal.returns-then-remember_of-eq0-clause-told
 returns-then-remember_of-eq0-clause-told g c = λ talks tells clock.

@@ -3,12 +3,12 @@ use Rattle.pam_outside.specs.Time.{ClockState}
 use Rattle.pam_room.specs.Plain.{plain_call}
 use Rattle.pam_room.specs.State.{PlainRoom}
 use Rattle.mod_history.specs.Pwhistory.{remember_of}
-use Rattle.mod_history.proofs.Changing.{no_history, not_used, used}
+use Rattle.mod_history.proofs.Changing.{no_history, none_if, not_used, used}
 use Rattle.mod_history.proofs.change.remember_in_history.Goals as goal
 
-pub returns-in-None-clause-told : goal.returns-in-None-clause-told
-returns-in-None-clause-told g c = λ talks tells clock.
-    no_history c.acting.ensures.caller (plain_call c.args.asked.now.call.now) (remember_of c.args.asked.now.call.now.args.now) c.args.user.now c.args.hash.now c.args.token.now c.args.history _ c.in-None.is
+pub returns-in_default-clause-told : goal.returns-in_default-clause-told
+returns-in_default-clause-told g c = λ talks tells clock.
+    no_history c.acting.ensures.caller (plain_call c.args.asked.now.call.now) (remember_of c.args.asked.now.call.now.args.now) c.args.user.now c.args.hash.now c.args.token.now c.args.history _ (none_if c.args.history c.in_default.not-Some)
 
 pub returns-then-refused-clause-told : goal.returns-then-refused-clause-told
 returns-then-refused-clause-told g c = λ talks tells clock.
