@@ -1,6 +1,7 @@
 -- Steps of a module's definition, put before the rest of the definition.
-use Rattle.std.proofs.Common.{◌≡◌, ℕ, max, Bool, true, false, List, [], ◌∷◌, ◌++◌, length, Some, unwrap_or, Result, Ok, Err, OnOk, is_ok, refl, sym, ap, ◌∙◌}
+use Rattle.std.proofs.Common.{◌≡◌, ℕ, max, ◌==◌, take, Bool, true, false, arith, List, [], ◌∷◌, ◌++◌, length, Some, unwrap_or, Result, Ok, Err, OnOk, is_ok, refl, sym, ap, ◌∙◌}
 use Rattle.std.proofs.lemmas.List.{append-nil}
+use Rattle.std.proofs.lemmas.Bool.Decides.{nat_tests}
 use Rattle.pam_base.specs.declared.code.Code.{Code}
 use Rattle.pam_base.specs.declared.code.Code.TheVariants.{ConvErr}
 use Rattle.pam_base.specs.declared.fault.NoMemory.{NoMemory}
@@ -113,6 +114,14 @@ module _ (t u : Transaction) (conv conv' : ConvState) (vault : VaultState) (cloc
   unfolding shows
   showing (Ok done) style text e = λ act known code end rest. carried (shows style text act) act known known _ _ code end (rw (← e, datums) refl) same_played rest
   showing (Err none) style text e = tt
+
+pub shown_empty : (style : Style) (text : List ℕ) (room : SeenRoom) → true ≡ (length text == 0) → room ≡ shown style text room
+shown_empty style [] room e = refl
+shown_empty style (b ∷ bs) room e = absurd (grind (arith, nat_tests))
+
+pub shown_cut : (style : Style) (text cut : List ℕ) (room new : SeenRoom) → false ≡ (length text == 0) → cut ≡ take 512 text → new ≡ (speak (record { style = style; text = cut } ∷ []) room).room → new ≡ shown style text room
+shown_cut style [] cut room new e s h = absurd (grind (arith, nat_tests))
+shown_cut style (b ∷ bs) cut room new e s h = h ∙ ap (λ (t : List ℕ). (speak (record { style = style; text = t } ∷ []) room).room) s
 
 pub with_items : (t u : Transaction) → u ≡ record t { said = u.said; put_off = u.put_off } → u ≡ record t { items = u.items; said = u.said; put_off = u.put_off }
 with_items t u e = e ∙ ap (λ (i : ItemTexts). record t { items = i; said = u.said; put_off = u.put_off }) (sym (ap (λ (x : Transaction). x.items) e))

@@ -1,5 +1,5 @@
 -- A module that talks.
-use Rattle.std.proofs.Common.{◌≡◌, ℕ, List, [], ◌++◌, refl, sym, ap, ◌∙◌, append_assoc, arith}
+use Rattle.std.proofs.Common.{◌≡◌, ◌⊎◌, inl, inr, ℕ, List, [], ◌++◌, refl, sym, ap, ◌∙◌, append_assoc, arith}
 use Rattle.std.proofs.lemmas.List.{append-nil}
 use Rattle.conv_port.specs.declared.message.Message.{Message}
 use Rattle.account_files.specs.item_store.specs.Items.{ItemTexts}
@@ -64,6 +64,10 @@ pub talking_sets : (t u : Transaction) (ledger : PlainLedger) → OnlyTalks t u 
 talking_sets t u ledger s = no_data_sets t u ledger (talking_no_data t u s)
 
 -- what was shown was said
+pub said_some : (old new more : List Message) → (new ≡ old) ⊎ (new ≡ old ++ more) → (said : List Message) × (new ≡ old ++ said)
+said_some old new more (inl e) = ([], e ∙ sym (append-nil old))
+said_some old new more (inr e) = (more, e)
+
 pub spoken : (t u : Transaction) → (more : List Message) × (u.said ≡ t.said ++ more) → u ≡ record t { said = u.said; put_off = u.put_off } → OnlyTalks t u
 spoken t u said others =
     let items : u.items ≡ t.items = ap (λ (x : Transaction). x.items) others in

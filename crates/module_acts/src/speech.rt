@@ -1,12 +1,9 @@
-ghost use Rattle.std.specs.Prelude.{◌≡◌, ◌≢◌, ◌++◌, None, IsTrue, OnOk, OnErr, List, unwrap_or, []};
-ghost use Rattle.conv_port.specs.declared.message.Message.{Message};
+ghost use Rattle.std.specs.Prelude.{◌≡◌, ◌≢◌, None, IsTrue, OnOk, OnErr, unwrap_or, []};
 ghost use Rattle.pam_outside.specs.Files.{VaultState};
 ghost use Rattle.pam_outside.specs.Time.{ClockState};
 ghost use Rattle.account_files.specs.pam_room.specs.Say.{signs};
-ghost use Rattle.account_files.specs.pam_room.specs.State.{PlainProcess, room_of};
-ghost use Rattle.account_files.specs.pam_room.specs.Module.{seen_of};
-ghost use Rattle.account_files.specs.pam_room.specs.Plain.{plain_transaction};
-ghost use Rattle.account_files.specs.Act.{Reaches, shown, shows};
+ghost use Rattle.account_files.specs.pam_room.specs.State.{PlainProcess};
+ghost use Rattle.account_files.specs.Act.{Reaches, shows};
 ghost use Rattle.module_acts.specs.Returns.{scene_of_parts};
 ghost use Rattle.module_acts.specs.OnlyTalks.{OnlyTalks};
 
@@ -49,33 +46,6 @@ pub fn show(
         ≡ signs (conv_faults conv.old) (conv_deferrals conv.old) transaction.old.put_off) }
     ensures items { transaction.new.items ≡ transaction.old.items }
     ensures talks { OnlyTalks transaction.old transaction.new }
-{
-    put_forward(alloc, transaction, conv, style, text)
-}
-
-// The same, in the form in which a conversation takes it.
-fn put_forward(
-    alloc: Global,
-    transaction: &mut Transaction,
-    conv: &mut dyn Conv,
-    style: Style,
-    text: &[u8],
-) -> Result<(), NoMemory>
-    ensures tells { conv_tells conv.new ≡ conv_tells conv.old }
-    ensures told { IsTrue (conv_tells conv.old) →
-        OnOk result (seen_of (room_of (plain_transaction transaction.new) (conv_holds conv.new))
-        ≡ shown style text.now (seen_of (room_of (plain_transaction transaction.old)
-        (conv_holds conv.old)))) }
-    ensures untaken { IsTrue (conv_tells conv.old) →
-        OnErr result (conv_holds conv.new ≡ conv_holds conv.old) }
-    ensures no_fault { OnErr result (signs (conv_faults conv.new)
-        (conv_deferrals conv.new) transaction.new.put_off
-        ≡ signs (conv_faults conv.old) (conv_deferrals conv.old) transaction.old.put_off) }
-    ensures said { (more : List Message) × (transaction.new.said ≡ transaction.old.said ++ more) }
-    ensures others { transaction.new ≡ record transaction.old {
-      said = transaction.new.said;
-      put_off = transaction.new.put_off;
-    } }
 {
     if text.is_empty() {
         return Ok(());
