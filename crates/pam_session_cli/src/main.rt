@@ -7,12 +7,9 @@
 
 mod objects;
 
-ghost use Rattle.std.specs.Prelude.{◌≡◌, []};
-
 use crate::objects::{Files, Replies, Time, objects_of};
 use command_line::{arguments, exit_status};
 use mod_basic::conv_port::{Conv, QueueConv, TermConv, WireConv};
-use mod_basic::data_cleanup::Ledger;
 use mod_basic::pam_room::{Module, Process, World};
 use mod_basic::{Debug, Deny, Permit, Probe, Rootok};
 use mod_env::Env as EnvModule;
@@ -97,7 +94,7 @@ fn run(rt: HostRuntime) -> io::Result<u8> {
         vault,
         clock,
         nap,
-        process: process_of_nobody(alloc),
+        process: Process::new(alloc, Text::new(alloc), CALLER),
     };
     let mut script = ReaderSource::new(rt.reader());
     let mut out = WriterSink::new(io::writer(&rt));
@@ -108,17 +105,4 @@ fn run(rt: HostRuntime) -> io::Result<u8> {
         delay,
     };
     Ok(pamsess(alloc, &words, &mut script, &mut out, &mut world, desk))
-}
-
-// A process of nobody, with an empty cleanup log.
-fn process_of_nobody(alloc: Global) -> Process
-    ensures caller { result.caller ≡ CALLER }
-    ensures no_births { result.ledger.births ≡ [] }
-    ensures no_receipts { result.ledger.filed ≡ [] }
-{
-    Process {
-        ledger: Ledger::new(alloc),
-        root: Text::new(alloc),
-        caller: CALLER,
-    }
 }
