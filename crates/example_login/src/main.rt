@@ -9,7 +9,6 @@ mod card;
 mod guest;
 
 use card::Card;
-use data_cleanup::Ledger;
 use fail_delay::DelayFn;
 use guest::Guest;
 use mod_basic::{Permit, Probe};
@@ -36,11 +35,7 @@ fn main(rt: HostRuntime) -> io::Result<ExitCode> {
         vault: Box::new(alloc, FolderVault::new(rt))?,
         clock: Box::new(alloc, RealClock::new(rt))?,
         nap: Box::new(alloc, SleepNap::new(rt))?,
-        process: Process {
-            ledger: Ledger::new(alloc),
-            root: Text::from_vec(Vec::from_slice(alloc, b"r")?),
-            caller: 65534,
-        },
+        process: Process::new(alloc, Text::from_vec(Vec::from_slice(alloc, b"r")?), 65534),
     };
     let conv = Box::new(alloc, Card::new())?;
     let mut cache = StartCache::new(alloc);

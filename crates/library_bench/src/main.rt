@@ -9,7 +9,6 @@ ghost use Rattle.pam_handle.specs.Plain.{plain_handle};
 ghost use Rattle.pam_handle.specs.Ready.{IsReadyFor};
 
 use conv_port::{Conv, QueueConv};
-use data_cleanup::Ledger;
 use fail_delay::DelayFn;
 use mod_basic::Permit;
 use pam_base::{Code, NoMemory, Numbers, Text};
@@ -68,11 +67,7 @@ fn let_in(alloc: Global, lines: u32, starts: u32, passes: u32) -> Result<Option<
         vault: Box::new(alloc, vault)?,
         clock: Box::new(alloc, FixedClock::new(0, 0))?,
         nap: Box::new(alloc, NapSum::new())?,
-        process: Process {
-            ledger: Ledger::new(alloc),
-            root: Text::new(alloc),
-            caller: 0,
-        },
+        process: Process::new(alloc, Text::new(alloc), 0),
     };
     let mut count = 0u32;
     for _ in 0..starts {

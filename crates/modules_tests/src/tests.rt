@@ -1,4 +1,3 @@
-mod forgetful;
 mod lists;
 mod scene;
 mod unix;

@@ -16,7 +16,6 @@ ghost use Rattle.pam_service.specs.Serving.{ServesFrames};
 ghost use Rattle.session_program.specs.ByCommand.{object_of, setup_of};
 
 use command_line::{arguments, exit_status};
-use data_cleanup::Ledger;
 use fail_delay::{DelayRule, LONGEST_ASKED};
 use front_conv::FrontConv;
 use mod_basic::conv_port::{Conv, TermConv, WireConv};
@@ -118,23 +117,10 @@ fn run(rt: HostRuntime) -> io::Result<u8> {
         vault: Box::new(alloc, FolderVault::new(rt))?,
         clock: Box::new(alloc, RealClock::new(rt))?,
         nap: Box::new(alloc, NapSum::new())?,
-        process: process_of(alloc, caller_of(&user)),
+        process: Process::new(alloc, Text::new(alloc), caller_of(&user)),
     };
     let talks = Conversations { convs, term };
     serve(alloc, &words, talks, &mut script, &mut out, &mut world)
-}
-
-// A process of a caller, with an empty cleanup log.
-fn process_of(alloc: Global, caller: u32) -> Process
-    ensures caller { result.caller ≡ caller }
-    ensures no_births { result.ledger.births ≡ [] }
-    ensures no_receipts { result.ledger.filed ≡ [] }
-{
-    Process {
-        ledger: Ledger::new(alloc),
-        root: Text::new(alloc),
-        caller,
-    }
 }
 
 // What the system says about the process; empty if it can't be read.

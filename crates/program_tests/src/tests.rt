@@ -4,7 +4,6 @@
 ghost use Rattle.std.specs.Prelude.{◌≡◌, []};
 
 use conv_port::{Conv, QueueConv};
-use data_cleanup::Ledger;
 use mod_basic::{Permit, Probe};
 use pam_base::{Code, Numbers, Text};
 use pam_outside::{FixedClock, MemSink, MemSource, MemVault, NapSum};
@@ -291,11 +290,7 @@ fn run_over(
         vault: Box::new(alloc, vault)?,
         clock: Box::new(alloc, FixedClock::new(7, 7))?,
         nap: Box::new(alloc, NapSum::new())?,
-        process: Process {
-            ledger: Ledger::new(alloc),
-            root: Text::new(alloc),
-            caller: CALLER,
-        },
+        process: Process::new(alloc, Text::new(alloc), CALLER),
     };
     let status = run_with(alloc, words, script, out, &mut world)?;
     Ok(Left {
@@ -316,7 +311,6 @@ fn run_with(
     requires no_births { world.old.process.ledger.births ≡ [] }
     requires no_receipts { world.old.process.ledger.filed ≡ [] }
 {
-    let term: Box<dyn Conv> = Box::new(alloc, QueueConv::new(alloc))?;
     let mut convs: Vec<Box<dyn Conv>> = Vec::new(alloc);
     for _ in 0..TRANSACTIONS {
         convs.push(Box::new(alloc, QueueConv::new(alloc))?)?;
@@ -324,12 +318,13 @@ fn run_with(
     let mut mods: Vec<Box<dyn Module>> = Vec::new(alloc);
     mods.push(Box::new(alloc, Permit::new())?)?;
     mods.push(Box::new(alloc, Probe::new())?)?;
-    let delay = |_code: Code, asked: u32| -> u32 { asked.min(3_000_000) };
     let desk = Desk {
         mods,
         convs,
-        term,
-        delay: Box::new(alloc, delay)?,
+        term: Box::new(alloc, QueueConv::new(alloc))?,
+        delay: Box::new(alloc, |_code: Code, asked: u32| -> u32 {
+            asked.min(3_000_000)
+        })?,
     };
     Ok(pamsess(alloc, words, script, out, world, desk))
 }

@@ -1,17 +1,19 @@
 use crate::tests::fakes::fakes;
 use crate::tests::scene::{Scene, play};
 use fail_delay::{DelayFn, DelayRule};
-use pam_base::{Code, Func, NoMemory};
+use pam_base::{Code, DATA_REPLACE as REPLACED, Func, NoMemory};
 use pam_handle::Gear;
 use std::test::Fail;
 
-// A scene, what each call returns (None if an allocation failed), what the lines run return, and
-// the id and status of each cleanup record.
+// A scene, what each call returns (None if an allocation failed), what the lines run return, how many cleanup records
+// there are before the end, the id, status and result of all of them, and what the file /stamp holds.
 struct Row {
     scene: Scene,
     answers: &'static [Option<Code>],
     visits: &'static [Code],
-    receipts: &'static [(u64, u32)],
+    swept: usize,
+    receipts: &'static [(u64, u32, u32)],
+    stamp: &'static [u8],
 }
 
 static ROWS: &[Row] = &[
@@ -28,7 +30,9 @@ static ROWS: &[Row] = &[
             Some(Code::Success),
         ],
         visits: &[Code::Success, Code::CredErr, Code::Success],
+        swept: 0,
         receipts: &[],
+        stamp: b"",
     },
     // what was set before memory ran out is cleaned up: at once if it is replaced, else at the end, the
     // last name first
@@ -40,7 +44,29 @@ static ROWS: &[Row] = &[
         },
         answers: &[None, None],
         visits: &[Code::CredErr, Code::Success],
-        receipts: &[(0, 0x2000_0000), (1, 0x2000_0000), (3, 9), (2, 9)],
+        swept: 4,
+        receipts: &[
+            (0, REPLACED, 1),
+            (1, REPLACED, 2),
+            (3, REPLACED, 1),
+            (2, REPLACED, 1),
+            (5, 9, 1),
+            (4, 9, 2),
+        ],
+        stamp: b"ready",
+    },
+    // also if no other line was run
+    Row {
+        scene: Scene {
+            file: b"auth required forgetful.so\n",
+            calls: &[(Func::Authenticate, 0)],
+            status: 5,
+        },
+        answers: &[None],
+        visits: &[],
+        swept: 1,
+        receipts: &[(0, REPLACED, 1), (2, 5, 1), (1, 5, 2)],
+        stamp: b"ready",
     },
     // what another module set before is, too; the program ends such a transaction with PAM_BUF_ERR (5)
     Row {
@@ -51,7 +77,9 @@ static ROWS: &[Row] = &[
         },
         answers: &[None],
         visits: &[Code::Success],
-        receipts: &[(0, 0x2000_0000), (2, 5), (1, 5)],
+        swept: 2,
+        receipts: &[(0, REPLACED, 256), (1, REPLACED, 1), (3, 5, 1), (2, 5, 2)],
+        stamp: b"ready",
     },
 ];
 
@@ -72,7 +100,9 @@ fn calls_go_by_their_flags_and_fail_without_memory(rt: HostRuntime) -> Result<()
             assert_eq!(rt; *answer, want.ok_or(NoMemory), "at {:?}", row.visits);
         }
         assert_eq!(rt; outcome.visits.as_slice(), row.visits);
+        assert_eq!(rt; outcome.swept, row.swept);
         assert_eq!(rt; outcome.receipts.as_slice(), row.receipts);
+        assert_eq!(rt; outcome.stamp.bytes(), row.stamp);
     }
     Ok(())
 }

@@ -1,12 +1,12 @@
 ghost use Rattle.std.specs.Prelude.{codes};
 ghost use Rattle.handle_tests.specs.Fakes.{establisher_code};
-ghost use Rattle.pam_room.specs.Module.{answered, keeps_files, length_note};
+ghost use Rattle.pam_room.specs.Module.{answered, leaves_anything, length_note};
 
 use conv_port::Conv;
 use data_cleanup::{Datum, Receipt};
 use mod_basic::{AtOnce, AtOnceModule, Probe};
 use pam_base::{Code, NoMemory};
-use pam_outside::{Clock, Vault};
+use pam_outside::{Clock, Vault, current_moment, replace_file};
 use pam_room::item_store::Items;
 use pam_room::{Call, Module, Process, Transaction, laws, spend_by_length};
 use std::alloc::Global;
@@ -33,7 +33,8 @@ impl AtOnce for Establisher {
     }
 }
 
-// Sets module data twice, and then runs out of memory.
+// Sets module data three times, the second in place of the first, writes whether the time 5 has come into the file
+// /stamp, and then runs out of memory.
 #[derive(Drop)]
 struct Forgetful;
 
@@ -46,7 +47,7 @@ impl Module for Forgetful {
 
     ghost note = { λ _. length_note };
 
-    ghost breaks = { λ _. keeps_files };
+    ghost breaks = { λ _. leaves_anything };
 
     fn name(&self) -> &[u8] {
         b"forgetful"
@@ -59,15 +60,21 @@ impl Module for Forgetful {
         transaction: &mut Transaction,
         process: &mut Process,
         _conv: &mut dyn Conv,
-        _vault: &mut dyn Vault,
-        _clock: &mut dyn Clock,
+        vault: &mut dyn Vault,
+        clock: &mut dyn Clock,
     ) -> Result<Code, NoMemory> {
         laws::nothing_is_set();
         laws::setting_goes_on();
         laws::set_data_are_sets();
-        laws::files_stay();
-        transaction.set_data(alloc, &mut process.ledger, b"a", b"xyz")?;
+        transaction.set_data(alloc, &mut process.ledger, b"a", b"x")?;
+        transaction.set_data(alloc, &mut process.ledger, b"a", b"yy")?;
         transaction.set_data(alloc, &mut process.ledger, b"b", b"z")?;
+        let stamp = if current_moment(&*clock) < 5 {
+            b"early"
+        } else {
+            b"ready"
+        };
+        let _written = replace_file(vault, alloc, b"/stamp", stamp);
         Err(NoMemory)
     }
 

@@ -5,12 +5,12 @@ use conv_port::QueueConv;
 use data_cleanup::Ledger;
 use pam_base::{Code, Func, NoMemory, Numbers, Text};
 use pam_handle::{Gear, GearTold, Handle, StartCache, Told};
-use pam_outside::{FixedClock, MemVault, NapSum};
+use pam_outside::{FixedClock, MemVault, NapSum, read_file};
 use pam_room::{Process, Room, RoomTold, World, WorldTold};
 use std::alloc::Global;
 use std::test::Fail;
 
-/// A transaction of the service `t`, with the file of its rules.
+/// A transaction of the service `t` at the time 5, with the file of its rules.
 #[derive(Clone, Copy)]
 pub struct Scene {
     pub file: &'static [u8],
@@ -27,8 +27,12 @@ pub struct Outcome {
     pub answers: Vec<Result<Code, NoMemory>>,
     /// What the lines that were run returned.
     pub visits: Vec<Code>,
-    /// The id and status of each cleanup record, those of the end among them.
-    pub receipts: Vec<(u64, u32)>,
+    /// How many cleanup records there were before the end.
+    pub swept: usize,
+    /// The id, status and result of each cleanup record, those of the end among them.
+    pub receipts: Vec<(u64, u32, u32)>,
+    /// What the file /stamp holds, nothing if there is none.
+    pub stamp: Text,
 }
 
 fn world(alloc: Global, file: &[u8]) -> Result<World, Fail> {
@@ -36,7 +40,7 @@ fn world(alloc: Global, file: &[u8]) -> Result<World, Fail> {
     vault.put(alloc, b"/etc/pam.d/t", file)?;
     Ok(World {
         vault: Box::new(alloc, vault)?,
-        clock: Box::new(alloc, FixedClock::new(0, 0))?,
+        clock: Box::new(alloc, FixedClock::new(5, 0))?,
         nap: Box::new(alloc, NapSum::new())?,
         process: Process {
             ledger: Ledger::new(alloc),
@@ -65,29 +69,32 @@ pub fn play(alloc: Global, gear: &Gear, scene: &Scene) -> Result<Outcome, Fail> 
     };
     let answers = call_all(alloc, gear, &mut world, &mut handle, scene.calls);
     let told = handle.take_told(alloc);
+    let swept = world.process.ledger.filed().len();
     let _conv = handle.end(gear, &mut world, scene.status);
-    outcome_of(alloc, answers?, &told, &world.process.ledger)
+    Ok(Outcome {
+        answers: answers?,
+        visits: codes_of(alloc, &told)?,
+        swept,
+        receipts: receipts(alloc, &world.process.ledger)?,
+        stamp: read_file(&mut *world.vault, alloc, b"/stamp", 4096).unwrap_or(Text::new(alloc)),
+    })
 }
 
-fn outcome_of(
-    alloc: Global,
-    answers: Vec<Result<Code, NoMemory>>,
-    told: &Told,
-    ledger: &Ledger,
-) -> Result<Outcome, Fail> {
-    let mut visits = Vec::new(alloc);
+fn codes_of(alloc: Global, told: &Told) -> Result<Vec<Code>, NoMemory> {
+    let mut codes = Vec::new(alloc);
     for visit in told.trail.items() {
-        visits.push(visit.answer)?;
+        codes.push(visit.answer)?;
     }
+    Ok(codes)
+}
+
+fn receipts(alloc: Global, ledger: &Ledger) -> Result<Vec<(u64, u32, u32)>, NoMemory> {
     let mut receipts = Vec::new(alloc);
     for filed in ledger.filed() {
-        receipts.push((filed.receipt.id, filed.receipt.status))?;
+        let receipt = filed.receipt;
+        receipts.push((receipt.id, receipt.status, receipt.note))?;
     }
-    Ok(Outcome {
-        answers,
-        visits,
-        receipts,
-    })
+    Ok(receipts)
 }
 
 fn call_all(

@@ -1,13 +1,12 @@
-ghost use Rattle.std.specs.Prelude.{◌≡◌, ◌<◌, ◌^◌, [], length};
+ghost use Rattle.std.specs.Prelude.{◌<◌, ◌^◌, length};
 ghost use Rattle.pam_room.specs.Plain.{plain_process, plain_transaction};
 ghost use Rattle.pam_room.specs.Stays.{IsReady};
 
 use conv_port::QueueConv;
-use data_cleanup::Ledger;
 use pam_base::{Code, Func, ItemName, NoMemory, Numbers, SharedText, Text, Texts};
 use pam_outside::{FixedClock, MemVault, NapSum, read_file};
 use pam_room::item_store::Items;
-use pam_room::{Call, Module, Process, Room, StackLine, Transaction, World, end_room, serve_line};
+use pam_room::{Call, Module, Process, Room, StackLine, World, end_room, serve_line};
 use std::alloc::Global;
 use std::test::Fail;
 
@@ -30,16 +29,10 @@ pub struct Scene<'a> {
 #[derive(Drop)]
 pub struct Outcome {
     pub answer: Result<Code, NoMemory>,
-    /// How many lines were run.
-    pub visits: usize,
-    /// How many cleanup records there were before the end.
-    pub swept: usize,
     /// The variables that are set, `NAME=VALUE` each.
     pub variables: Texts,
     /// What the file holds; nothing if it doesn't exist.
     pub file: Text,
-    /// The id, status and result of each cleanup record, those of the end among them.
-    pub receipts: Vec<(u64, u32, u32)>,
 }
 
 /// Has a module serve the call.
@@ -54,13 +47,10 @@ pub fn serve(alloc: Global, module: Box<dyn Module>, scene: &Scene) -> Result<Ou
         vault: Box::new(alloc, vault(alloc, scene)?)?,
         clock: Box::new(alloc, FixedClock::new(5, 0))?,
         nap: Box::new(alloc, NapSum::new())?,
-        process: process(alloc),
+        process: Process::new(alloc, Text::new(alloc), 0),
     };
     let conv = Box::new(alloc, QueueConv::new(alloc))?;
-    let mut room = Room {
-        transaction: Transaction::new(alloc, 1),
-        conv,
-    };
+    let mut room = Room::new(alloc, 1, conv);
     set_items(&mut room.transaction.items, scene);
     let call = Call {
         func: scene.func,
@@ -68,33 +58,13 @@ pub fn serve(alloc: Global, module: Box<dyn Module>, scene: &Scene) -> Result<Ou
         args: &args,
     };
     let answer = serve_first(alloc, &mods, &call, &mut room, &mut world);
-    let visits = room.transaction.trail.len();
-    let swept = world.process.ledger.filed().len();
     let variables = room.transaction.env.list(alloc);
     let _conv = end_room(&mods, room, &mut world.process, 5);
     Ok(Outcome {
         answer,
-        visits,
-        swept,
         variables: variables?,
         file: read_file(&mut *world.vault, alloc, scene.file, 4096).unwrap_or(Text::new(alloc)),
-        receipts: receipts(alloc, &world.process.ledger)?,
     })
-}
-
-// Memory of a process without data.
-fn process(alloc: Global) -> Process
-    ensures { plain_process result ≡ record {
-      ledger = record { births = []; filed = [] };
-      root = [];
-      caller = 0;
-    } }
-{
-    Process {
-        ledger: Ledger::new(alloc),
-        root: Text::new(alloc),
-        caller: 0,
-    }
 }
 
 fn vault(alloc: Global, scene: &Scene) -> Result<MemVault, Fail> {
@@ -105,15 +75,6 @@ fn vault(alloc: Global, scene: &Scene) -> Result<MemVault, Fail> {
         vault.put(alloc, path, bytes)?;
     }
     Ok(vault)
-}
-
-fn receipts(alloc: Global, ledger: &Ledger) -> Result<Vec<(u64, u32, u32)>, NoMemory> {
-    let mut receipts = Vec::new(alloc);
-    for filed in ledger.filed() {
-        let receipt = filed.receipt;
-        receipts.push((receipt.id, receipt.status, receipt.note))?;
-    }
-    Ok(receipts)
 }
 
 fn set_items(items: &mut Items, scene: &Scene) {

@@ -1,18 +1,17 @@
-ghost use Rattle.std.specs.Prelude.{◌≡◌, ◌<◌, ◌≤◌, ◌+◌, ◌^◌, [], IfOk, OnOk, length, map};
+ghost use Rattle.std.specs.Prelude.{◌≡◌, ◌<◌, ◌≤◌, ◌+◌, ◌^◌, IfOk, OnOk, length, map};
 ghost use Rattle.control_words.specs.Stack.{depth, lines_in, stack_of};
 ghost use Rattle.pam_room.specs.Plain.{plain_process, plain_transaction};
 ghost use Rattle.pam_room.specs.Stays.{IsReady};
 
 use control_words::{Keyword, Node, Nodes, Rule};
 use conv_port::QueueConv;
-use data_cleanup::Ledger;
 use dispatch_core::{PassRequest, Paused, dispatch};
 use frozen_chain::Kept;
 use handler_chain::flatten;
 use mod_basic::Deny;
 use pam_base::{Code, Func, NoMemory, Numbers, SharedText, Text, Texts};
 use pam_outside::{FixedClock, MemVault, NapSum};
-use pam_room::{Module, Process, Room, Transaction, World, end_room, name_of};
+use pam_room::{Module, Process, Room, World, end_room, name_of};
 use stack_walk::PassKind;
 use std::alloc::Global;
 use std::test::Fail;
@@ -76,21 +75,6 @@ fn names_in(alloc: Global, mods: &[Box<dyn Module>]) -> Result<Texts, NoMemory>
     Ok(names)
 }
 
-// Memory of a process without data.
-fn process(alloc: Global) -> Process
-    ensures { plain_process result ≡ record {
-      ledger = record { births = []; filed = [] };
-      root = [];
-      caller = 0;
-    } }
-{
-    Process {
-        ledger: Ledger::new(alloc),
-        root: Text::new(alloc),
-        caller: 0,
-    }
-}
-
 // A first run of authenticate.
 fn pass_over(
     alloc: Global,
@@ -147,13 +131,10 @@ fn a_failed_requisite_looks_at_no_substack_behind_it(rt: HostRuntime) -> Result<
         vault: Box::new(alloc, MemVault::new(alloc, Numbers::new(alloc)))?,
         clock: Box::new(alloc, FixedClock::new(0, 0))?,
         nap: Box::new(alloc, NapSum::new())?,
-        process: process(alloc),
+        process: Process::new(alloc, Text::new(alloc), 0),
     };
     let conv = Box::new(alloc, QueueConv::new(alloc))?;
-    let mut room = Room {
-        transaction: Transaction::new(alloc, 1),
-        conv,
-    };
+    let mut room = Room::new(alloc, 1, conv);
     let passed = pass_over(alloc, &nodes, &names, &mods, &mut room, &mut world);
     let visits = room.transaction.trail.len();
     let _conv = end_room(&mods, room, &mut world.process, 0);
