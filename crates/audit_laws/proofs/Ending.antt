@@ -18,7 +18,7 @@ use Rattle.session_run.specs.State.{Setting, RunState}
 use Rattle.session_run.specs.Step.{line_step, Fails}
 use Rattle.session_run.specs.Closings.{world_behind, text_of_end, closings_behind, closings, closings_text}
 use Rattle.session_run.specs.Whole.{ending_status, last_line}
-use Rattle.stack_walk.specs.Retell.{Seen}
+use Rattle.handler_chain.specs.Retell.{Seen}
 use Rattle.report_lines.specs.Line.{Block, closed_by_program, block_text, blocks_text, last_text, AreBlocks, IsLast}
 use Rattle.session_audit.specs.Fits.{SlotLog, shut, running, with_place, all_shut, fold_on, fold, behind_block, behind_at, behind_result, with_behind}
 use Rattle.session_audit.specs.Sound.{ArePrintable, AreSound}

@@ -5,3 +5,18 @@ pub mod Cleaning
 pub mod Growing
 pub mod Setting
 mod Rows
+pub mod Every
+pub mod Naming
+pub mod Looking
+pub mod Standing
+pub mod Tidying
+pub mod Counting
+pub mod OnceMore
+pub mod FiledOnce
+pub mod Lists
+pub mod Keeping
+pub mod Held
+pub mod Exact
+pub mod Once
+pub mod Whole
+pub mod Orderly

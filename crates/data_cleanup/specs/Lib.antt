@@ -8,3 +8,8 @@ pub mod Sets
 pub mod Grows
 pub mod Tidy
 pub mod Due
+pub mod Holding
+pub mod Stands
+pub mod Latest
+pub mod Kept
+pub mod Moves

@@ -6,8 +6,8 @@ use Rattle.control_words.specs.Stack.{Stack}
 use Rattle.handler_chain.specs.FlatLines.{rule_at}
 use Rattle.pam_room.specs.Module.{Player}
 use Rattle.pam_room.specs.State.{State}
-use Rattle.stack_walk.specs.Pass.{Answered, AnswersAs, decides, is_incomplete, pass_state, served_now, serving, visit}
-use Rattle.stack_walk.specs.Walk.{ServedAs}
+use Rattle.handler_chain.specs.Pass.{Answered, AnswersAs, decides, is_incomplete, pass_state, served_now, serving, visit}
+use Rattle.handler_chain.specs.Walk.{ServedAs}
 use Rattle.dispatch_core.specs.declared.request.PassRequest.{PassRequest}
 use Rattle.dispatch_core.specs.Done.{GivesLine}
 use Rattle.dispatch_core.specs.Lines.{answers_by}

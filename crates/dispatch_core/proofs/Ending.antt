@@ -3,11 +3,11 @@ use Rattle.std.proofs.Common.{◌≡◌, true, Some, None, is_some, List, refl, 
 use Rattle.pam_base.specs.declared.code.Code.{Code}
 use Rattle.frozen_chain.specs.Kept.{Answers}
 use Rattle.control_words.specs.Stack.{Stack}
-use Rattle.stack_walk.specs.declared.opinion.Opinion.{Opinion}
-use Rattle.stack_walk.specs.declared.pass_kind.PassKind.{PassKind}
-use Rattle.stack_walk.specs.Opinion.{verdict}
-use Rattle.stack_walk.specs.Pass.{PassState, Visit, pass_state, answers_of}
-use Rattle.stack_walk.specs.Walk.{Serving, Walked, walked, halted}
+use Rattle.handler_chain.specs.declared.opinion.Opinion.{Opinion}
+use Rattle.handler_chain.specs.declared.pass_kind.PassKind.{PassKind}
+use Rattle.handler_chain.specs.Opinion.{verdict}
+use Rattle.handler_chain.specs.Pass.{PassState, Visit, pass_state, answers_of}
+use Rattle.handler_chain.specs.Walk.{Serving, Walked, walked, halted}
 use Rattle.dispatch_core.specs.declared.walker.Walker.{Walker}
 use Rattle.dispatch_core.specs.AnswersSoFar.{AnswersView}
 use Rattle.dispatch_core.specs.Index.{walk_on}

@@ -3,9 +3,9 @@ use Rattle.std.proofs.Common.{◌≡◌, ◌≢◌, ◌<◌, List, length, slice
 use Rattle.std.proofs.lemmas.Bool.Decides.{nat_tests}
 use Rattle.std.proofs.lemmas.Grind.{get_or-set_at}
 use Rattle.std.proofs.lemmas.List.{get_or-set_other}
-use Rattle.stack_walk.specs.Opinion.{opening}
+use Rattle.handler_chain.specs.Opinion.{opening}
 use Rattle.handler_chain.specs.FlatLines.{pending}
-use Rattle.stack_walk.specs.declared.opinion.Opinion.{Opinion}
+use Rattle.handler_chain.specs.declared.opinion.Opinion.{Opinion}
 use Rattle.dispatch_core.specs.EntryStates.{Entries, entry_at, entered}
 
 pub entered_none : (level : ℕ) (o : Opinion) (f : Entries) (k : ℕ) → entered level 0 o f k ≡ f k

@@ -12,7 +12,7 @@ use Rattle.pam_room.specs.State.{PlainTransaction, State}
 use Rattle.pam_room.specs.Module.{Breaks, Note, Player, Plays, player_of}
 use Rattle.pam_room.specs.Serve.{LineBreaks, serve_line}
 use Rattle.pam_room.specs.Serve as room
-use Rattle.stack_walk.specs.Pass.{AnswersAs}
+use Rattle.handler_chain.specs.Pass.{AnswersAs}
 use Rattle.dispatch_core.specs.Failing.{BreaksAt, IsAtWork, visited_at}
 use Rattle.dispatch_core.specs.Lines.{answers_by, names_of}
 use Rattle.dispatch_core.proofs.Standing.{standing, at_line-stands}

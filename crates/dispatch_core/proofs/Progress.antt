@@ -5,9 +5,9 @@ use Rattle.std.proofs.lemmas.Bool.{cases_eq}
 use Rattle.std.proofs.lemmas.List.{length-replicate, length-set}
 use Rattle.pam_base.specs.declared.code.Code.{Code}
 use Rattle.frozen_chain.specs.Kept.{Answers, empty_cells, kept_at, lines_kept}
-use Rattle.stack_walk.specs.declared.pass_kind.PassKind.{PassKind}
-use Rattle.stack_walk.specs.declared.pass_kind.PassKind.TheVariants as kinds
-use Rattle.stack_walk.specs.Pass.{Visit, visit, kept_in, answers_of}
+use Rattle.handler_chain.specs.declared.pass_kind.PassKind.{PassKind}
+use Rattle.handler_chain.specs.declared.pass_kind.PassKind.TheVariants as kinds
+use Rattle.handler_chain.specs.Pass.{Visit, visit, kept_in, answers_of}
 use Rattle.dispatch_core.specs.Passes.{by_place, first_cells, Keeps}
 
 -- ---- cells

@@ -8,11 +8,11 @@ use Rattle.handler_chain.specs.FlatLines.{FlatLine, rule_at}
 use Rattle.pam_room.specs.declared.visits.Visit.{Visit as Visited}
 use Rattle.pam_room.specs.Module.{Player, notes_of}
 use Rattle.pam_room.specs.State.{PlainRoom, PlainWorld, State, state_of}
-use Rattle.stack_walk.specs.declared.pass_kind.PassKind.{PassKind}
-use Rattle.stack_walk.specs.Opinion.{opening}
-use Rattle.stack_walk.specs.Pass.{AnswersAs, Visit, answers_of, decides, pass_after, pass_state, serving, visit}
-use Rattle.stack_walk.specs.Retell.{replaying, telling}
-use Rattle.stack_walk.specs.Route.{KeptAnswers}
+use Rattle.handler_chain.specs.declared.pass_kind.PassKind.{PassKind}
+use Rattle.handler_chain.specs.Opinion.{opening}
+use Rattle.handler_chain.specs.Pass.{AnswersAs, Visit, answers_of, decides, pass_after, pass_state, serving, visit}
+use Rattle.handler_chain.specs.Retell.{replaying, telling}
+use Rattle.handler_chain.specs.Route.{KeptAnswers}
 use Rattle.dispatch_core.specs.declared.walker.Walker.{Walker}
 use Rattle.dispatch_core.specs.AnyWorld.{GoesSoundly}
 use Rattle.dispatch_core.specs.EntryStates.{entry_at}

@@ -3,9 +3,9 @@ use Rattle.std.proofs.Common.{◌≡◌, ◌+◌, ◌<◌, Option, Some, None, i
 use Rattle.pam_base.specs.declared.code.Code.{Code}
 use Rattle.control_words.specs.Stack.{Stack, lines_in}
 use Rattle.handler_chain.specs.FlatLines.{FlatLine, rule_at}
-use Rattle.stack_walk.specs.declared.pass_kind.PassKind.{PassKind}
-use Rattle.stack_walk.specs.Pass.{PassState, Visit, visit, pass_state}
-use Rattle.stack_walk.specs.Walk.{Serving, ServedAs, halted}
+use Rattle.handler_chain.specs.declared.pass_kind.PassKind.{PassKind}
+use Rattle.handler_chain.specs.Pass.{PassState, Visit, visit, pass_state}
+use Rattle.handler_chain.specs.Walk.{Serving, ServedAs, halted}
 use Rattle.dispatch_core.specs.declared.walker.Walker.{Walker}
 use Rattle.dispatch_core.specs.Index.{walk_on, GoesOn, Stands}
 use Rattle.dispatch_core.specs.Passes.{answer_in, visits_with}

@@ -13,13 +13,13 @@ use Rattle.handler_chain.specs.FlatLines.{rule_at}
 use Rattle.pam_room.specs.declared.visits.Visit.{Visit as Visited}
 use Rattle.pam_room.specs.Module.{Player}
 use Rattle.pam_room.specs.State.{State}
-use Rattle.stack_walk.specs.declared.pass_kind.PassKind.{PassKind}
-use Rattle.stack_walk.specs.declared.pass_kind.PassKind.TheVariants as kinds
-use Rattle.stack_walk.specs.Opinion.{opening, verdict}
-use Rattle.stack_walk.specs.Pass.{Answered, PassState, Visit, answers_of, decides, is_incomplete, pass_after, pass_state, served_now, serving, visit}
-use Rattle.stack_walk.specs.Retell.{Seen, Telling, answer_told, replaying, seen_at, strays, telling}
-use Rattle.stack_walk.specs.Route.{KeptAnswers}
-use Rattle.stack_walk.specs.Walk.{ServedAs, Walked}
+use Rattle.handler_chain.specs.declared.pass_kind.PassKind.{PassKind}
+use Rattle.handler_chain.specs.declared.pass_kind.PassKind.TheVariants as kinds
+use Rattle.handler_chain.specs.Opinion.{opening, verdict}
+use Rattle.handler_chain.specs.Pass.{Answered, PassState, Visit, answers_of, decides, is_incomplete, pass_after, pass_state, served_now, serving, visit}
+use Rattle.handler_chain.specs.Retell.{Seen, Telling, answer_told, replaying, seen_at, strays, telling}
+use Rattle.handler_chain.specs.Route.{KeptAnswers}
+use Rattle.handler_chain.specs.Walk.{ServedAs, Walked}
 use Rattle.dispatch_core.specs.declared.walker.Walker.{Walker}
 use Rattle.dispatch_core.specs.EntryStates.{entry_at}
 use Rattle.dispatch_core.specs.Failing.{GoesBy, IsAsked, Takes, visited_at}

@@ -9,10 +9,10 @@ use Rattle.control_words.specs.declared.nodes.Rule.{Rule}
 use Rattle.control_words.specs.Control.{action_at}
 use Rattle.control_words.specs.Stack.{Stack, count, lines_in}
 use Rattle.handler_chain.specs.FlatLines.{FlatLine, flat_lines, lines_in_first, no_rule, rule_at, end_at, target_at}
-use Rattle.stack_walk.specs.declared.opinion.Opinion.{Opinion}
-use Rattle.stack_walk.specs.declared.pass_kind.PassKind.{PassKind}
-use Rattle.stack_walk.specs.Opinion.{acted, overrun, opening}
-use Rattle.stack_walk.specs.Walk.{Serving, Served, ServedAs, Walked, walked, halted, pass, ends, after, stop, next_of, settled}
+use Rattle.handler_chain.specs.declared.opinion.Opinion.{Opinion}
+use Rattle.handler_chain.specs.declared.pass_kind.PassKind.{PassKind}
+use Rattle.handler_chain.specs.Opinion.{acted, overrun, opening}
+use Rattle.handler_chain.specs.Walk.{Serving, Served, ServedAs, Walked, walked, halted, pass, ends, after, stop, next_of, settled}
 use Rattle.dispatch_core.specs.declared.walker.Walker.{Walker}
 use Rattle.dispatch_core.specs.EntryStates.{Entries, entry_at, entered}
 use Rattle.dispatch_core.specs.Index.{passed, run, run_from, walk_on, LeadsTo, GoesOn, Stands}

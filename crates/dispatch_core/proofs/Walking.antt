@@ -7,10 +7,10 @@ use Rattle.control_words.specs.Control.{action_at}
 use Rattle.control_words.specs.Stack.{Stack, none, line, sub, count, lines_in}
 use Rattle.handler_chain.specs.FlatLines.{FlatLine, flat_line, flat_lines, pending, lines_in_first}
 use Rattle.dispatch_core.proofs.Standing.{flat_lines-count}
-use Rattle.stack_walk.specs.declared.opinion.Opinion.{Opinion}
-use Rattle.stack_walk.specs.declared.pass_kind.PassKind.{PassKind}
-use Rattle.stack_walk.specs.Opinion.{acted, opening}
-use Rattle.stack_walk.specs.Walk.{Serving, Served, Walked, walked, halted, ends, Next, after, stop, next_of, settled, onward, walk, pass}
+use Rattle.handler_chain.specs.declared.opinion.Opinion.{Opinion}
+use Rattle.handler_chain.specs.declared.pass_kind.PassKind.{PassKind}
+use Rattle.handler_chain.specs.Opinion.{acted, opening}
+use Rattle.handler_chain.specs.Walk.{Serving, Served, Walked, walked, halted, ends, Next, after, stop, next_of, settled, onward, walk, pass}
 use Rattle.dispatch_core.specs.EntryStates.{Entries, entered}
 use Rattle.dispatch_core.specs.Index.{passed, run, run_from}
 use Rattle.dispatch_core.proofs.Entering.{entered_none, entered_under, entered_first, entered_closed, pending_none, pending_line, pending_sum}

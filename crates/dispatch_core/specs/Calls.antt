@@ -7,11 +7,11 @@ use Rattle.pam_base.specs.declared.code.Code.TheVariants as codes
 use Rattle.pam_base.specs.declared.call.Func.{Func}
 use Rattle.pam_base.specs.declared.call.Func.TheVariants.{Authenticate, SetCred, AcctMgmt, OpenSession, CloseSession, ChAuthTok}
 use Rattle.control_words.specs.Stack.{Stack}
-use Rattle.stack_walk.specs.declared.pass_kind.PassKind.{PassKind}
-use Rattle.stack_walk.specs.declared.pass_kind.PassKind.TheVariants as kinds
-use Rattle.stack_walk.specs.Walk.{Walked, code_of}
-use Rattle.stack_walk.specs.Route.{KeptAnswers}
-use Rattle.stack_walk.specs.Pass.{PassState, Visit, Answering, kept_in, pass_after}
+use Rattle.handler_chain.specs.declared.pass_kind.PassKind.{PassKind}
+use Rattle.handler_chain.specs.declared.pass_kind.PassKind.TheVariants as kinds
+use Rattle.handler_chain.specs.Walk.{Walked, code_of}
+use Rattle.handler_chain.specs.Route.{KeptAnswers}
+use Rattle.handler_chain.specs.Pass.{PassState, Visit, Answering, kept_in, pass_after}
 use Rattle.service_load.specs.Stacks.{Stacks}
 use Rattle.dispatch_core.specs.Passes.{paused_after}
 use Rattle.dispatch_core.specs.Pending.{Pending, pending_after, past_in, first_in}

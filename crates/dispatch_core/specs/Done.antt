@@ -10,11 +10,11 @@ use Rattle.pam_room.specs.Module.{Player}
 use Rattle.pam_room.specs.Plain.{plain_transaction}
 use Rattle.pam_room.specs.State.{PlainRoom, PlainWorld, State, state_of}
 use Rattle.pam_room.specs.declared.room.Room.{Room}
-use Rattle.stack_walk.specs.declared.pass_kind.PassKind.{PassKind}
-use Rattle.stack_walk.specs.Pass.{PassState, Visit, decides, pass_after, pass_state, serving}
-use Rattle.stack_walk.specs.Retell.{Telling}
-use Rattle.stack_walk.specs.Route.{KeptAnswers}
-use Rattle.stack_walk.specs.Walk.{ServedAs, Walked}
+use Rattle.handler_chain.specs.declared.pass_kind.PassKind.{PassKind}
+use Rattle.handler_chain.specs.Pass.{PassState, Visit, decides, pass_after, pass_state, serving}
+use Rattle.handler_chain.specs.Retell.{Telling}
+use Rattle.handler_chain.specs.Route.{KeptAnswers}
+use Rattle.handler_chain.specs.Walk.{ServedAs, Walked}
 use Rattle.dispatch_core.specs.declared.request.PassRequest.{PassRequest}
 use Rattle.dispatch_core.specs.declared.pass_memory.PassMemory.{PassMemory}
 use Rattle.dispatch_core.specs.Failing.{BreaksAt, IsAtWork, IsUntouched, StopsAt, Takes}

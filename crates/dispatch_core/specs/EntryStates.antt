@@ -1,7 +1,7 @@
 -- The states of the stack in which the lists around a line were entered, by their levels.
 use Rattle.std.specs.Prelude.{ℕ, ◌+◌, ◌&&◌, if◌then◌else◌, nat_le, nat_lt, List, get_or}
-use Rattle.stack_walk.specs.declared.opinion.Opinion.{Opinion}
-use Rattle.stack_walk.specs.Opinion.{opening}
+use Rattle.handler_chain.specs.declared.opinion.Opinion.{Opinion}
+use Rattle.handler_chain.specs.Opinion.{opening}
 
 abbrev pub Entries : Type 0
 Entries = ℕ → Opinion

@@ -10,12 +10,12 @@ use Rattle.pam_room.specs.declared.visits.Visit.{Visit as Visited}
 use Rattle.pam_room.specs.Module.{Player, notes_of}
 use Rattle.pam_room.specs.Serve.{LineBreaks}
 use Rattle.pam_room.specs.State.{PlainRoom, PlainTransaction, State}
-use Rattle.stack_walk.specs.declared.opinion.Opinion.{Opinion}
-use Rattle.stack_walk.specs.declared.pass_kind.PassKind.{PassKind}
-use Rattle.stack_walk.specs.Route.{KeptAnswers}
-use Rattle.stack_walk.specs.Walk.{halted}
-use Rattle.stack_walk.specs.Pass.{Answering, AnswersAs, Visit, answers_of, is_incomplete, pass_after, pass_state, serving, visit}
-use Rattle.stack_walk.specs.Retell.{Seen, replaying, telling}
+use Rattle.handler_chain.specs.declared.opinion.Opinion.{Opinion}
+use Rattle.handler_chain.specs.declared.pass_kind.PassKind.{PassKind}
+use Rattle.handler_chain.specs.Route.{KeptAnswers}
+use Rattle.handler_chain.specs.Walk.{halted}
+use Rattle.handler_chain.specs.Pass.{Answering, AnswersAs, Visit, answers_of, is_incomplete, pass_after, pass_state, serving, visit}
+use Rattle.handler_chain.specs.Retell.{Seen, replaying, telling}
 use Rattle.dispatch_core.specs.AnyWorld.{GoesSoundly}
 use Rattle.dispatch_core.specs.declared.walker.Walker.{Walker}
 use Rattle.dispatch_core.specs.Index.{walk_on}

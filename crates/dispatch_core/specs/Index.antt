@@ -5,10 +5,10 @@ use Rattle.control_words.specs.declared.control.Action.{Action}
 use Rattle.control_words.specs.Control.{action_at}
 use Rattle.control_words.specs.Stack.{Stack, count}
 use Rattle.handler_chain.specs.FlatLines.{FlatLine, flat_lines, lines_in_first}
-use Rattle.stack_walk.specs.declared.opinion.Opinion.{Opinion}
-use Rattle.stack_walk.specs.declared.pass_kind.PassKind.{PassKind}
-use Rattle.stack_walk.specs.Opinion.{acted}
-use Rattle.stack_walk.specs.Walk.{Serving, Walked, walked, halted, Next, after, stop, next_of, settled}
+use Rattle.handler_chain.specs.declared.opinion.Opinion.{Opinion}
+use Rattle.handler_chain.specs.declared.pass_kind.PassKind.{PassKind}
+use Rattle.handler_chain.specs.Opinion.{acted}
+use Rattle.handler_chain.specs.Walk.{Serving, Walked, walked, halted, Next, after, stop, next_of, settled}
 use Rattle.dispatch_core.specs.declared.walker.Walker.{Walker}
 use Rattle.dispatch_core.specs.EntryStates.{Entries, entry_at, entered}
 

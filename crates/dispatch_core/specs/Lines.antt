@@ -7,7 +7,7 @@ use Rattle.pam_room.specs.State.{State}
 use Rattle.pam_room.specs.Call.{PlainCall}
 use Rattle.pam_room.specs.Module.{Player}
 use Rattle.pam_room.specs.Serve.{serve_line}
-use Rattle.stack_walk.specs.Pass.{Answering}
+use Rattle.handler_chain.specs.Pass.{Answering}
 
 abbrev pub names_of : List Player → List (List ℕ)
 names_of players = map (λ (p : Player). p.name) players

@@ -4,12 +4,12 @@ use Rattle.pam_base.specs.declared.code.Code.{Code}
 use Rattle.pam_base.specs.declared.code.Code.TheVariants as codes
 use Rattle.pam_base.specs.declared.fault.NoMemory.{NoMemory}
 use Rattle.frozen_chain.specs.Kept.{Answers, answer_at, empty_cells}
-use Rattle.stack_walk.specs.declared.pass_kind.PassKind.{PassKind}
-use Rattle.stack_walk.specs.declared.pass_kind.PassKind.TheVariants as kinds
-use Rattle.stack_walk.specs.Opinion.{verdict}
-use Rattle.stack_walk.specs.Walk.{Walked, code_of}
-use Rattle.stack_walk.specs.Route.{KeptAnswers}
-use Rattle.stack_walk.specs.Pass.{PassState, Visit, visit, kept_in, answers_of}
+use Rattle.handler_chain.specs.declared.pass_kind.PassKind.{PassKind}
+use Rattle.handler_chain.specs.declared.pass_kind.PassKind.TheVariants as kinds
+use Rattle.handler_chain.specs.Opinion.{verdict}
+use Rattle.handler_chain.specs.Walk.{Walked, code_of}
+use Rattle.handler_chain.specs.Route.{KeptAnswers}
+use Rattle.handler_chain.specs.Pass.{PassState, Visit, visit, kept_in, answers_of}
 use Rattle.dispatch_core.specs.AnswersSoFar.{AnswersView}
 
 -- cached codes by rule number, from 1

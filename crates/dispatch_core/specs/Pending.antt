@@ -3,7 +3,7 @@ use Rattle.std.specs.Prelude.{Bool, true, false, not, Option, Some, None, List, 
 use Rattle.pam_base.specs.declared.code.Code.{Code}
 use Rattle.pam_base.specs.declared.call.Func.{Func}
 use Rattle.pam_base.specs.declared.call.Func.TheVariants.{Authenticate, SetCred, AcctMgmt, OpenSession, CloseSession, ChAuthTok}
-use Rattle.stack_walk.specs.Route.{KeptAnswers}
+use Rattle.handler_chain.specs.Route.{KeptAnswers}
 
 -- an incomplete stack call: its function, the codes in the incomplete pass, and if that is the second pass of
 -- chauthtok, the codes that the first one cached

@@ -4,11 +4,11 @@ use Rattle.pam_base.specs.declared.code.Code.{Code}
 use Rattle.control_words.specs.Module.{name_of_module}
 use Rattle.control_words.specs.Stack.{Stack}
 use Rattle.pam_room.specs.declared.visits.Visit.{Visit as Visited}
-use Rattle.stack_walk.specs.declared.pass_kind.PassKind.{PassKind}
-use Rattle.stack_walk.specs.Pass.{PassState, pass_after}
-use Rattle.stack_walk.specs.Retell.{Seen, Telling, replaying, seen_at, telling}
-use Rattle.stack_walk.specs.Route.{KeptAnswers}
-use Rattle.stack_walk.specs.Walk.{Walked}
+use Rattle.handler_chain.specs.declared.pass_kind.PassKind.{PassKind}
+use Rattle.handler_chain.specs.Pass.{PassState, pass_after}
+use Rattle.handler_chain.specs.Retell.{Seen, Telling, replaying, seen_at, telling}
+use Rattle.handler_chain.specs.Route.{KeptAnswers}
+use Rattle.handler_chain.specs.Walk.{Walked}
 
 -- a line run, as a replay has it
 abbrev pub seen_of : Visited → Seen

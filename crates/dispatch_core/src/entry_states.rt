@@ -1,8 +1,8 @@
 ghost use Rattle.std.specs.Prelude.{◌≡◌, ◌≤◌, ◌<◌, ℕ, length};
-ghost use Rattle.stack_walk.specs.Opinion.{opening};
+ghost use Rattle.handler_chain.specs.Opinion.{opening};
 ghost use Rattle.dispatch_core.specs.EntryStates.{entry_at, entered};
 
-use stack_walk::Opinion;
+use handler_chain::Opinion;
 use std::marker::Model;
 
 /// The states of the stack in which the lists around a line were entered, indexed by the number of
@@ -14,7 +14,7 @@ pub struct EntryStates {
 
 impl Model for EntryStates {
     ghost use Rattle.std.specs.Prelude.{List};
-    ghost use Rattle.stack_walk.specs.declared.opinion.Opinion.{Opinion};
+    ghost use Rattle.handler_chain.specs.declared.opinion.Opinion.{Opinion};
 
     ghost Value = { List Opinion };
 

@@ -1,6 +1,6 @@
 //! One pass over a flattened stack, libpam's `_pam_dispatch`: each line's module serves the call,
 //! and the walker goes on as the line's list does. Whatever the modules do, the pass is the walk
-//! over the nested stack of `stack_walk`.
+//! over the nested stack of `handler_chain`.
 //!
 //! Begin at pass.rt; turn.rt is one line, and walker.rt with next_line.rt decides where the pass goes
 //! on after it.
@@ -26,4 +26,3 @@ pub use pam_room::{conv_port, fail_delay, pam_outside};
 pub use pass::dispatch;
 pub use request::PassRequest;
 pub use service_load;
-pub use stack_walk;

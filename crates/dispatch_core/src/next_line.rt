@@ -4,8 +4,7 @@ ghost use Rattle.handler_chain.specs.FlatLines.{FlatLine};
 ghost use Rattle.dispatch_core.specs.Index.{LeadsTo, Stands};
 
 use control_words::Action;
-use handler_chain::Chain;
-use stack_walk::Opinion;
+use handler_chain::{Chain, Opinion};
 
 /// Where a list goes on after a line, and in what state.
 #[derive(Clone, Copy)]

@@ -16,10 +16,9 @@ use crate::request::PassRequest;
 use crate::turn::{act_on, next_answer};
 use crate::walker::Walker;
 use frozen_chain::{Kept, Paused};
-use handler_chain::Chain;
+use handler_chain::{Chain, PassKind};
 use pam_base::{Code, NoMemory};
 use pam_room::{Module, Room, RoomTold, World, WorldTold};
-use stack_walk::PassKind;
 use std::alloc::Global;
 
 // Walks a stack from its first line (the loop of libpam's `_pam_dispatch_aux`). Returns its code,

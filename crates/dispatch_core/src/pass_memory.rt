@@ -7,10 +7,9 @@ ghost use Rattle.dispatch_core.specs.Paths.{HasPaths};
 use crate::answers_so_far::AnswersSoFar;
 use crate::paths::Paths;
 use frozen_chain::{Kept, Paused};
-use handler_chain::Chain;
+use handler_chain::{Chain, PassKind};
 use pam_base::NoMemory;
 use pam_room::{Room, RoomTold};
-use stack_walk::PassKind;
 use std::alloc::Global;
 
 /// Memory that a pass uses up, allocated before, so that it does not allocate between two modules.

@@ -1,5 +1,5 @@
+use handler_chain::PassKind;
 use pam_base::Func;
-use stack_walk::PassKind;
 
 /// What a pass is for: the function that its modules serve, with the flags of the application's
 /// call, and whether its return codes are cached, or cached ones are used (libpam:

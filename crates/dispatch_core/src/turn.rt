@@ -4,7 +4,7 @@ ghost use Rattle.frozen_chain.specs.Kept.{kept_at, lines_kept};
 ghost use Rattle.handler_chain.specs.FlatLines.{FlatLine};
 ghost use Rattle.pam_room.specs.Stays.{AreReady};
 ghost use Rattle.pam_room.specs.Module.{player_of};
-ghost use Rattle.stack_walk.specs.Pass.{decides, is_incomplete};
+ghost use Rattle.handler_chain.specs.Pass.{decides, is_incomplete};
 ghost use Rattle.dispatch_core.specs.AnyWorld.{PassStays};
 ghost use Rattle.dispatch_core.specs.Done.{GivesLine, LineDone};
 ghost use Rattle.dispatch_core.specs.Failing.{GoesBy};
@@ -17,11 +17,10 @@ use crate::pass_memory::PassMemory;
 use crate::request::PassRequest;
 use crate::walker::Walker;
 use frozen_chain::Kept;
-use handler_chain::Chain;
+use handler_chain::{Chain, PassKind};
 use pam_base::{Code, NoMemory};
 use pam_room::data_cleanup::laws;
 use pam_room::{Both, Call, Module, Room, RoomTold, Told, World, WorldTold, serve_line};
-use stack_walk::PassKind;
 use std::alloc::Global;
 
 /// Whether a code leaves the pass incomplete.

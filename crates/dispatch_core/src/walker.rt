@@ -1,8 +1,7 @@
 use crate::entry_states::EntryStates;
 use crate::next_line::next_line_after;
-use handler_chain::Chain;
+use handler_chain::{Chain, Opinion, PassKind};
 use pam_base::Code;
-use stack_walk::{Opinion, PassKind};
 
 /// Where a pass is: the index of its next line, the state of the stack, and the states with which
 /// the lists around it were entered.
@@ -17,7 +16,7 @@ impl Walker {
     ghost use Rattle.std.specs.Prelude.{◌≡◌, ◌<◌, ◌≤◌, ◌+◌, ℕ};
     ghost use Rattle.control_words.specs.Stack.{lines_in};
     ghost use Rattle.handler_chain.specs.FlatLines.{FlatLine};
-    ghost use Rattle.stack_walk.specs.Opinion.{opening};
+    ghost use Rattle.handler_chain.specs.Opinion.{opening};
     ghost use Rattle.dispatch_core.specs.EntryStates.{entry_at};
     ghost use Rattle.dispatch_core.specs.Index.{GoesOn, Stands};
 

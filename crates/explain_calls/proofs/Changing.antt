@@ -3,8 +3,8 @@ use Rattle.std.proofs.Common.{◌≡◌, ℕ, List, ◌++◌, Option, None, sym,
 use Rattle.std.specs.Prelude.{Result, Ok, Err, OnOk}
 use Rattle.pam_base.specs.declared.code.Code.{Code}
 use Rattle.service_load.specs.Stacks.{Stacks}
-use Rattle.stack_walk.specs.Retell.{Telling}
-use Rattle.stack_walk.specs.Route.{KeptAnswers}
+use Rattle.handler_chain.specs.Retell.{Telling}
+use Rattle.handler_chain.specs.Route.{KeptAnswers}
 use Rattle.pass_replay.specs.dispatch_core.specs.Calls.{Held}
 use Rattle.explain_lines.specs.Origins.{Sources}
 use Rattle.explain_calls.specs.Calls.{change_text, check_text}

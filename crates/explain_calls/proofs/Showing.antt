@@ -7,10 +7,10 @@ use Rattle.control_words.specs.declared.nodes.Nodes.{Nodes}
 use Rattle.control_words.specs.declared.nodes.Rule.{Rule}
 use Rattle.control_words.specs.Control.{action_at}
 use Rattle.control_words.specs.Stack.{Stack, none, line, sub, count, lines_in, node_on, row_stack, stack_of}
-use Rattle.stack_walk.specs.declared.opinion.Opinion.{Opinion}
-use Rattle.stack_walk.specs.declared.pass_kind.PassKind.{PassKind}
-use Rattle.stack_walk.specs.Opinion.{acted}
-use Rattle.stack_walk.specs.Walk.{Serving, Served, ServedAs, Walked, walk, walked, next_of, settled}
+use Rattle.handler_chain.specs.declared.opinion.Opinion.{Opinion}
+use Rattle.handler_chain.specs.declared.pass_kind.PassKind.{PassKind}
+use Rattle.handler_chain.specs.Opinion.{acted}
+use Rattle.handler_chain.specs.Walk.{Serving, Served, ServedAs, Walked, walk, walked, next_of, settled}
 use Rattle.pass_replay.specs.Walk.{skip_of, WalkEnds}
 use Rattle.explain_lines.specs.declared.row.Fate.{Fate}
 use Rattle.explain_lines.specs.declared.row.Fate.TheVariants.{Ran, Waits, Unreached}

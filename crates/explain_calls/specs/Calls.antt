@@ -9,10 +9,10 @@ use Rattle.service_load.specs.declared.rule_type.RuleType.{RuleType}
 use Rattle.service_load.specs.declared.rule_type.RuleType.TheVariants.{Auth, Account, Password, Session}
 use Rattle.service_load.specs.Stacks.{Stacks}
 use Rattle.control_words.specs.Stack.{Stack}
-use Rattle.stack_walk.specs.declared.pass_kind.PassKind.{PassKind}
-use Rattle.stack_walk.specs.declared.pass_kind.PassKind.TheVariants.{Keep, Follow}
-use Rattle.stack_walk.specs.Retell.{Telling}
-use Rattle.stack_walk.specs.Route.{KeptAnswers}
+use Rattle.handler_chain.specs.declared.pass_kind.PassKind.{PassKind}
+use Rattle.handler_chain.specs.declared.pass_kind.PassKind.TheVariants.{Keep, Follow}
+use Rattle.handler_chain.specs.Retell.{Telling}
+use Rattle.handler_chain.specs.Route.{KeptAnswers}
 use Rattle.pass_replay.specs.dispatch_core.specs.Calls.{Held, answers_held, following, first_pass}
 use Rattle.pass_replay.specs.dispatch_core.specs.Pending.{first_in, past_in}
 use Rattle.pass_replay.specs.Replay.{as_told}

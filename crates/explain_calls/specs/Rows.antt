@@ -3,13 +3,13 @@ use Rattle.std.specs.Prelude.{ℕ, zero, suc, ◌+◌, ◌-◌, drop, length, if
 use Rattle.pam_base.specs.declared.code.Code.{Code}
 use Rattle.control_words.specs.Control.{action_at}
 use Rattle.control_words.specs.Stack.{Stack, none, line, sub, count, lines_in}
-use Rattle.stack_walk.specs.declared.opinion.Opinion.{Opinion}
-use Rattle.stack_walk.specs.declared.pass_kind.PassKind.{PassKind}
-use Rattle.stack_walk.specs.Opinion.{acted, opening}
-use Rattle.stack_walk.specs.Walk.{Next, after, stop, next_of, settled, Serving, walk}
-use Rattle.stack_walk.specs.Pass.{pass_state, serving}
-use Rattle.stack_walk.specs.Retell.{Telling, replaying}
-use Rattle.stack_walk.specs.Route.{KeptAnswers}
+use Rattle.handler_chain.specs.declared.opinion.Opinion.{Opinion}
+use Rattle.handler_chain.specs.declared.pass_kind.PassKind.{PassKind}
+use Rattle.handler_chain.specs.Opinion.{acted, opening}
+use Rattle.handler_chain.specs.Walk.{Next, after, stop, next_of, settled, Serving, walk}
+use Rattle.handler_chain.specs.Pass.{pass_state, serving}
+use Rattle.handler_chain.specs.Retell.{Telling, replaying}
+use Rattle.handler_chain.specs.Route.{KeptAnswers}
 use Rattle.pass_replay.specs.Walk.{skip_of}
 use Rattle.explain_lines.specs.declared.row.Fate.{Fate}
 use Rattle.explain_lines.specs.declared.row.Fate.TheVariants.{Ran, Waits, Jumped, Ended, Unreached}

@@ -1,9 +1,9 @@
 -- What is left of a walk after a line (this project's own).
 use Rattle.std.specs.Prelude.{ℕ, Option, Some, None}
 use Rattle.control_words.specs.Stack.{Stack}
-use Rattle.stack_walk.specs.declared.opinion.Opinion.{Opinion}
-use Rattle.stack_walk.specs.declared.pass_kind.PassKind.{PassKind}
-use Rattle.stack_walk.specs.Walk.{Serving, Walked, walk, halted}
+use Rattle.handler_chain.specs.declared.opinion.Opinion.{Opinion}
+use Rattle.handler_chain.specs.declared.pass_kind.PassKind.{PassKind}
+use Rattle.handler_chain.specs.Walk.{Serving, Walked, walk, halted}
 use Rattle.explain_calls.specs.declared.turn.Turn.{Turn}
 
 -- the walk goes on, or None if it waits there

@@ -2,7 +2,7 @@ ghost use Rattle.std.specs.Prelude.{◌≡◌, ◌≤◌, ◌++◌, [], None, On
 ghost use Rattle.control_words.specs.Stack.{lines_in, stack_of};
 ghost use Rattle.service_load.specs.Load.{AreBounded};
 ghost use Rattle.service_load.specs.Trees.{nodes_in};
-ghost use Rattle.stack_walk.specs.Retell.{telling};
+ghost use Rattle.handler_chain.specs.Retell.{telling};
 ghost use Rattle.pass_replay.specs.dispatch_core.specs.Calls.{Held as Holding, following};
 ghost use Rattle.pass_replay.specs.Held.{held_of};
 ghost use Rattle.pass_replay.specs.Kept.{kept_answers};
@@ -12,13 +12,13 @@ ghost use Rattle.explain_calls.specs.Calls.{call_after_text, call_text, change_t
 
 use crate::runs::{Run, rows_of};
 use explain_lines::{Sources, write_run};
+use handler_chain::{PassKind, Seen};
 use pam_base::{Code, Func, NoMemory};
 use pass_replay::answers::Answers;
 use pass_replay::held::Held;
 use pass_replay::pass::pass;
 use pass_replay::passed::Passed;
 use service_load::{RuleType, Trees};
-use stack_walk::{PassKind, Seen};
 use std::alloc::Global;
 
 /// Adds the text of a stack call, while no other one is pending, replayed by the recorded lines of

@@ -8,10 +8,10 @@ ghost use Rattle.explain_calls.specs.Rows.{pass_rows};
 use crate::walk::walk_nodes;
 use control_words::Nodes;
 use explain_lines::{Fate, Rows};
+use handler_chain::{Opinion, PassKind, Seen};
 use pam_base::{Code, NoMemory};
 use pass_replay::answers::Answers;
 use pass_replay::replay::begun;
-use stack_walk::{Opinion, PassKind, Seen};
 use std::alloc::Global;
 
 /// What a run of a stack is replayed from.

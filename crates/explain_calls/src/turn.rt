@@ -1,10 +1,10 @@
 ghost use Rattle.std.specs.Prelude.{◌≡◌};
-ghost use Rattle.stack_walk.specs.Walk.{next_of};
+ghost use Rattle.handler_chain.specs.Walk.{next_of};
 ghost use Rattle.explain_calls.specs.Rows.{why_by};
 
 use control_words::Action;
 use explain_lines::Fate;
-use stack_walk::Opinion;
+use handler_chain::Opinion;
 
 /// Where a list goes on after a line: the state, how many of its nodes are skipped, which is
 /// all that are left if the list ends, and why they are.

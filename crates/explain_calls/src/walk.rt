@@ -1,9 +1,9 @@
 ghost use Rattle.std.specs.Prelude.{◌≡◌, ◌<◌, ◌≤◌, ◌+◌, ◌++◌, IfOk, OnOk, length};
 ghost use Rattle.control_words.specs.Stack.{Stack, count, line, lines_in, node_on, none, stack_of};
 ghost use Rattle.pass_replay.specs.dispatch_core.specs.Calls.{answers_held};
-ghost use Rattle.stack_walk.specs.Pass.{serving};
-ghost use Rattle.stack_walk.specs.Retell.{replaying};
-ghost use Rattle.stack_walk.specs.Walk.{walk};
+ghost use Rattle.handler_chain.specs.Pass.{serving};
+ghost use Rattle.handler_chain.specs.Retell.{replaying};
+ghost use Rattle.handler_chain.specs.Walk.{walk};
 ghost use Rattle.pass_replay.specs.Kept.{kept_answers};
 ghost use Rattle.pass_replay.specs.Walk.{WalkEnds, state_in};
 ghost use Rattle.explain_calls.specs.Rows.{last_of, rows, rows_behind, rows_over};
@@ -13,11 +13,11 @@ use crate::runs::Run;
 use crate::turn::{Turn, why_after};
 use control_words::{Node, Nodes, Rule};
 use explain_lines::{Fate, Row, Rows};
+use handler_chain::Opinion;
 use pam_base::NoMemory;
 use pass_replay::next_node::next_node_after;
 use pass_replay::replay::{Replay, next_answer};
 use pass_replay::walk::decide;
-use stack_walk::Opinion;
 
 // Adds the rows of lines that weren't run, the first of which has the rule number `at` + 1. Returns
 // the rule number of the last one.

@@ -1,7 +1,7 @@
 pub use Rattle.control_words
 pub use Rattle.script_lang
 pub use Rattle.service_load
-pub use Rattle.stack_walk
+pub use Rattle.handler_chain
 pub mod Origins
 pub mod Rows
 pub mod Text

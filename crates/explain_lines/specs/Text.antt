@@ -14,12 +14,12 @@ use Rattle.control_words.specs.Control.{action_name}
 use Rattle.control_words.specs.Module.{name_of_module}
 use Rattle.service_load.specs.declared.rule_type.RuleType.{RuleType}
 use Rattle.service_load.specs.RuleType.{type_word}
-use Rattle.stack_walk.specs.declared.impression.Impression.{Impression}
-use Rattle.stack_walk.specs.declared.impression.Impression.TheVariants.{Undefined, Positive, Negative}
-use Rattle.stack_walk.specs.declared.opinion.Opinion.{Opinion}
-use Rattle.stack_walk.specs.declared.pass_kind.PassKind.{PassKind}
-use Rattle.stack_walk.specs.declared.pass_kind.PassKind.TheVariants.{Keep, Follow, Loose}
-use Rattle.stack_walk.specs.Opinion.{opening, verdict}
+use Rattle.handler_chain.specs.declared.impression.Impression.{Impression}
+use Rattle.handler_chain.specs.declared.impression.Impression.TheVariants.{Undefined, Positive, Negative}
+use Rattle.handler_chain.specs.declared.opinion.Opinion.{Opinion}
+use Rattle.handler_chain.specs.declared.pass_kind.PassKind.{PassKind}
+use Rattle.handler_chain.specs.declared.pass_kind.PassKind.TheVariants.{Keep, Follow, Loose}
+use Rattle.handler_chain.specs.Opinion.{opening, verdict}
 use Rattle.explain_lines.specs.declared.origin.Origin.{Origin}
 use Rattle.explain_lines.specs.declared.row.Fate.{Fate}
 use Rattle.explain_lines.specs.declared.row.Fate.TheVariants.{Ran, Waits, Jumped, Ended, Unreached}

@@ -2,8 +2,8 @@ ghost use Rattle.std.specs.Prelude.{◌≡◌, IfOk};
 ghost use Rattle.explain_lines.specs.Rows.{row_of};
 
 use control_words::{Action, Rule};
+use handler_chain::Opinion;
 use pam_base::{Code, NoMemory, Sequence, SharedText};
-use stack_walk::Opinion;
 
 /// What became of a line of a stack.
 #[derive(Clone, Copy, Debug)]

@@ -6,8 +6,8 @@ ghost use Rattle.explain_lines.specs.Text.{action_words, deciding_words, fate_wo
 use crate::origin::Origin;
 use crate::row::{Fate, Row};
 use control_words::{Action, module_name};
+use handler_chain::{Impression, Opinion};
 use pam_base::{Code, NoMemory, Word, code_name, push_quoted};
-use stack_walk::{Impression, Opinion};
 
 /// Adds the lines of rows.
 pub fn write_rows(text: &mut String, origins: &[Origin], rows: &[Row]) -> Result<(), NoMemory>

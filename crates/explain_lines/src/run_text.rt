@@ -4,9 +4,9 @@ ghost use Rattle.explain_lines.specs.Text.{decided_text, decider, decider_words,
 use crate::origin::Origin;
 use crate::row::{Fate, Row};
 use crate::row_text::{is_same, write_rows};
+use handler_chain::{Impression, Opinion, PassKind};
 use pam_base::{Func, NoMemory, Word, code_name};
 use service_load::RuleType;
-use stack_walk::{Impression, Opinion, PassKind};
 
 /// Adds the text of a run of a stack.
 pub fn write_run(

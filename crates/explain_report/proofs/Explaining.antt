@@ -7,11 +7,11 @@ use Rattle.std.proofs.lemmas.Option.{slice_get-map}
 use Rattle.pam_base.specs.declared.code.Code.{Code}
 use Rattle.pam_base.specs.declared.call.Func.{Func}
 use Rattle.service_load.specs.Stacks.{Stacks}
-use Rattle.stack_walk.specs.Retell.{telling}
-use Rattle.stack_walk.specs.Retell.{Seen as Visit}
+use Rattle.handler_chain.specs.Retell.{telling}
+use Rattle.handler_chain.specs.Retell.{Seen as Visit}
 use Rattle.pass_replay.specs.dispatch_core.specs.Calls.{Held}
 use Rattle.pass_replay.specs.Told.{visits_in}
-use Rattle.stack_walk.specs.declared.seen.Seen.{Seen}
+use Rattle.handler_chain.specs.declared.seen.Seen.{Seen}
 use Rattle.report_lines.specs.Line.{Told, Result, block_of}
 use Rattle.report_reader.specs.declared.form.Form.{Form}
 use Rattle.report_reader.specs.declared.form.Form.TheVariants as forms

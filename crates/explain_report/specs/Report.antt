@@ -4,7 +4,7 @@ use Rattle.std.specs.Prelude.{◌≡◌, ℕ, if◌then◌else◌, Bool, true, f
 use Rattle.pam_base.specs.declared.code.Code.{Code}
 use Rattle.pam_base.specs.declared.call.Func.{Func}
 use Rattle.service_load.specs.Stacks.{Stacks}
-use Rattle.stack_walk.specs.Retell.{Seen, telling}
+use Rattle.handler_chain.specs.Retell.{Seen, telling}
 use Rattle.pass_replay.specs.dispatch_core.specs.Calls.{Held}
 use Rattle.report_lines.specs.Line.{Told, shows_code, runs, Result, answered, closed_by_program, block_of}
 use Rattle.report_reader.specs.Says.{Says, tells, results, lasts}

@@ -12,12 +12,12 @@ ghost use Rattle.explain_report.specs.Report.{Takes, block_text, called_text};
 
 use explain_calls::{write_call, write_refused};
 use explain_lines::Sources;
+use handler_chain::Seen;
 use pam_base::{CallName, Code, Func, NoMemory};
 use pass_replay::held::Held;
 use report_reader::{Form, ReportedAnswer, ReportedOutcome, read_line};
 use service_load::Trees;
 use session_audit::{SlotLog, is_refused_change, judge_at};
-use stack_walk::Seen;
 use std::alloc::Global;
 
 /// How far a report is explained: what is known of each transaction, the lines of the block that has

@@ -1,3 +1,10 @@
+pub mod Opinion
+pub mod Walk
+pub mod Route
+pub mod Pass
+pub mod PathLaw
+pub mod Retell
+pub mod Seen
 pub mod FlatLines
 pub mod Flat
 pub mod Coding

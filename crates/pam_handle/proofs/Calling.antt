@@ -14,7 +14,7 @@ use Rattle.dispatch_core.specs.Calls.{Held, Went, held, went}
 use Rattle.dispatch_core.specs.Pending.{Pending, first_in, is_other_pending, past_in, pending_after, same_func}
 use Rattle.dispatch_core.specs.pam_room.specs.Module.{Player}
 use Rattle.dispatch_core.specs.pam_room.specs.State.{PlainProcess, PlainRoom, PlainWorld, State, state_of}
-use Rattle.dispatch_core.specs.stack_walk.specs.Route.{KeptAnswers}
+use Rattle.dispatch_core.specs.handler_chain.specs.Route.{KeptAnswers}
 use Rattle.pam_handle.specs.declared.wait.Wait.{Wait}
 use Rattle.pam_handle.specs.AnyWorld.{ClearsTokens, FailsAs, LeavesAuthenticated, LeavesOpened, LeavesOthers, LeavesPending, LeavesWait, RunsSoundly, authenticated_failed, opened_failed}
 use Rattle.pam_handle.specs.Call.{Called, CallsAs, WaitsBehind, begun_or_going_on, called, code_waited, items_after, items_before, items_begun, request_behind, tokens_cleared}

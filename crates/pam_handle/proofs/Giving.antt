@@ -15,7 +15,7 @@ use Rattle.dispatch_core.specs.Pending.{Pending, pending_after}
 use Rattle.dispatch_core.specs.pam_room.specs.Module.{Player, notes_of}
 use Rattle.dispatch_core.specs.pam_room.specs.State.{PlainRoom, PlainWorld, state_of}
 use Rattle.dispatch_core.specs.service_load.specs.Stacks.{Stacks}
-use Rattle.dispatch_core.specs.stack_walk.specs.Route.{KeptAnswers}
+use Rattle.dispatch_core.specs.handler_chain.specs.Route.{KeptAnswers}
 use Rattle.pam_handle.specs.AnyWorld.{LeavesAuthenticated, LeavesOpened, authenticated_failed, opened_failed}
 use Rattle.pam_handle.specs.Handle.{PlainHandle, in_room}
 use Rattle.pam_handle.specs.Pass.{PassesTo, kept_answers}

@@ -10,8 +10,8 @@ use Rattle.dispatch_core.specs.Calls as calls
 use Rattle.dispatch_core.specs.Calls.{Asking, Held, answers_held, held, held_behind, passed_by, went}
 use Rattle.dispatch_core.specs.Pending.{pending_after}
 use Rattle.dispatch_core.specs.service_load.specs.Stacks.{Stacks}
-use Rattle.dispatch_core.specs.stack_walk.specs.Pass.{pass_after}
-use Rattle.dispatch_core.specs.stack_walk.specs.Route.{KeptAnswers}
+use Rattle.dispatch_core.specs.handler_chain.specs.Pass.{pass_after}
+use Rattle.dispatch_core.specs.handler_chain.specs.Route.{KeptAnswers}
 use Rattle.pam_handle.specs.Pass.{PassesTo, kept_answers}
 use Rattle.pam_handle.specs.Passes.{authenticated_with, is_followed, is_second, kind_of, opened_with, stack_at, stack_type}
 use Rattle.pam_handle.specs.Stopping.{first_kept}

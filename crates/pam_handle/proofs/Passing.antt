@@ -7,11 +7,11 @@ use Rattle.pam_base.specs.declared.call.Func.{Func}
 use Rattle.pam_base.specs.declared.fault.NoMemory.{NoMemory}
 use Rattle.dispatch_core.specs.control_words.specs.Stack.{Stack}
 use Rattle.frozen_chain.specs.Kept.{Answers}
-use Rattle.dispatch_core.specs.stack_walk.specs.declared.pass_kind.PassKind.{PassKind}
-use Rattle.dispatch_core.specs.stack_walk.specs.declared.pass_kind.PassKind.TheVariants.{Keep, Follow, Loose}
-use Rattle.dispatch_core.specs.stack_walk.specs.Pass.{PassState, Visit, kept_in, pass_after}
-use Rattle.dispatch_core.specs.stack_walk.specs.Walk.{Walked, code_of}
-use Rattle.dispatch_core.specs.stack_walk.specs.Route.{KeptAnswers}
+use Rattle.dispatch_core.specs.handler_chain.specs.declared.pass_kind.PassKind.{PassKind}
+use Rattle.dispatch_core.specs.handler_chain.specs.declared.pass_kind.PassKind.TheVariants.{Keep, Follow, Loose}
+use Rattle.dispatch_core.specs.handler_chain.specs.Pass.{PassState, Visit, kept_in, pass_after}
+use Rattle.dispatch_core.specs.handler_chain.specs.Walk.{Walked, code_of}
+use Rattle.dispatch_core.specs.handler_chain.specs.Route.{KeptAnswers}
 use Rattle.dispatch_core.specs.AnyWorld.{GoesSoundly}
 use Rattle.dispatch_core.specs.Failing.{StopsAt}
 use Rattle.dispatch_core.specs.Lines.{answers_by, names_of}
@@ -23,7 +23,7 @@ use Rattle.dispatch_core.specs.pam_room.specs.Stays.{IsReady}
 use Rattle.dispatch_core.specs.Calls.{answers_held, kept_behind, passed_by}
 use Rattle.dispatch_core.specs.Trail.{ByTrail, seen_in}
 use Rattle.dispatch_core.specs.pam_room.specs.declared.visits.Visit.{Visit as Visited}
-use Rattle.dispatch_core.specs.stack_walk.specs.Retell.{replaying, telling}
+use Rattle.dispatch_core.specs.handler_chain.specs.Retell.{replaying, telling}
 use Rattle.pam_handle.specs.Pass.{PassesTo, kept_answers, passed}
 use Rattle.pam_handle.specs.Passes.{PassGives}
 

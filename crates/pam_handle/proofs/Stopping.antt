@@ -14,8 +14,8 @@ use Rattle.dispatch_core.specs.Pending.{Pending, first_in, past_in}
 use Rattle.dispatch_core.specs.pam_room.specs.Module.{Player, notes_of}
 use Rattle.dispatch_core.specs.pam_room.specs.State.{PlainRoom, PlainWorld, State, state_of}
 use Rattle.dispatch_core.specs.service_load.specs.Stacks.{Stacks}
-use Rattle.dispatch_core.specs.stack_walk.specs.declared.pass_kind.PassKind.TheVariants.{Follow}
-use Rattle.dispatch_core.specs.stack_walk.specs.Route.{KeptAnswers}
+use Rattle.dispatch_core.specs.handler_chain.specs.declared.pass_kind.PassKind.TheVariants.{Follow}
+use Rattle.dispatch_core.specs.handler_chain.specs.Route.{KeptAnswers}
 use Rattle.pam_handle.specs.Handle.{PlainHandle}
 use Rattle.pam_handle.specs.Pass.{PassesTo, kept_answers}
 use Rattle.pam_handle.specs.Passes.{StopsIn, is_followed, is_second, kind_of, stack_at, stack_type}

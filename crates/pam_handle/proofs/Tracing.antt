@@ -12,9 +12,9 @@ use Rattle.dispatch_core.specs.Pending.{Pending, first_in, past_in, pending_afte
 use Rattle.dispatch_core.specs.Trail.{seen_in, seen_of}
 use Rattle.dispatch_core.specs.pam_room.specs.declared.visits.Visit.{Visit}
 use Rattle.dispatch_core.specs.service_load.specs.Stacks.{Stacks}
-use Rattle.dispatch_core.specs.stack_walk.specs.declared.pass_kind.PassKind.TheVariants.{Follow}
-use Rattle.dispatch_core.specs.stack_walk.specs.Retell.{Seen, Telling, telling}
-use Rattle.dispatch_core.specs.stack_walk.specs.Route.{KeptAnswers}
+use Rattle.dispatch_core.specs.handler_chain.specs.declared.pass_kind.PassKind.TheVariants.{Follow}
+use Rattle.dispatch_core.specs.handler_chain.specs.Retell.{Seen, Telling, telling}
+use Rattle.dispatch_core.specs.handler_chain.specs.Route.{KeptAnswers}
 use Rattle.pam_handle.specs.Handle.{PlainHandle}
 use Rattle.pam_handle.specs.Pass.{kept_answers}
 use Rattle.pam_handle.specs.Passes.{PassesByTrail, authenticated_with, is_followed, is_second, kind_of, opened_with, stack_at, stack_type}

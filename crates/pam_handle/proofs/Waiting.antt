@@ -6,7 +6,7 @@ use Rattle.dispatch_core.specs.fail_delay.specs.Wait.{wait_of}
 use Rattle.dispatch_core.specs.pam_outside.specs.Time.{NapState}
 use Rattle.dispatch_core.specs.Pending.{Pending, pending_after}
 use Rattle.dispatch_core.specs.pam_room.specs.State.{PlainRoom, PlainWorld}
-use Rattle.dispatch_core.specs.stack_walk.specs.Route.{KeptAnswers}
+use Rattle.dispatch_core.specs.handler_chain.specs.Route.{KeptAnswers}
 use Rattle.pam_base.specs.declared.code.Code.{Code}
 use Rattle.pam_base.specs.declared.call.Func.{Func}
 use Rattle.pam_base.specs.declared.call.Func.TheVariants.{Authenticate}

@@ -11,7 +11,7 @@ use Rattle.dispatch_core.specs.fail_delay.specs.Wait.{wait_of}
 use Rattle.dispatch_core.specs.pam_outside.specs.Time.{NapState}
 use Rattle.dispatch_core.specs.AnyWorld.{GoesSoundly}
 use Rattle.dispatch_core.specs.pam_room.specs.State.{PlainProcess}
-use Rattle.dispatch_core.specs.stack_walk.specs.Route.{KeptAnswers}
+use Rattle.dispatch_core.specs.handler_chain.specs.Route.{KeptAnswers}
 use Rattle.pam_handle.specs.declared.wait.Wait.{Wait}
 use Rattle.dispatch_core.specs.Pending.{Pending}
 use Rattle.pam_handle.specs.Handle.{PlainHandle}

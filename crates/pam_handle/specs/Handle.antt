@@ -2,7 +2,7 @@
 use Rattle.std.specs.Prelude.{ℕ, Bool, List, Option}
 use Rattle.dispatch_core.specs.service_load.specs.Stacks.{Stacks}
 use Rattle.dispatch_core.specs.Pending.{Pending}
-use Rattle.dispatch_core.specs.stack_walk.specs.Route.{KeptAnswers}
+use Rattle.dispatch_core.specs.handler_chain.specs.Route.{KeptAnswers}
 use Rattle.dispatch_core.specs.pam_room.specs.State.{PlainRoom}
 use Rattle.pam_handle.specs.declared.wait.Wait.{Wait}
 

@@ -6,7 +6,6 @@ pub use Rattle.dispatch_core.specs.handler_chain
 pub use Rattle.item_store
 pub use Rattle.dispatch_core.specs.pam_room
 pub use Rattle.dispatch_core.specs.service_load
-pub use Rattle.dispatch_core.specs.stack_walk
 pub mod Handle
 pub mod Pass
 pub mod Call

@@ -4,9 +4,9 @@ use Rattle.pam_base.specs.declared.code.Code.{Code}
 use Rattle.pam_base.specs.declared.call.Func.{Func}
 use Rattle.dispatch_core.specs.control_words.specs.Stack.{Stack}
 use Rattle.frozen_chain.specs.Kept.{Answers}
-use Rattle.dispatch_core.specs.stack_walk.specs.declared.pass_kind.PassKind.{PassKind}
-use Rattle.dispatch_core.specs.stack_walk.specs.Route.{KeptAnswers}
-use Rattle.dispatch_core.specs.stack_walk.specs.Pass.{pass_after}
+use Rattle.dispatch_core.specs.handler_chain.specs.declared.pass_kind.PassKind.{PassKind}
+use Rattle.dispatch_core.specs.handler_chain.specs.Route.{KeptAnswers}
+use Rattle.dispatch_core.specs.handler_chain.specs.Pass.{pass_after}
 use Rattle.dispatch_core.specs.Lines.{answers_by}
 use Rattle.dispatch_core.specs.Passes.{by_place}
 use Rattle.dispatch_core.specs.Calls as calls

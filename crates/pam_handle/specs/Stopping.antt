@@ -6,9 +6,9 @@ use Rattle.pam_base.specs.declared.call.Func.{Func}
 use Rattle.pam_base.specs.declared.call.Func.TheVariants.{Authenticate, SetCred, AcctMgmt, OpenSession, CloseSession, ChAuthTok}
 use Rattle.dispatch_core.specs.control_words.specs.Stack.{Stack}
 use Rattle.dispatch_core.specs.service_load.specs.Stacks.{Stacks}
-use Rattle.dispatch_core.specs.stack_walk.specs.declared.pass_kind.PassKind.{PassKind}
-use Rattle.dispatch_core.specs.stack_walk.specs.declared.pass_kind.PassKind.TheVariants as kinds
-use Rattle.dispatch_core.specs.stack_walk.specs.Route.{KeptAnswers}
+use Rattle.dispatch_core.specs.handler_chain.specs.declared.pass_kind.PassKind.{PassKind}
+use Rattle.dispatch_core.specs.handler_chain.specs.declared.pass_kind.PassKind.TheVariants as kinds
+use Rattle.dispatch_core.specs.handler_chain.specs.Route.{KeptAnswers}
 use Rattle.dispatch_core.specs.AnyWorld.{GoesSoundly}
 use Rattle.dispatch_core.specs.Calls.{Held, answers_held, following}
 use Rattle.dispatch_core.specs.Failing.{StopsAt}

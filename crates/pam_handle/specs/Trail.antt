@@ -1,7 +1,7 @@
 -- A stack call by the lines that it added to the trace, whatever the objects (this project's own).
 use Rattle.std.specs.Prelude.{◌≡◌, List, ◌++◌}
 use Rattle.pam_base.specs.declared.code.Code.{Code}
-use Rattle.dispatch_core.specs.stack_walk.specs.Retell.{Seen, Telling, replaying, telling}
+use Rattle.dispatch_core.specs.handler_chain.specs.Retell.{Seen, Telling, replaying, telling}
 use Rattle.dispatch_core.specs.Calls.{Asking, Held, Went, went}
 use Rattle.dispatch_core.specs.Trail.{seen_in}
 use Rattle.dispatch_core.specs.pam_room.specs.declared.visits.Visit.{Visit}

@@ -10,9 +10,9 @@ ghost use Rattle.pam_handle.specs.Ready.{IsReadyFor};
 
 use crate::gear::{Gear, GearTold};
 use crate::handle::Handle;
+use dispatch_core::handler_chain::PassKind;
 use dispatch_core::pam_room::{Room, RoomTold, World, WorldTold};
 use dispatch_core::service_load::RuleType;
-use dispatch_core::stack_walk::PassKind;
 use dispatch_core::{PassRequest, Paused, dispatch};
 use frozen_chain::Kept;
 use pam_base::{Code, Func, NoMemory};

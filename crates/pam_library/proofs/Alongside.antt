@@ -5,12 +5,12 @@ use Rattle.pam_handle.specs.control_words.specs.declared.control.Action.{Action}
 use Rattle.pam_handle.specs.control_words.specs.declared.nodes.Rule.{Rule}
 use Rattle.pam_handle.specs.control_words.specs.Control.{action_at}
 use Rattle.pam_handle.specs.control_words.specs.Stack.{Stack, none, line, sub, count, lines_in}
-use Rattle.pam_handle.specs.stack_walk.specs.declared.opinion.Opinion.{Opinion}
-use Rattle.pam_handle.specs.stack_walk.specs.declared.pass_kind.PassKind.{PassKind}
-use Rattle.pam_handle.specs.stack_walk.specs.Opinion.{acted, opening}
-use Rattle.pam_handle.specs.stack_walk.specs.Walk.{Served, Serving, Walked, Next, after, stop, walked, halted, next_of, settled, onward, walk}
-use Rattle.pam_handle.specs.stack_walk.specs.Pass.{Answered, Answering, PassState, Visit, pass_state, pass_after, served_now, served_past, serving}
-use Rattle.pam_handle.specs.stack_walk.specs.Route.{KeptAnswers}
+use Rattle.pam_handle.specs.handler_chain.specs.declared.opinion.Opinion.{Opinion}
+use Rattle.pam_handle.specs.handler_chain.specs.declared.pass_kind.PassKind.{PassKind}
+use Rattle.pam_handle.specs.handler_chain.specs.Opinion.{acted, opening}
+use Rattle.pam_handle.specs.handler_chain.specs.Walk.{Served, Serving, Walked, Next, after, stop, walked, halted, next_of, settled, onward, walk}
+use Rattle.pam_handle.specs.handler_chain.specs.Pass.{Answered, Answering, PassState, Visit, pass_state, pass_after, served_now, served_past, serving}
+use Rattle.pam_handle.specs.handler_chain.specs.Route.{KeptAnswers}
 
 -- ---- any walk
 

@@ -8,8 +8,8 @@ use Rattle.data_cleanup.specs.DataList.{PlainDataList}
 use Rattle.data_cleanup.specs.Ledger.{AreNumbered}
 use Rattle.data_cleanup.specs.Cleanup.{Notes}
 use Rattle.data_cleanup.specs.Due.{ends}
-use Rattle.data_due.specs.Stands.{clean_list}
-use Rattle.data_due.specs.Moves.{Moves}
+use Rattle.data_cleanup.specs.Stands.{clean_list}
+use Rattle.data_cleanup.specs.Moves.{Moves}
 use Rattle.pam_handle.specs.pam_room.specs.State.{PlainWorld}
 use Rattle.pam_handle.specs.End.{world_after_end}
 use Rattle.pam_library.specs.Sound.{IsSound}

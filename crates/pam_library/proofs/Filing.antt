@@ -15,13 +15,13 @@ use Rattle.pam_handle.specs.control_words.specs.Stack.{Stack, none, line, sub, l
 use Rattle.pam_handle.specs.item_store.specs.Access.{is_refused as is_refused_item}
 use Rattle.pam_handle.specs.item_store.specs.declared.access.Access.TheVariants.{ApplicationSets, ApplicationGets}
 use Rattle.pam_handle.specs.env_list.specs.Environment.{is_refused as is_refused_text}
-use Rattle.pam_handle.specs.stack_walk.specs.declared.opinion.Opinion.{Opinion}
-use Rattle.pam_handle.specs.stack_walk.specs.declared.pass_kind.PassKind.{PassKind}
-use Rattle.pam_handle.specs.stack_walk.specs.declared.pass_kind.PassKind.TheVariants as kinds
-use Rattle.pam_handle.specs.stack_walk.specs.Opinion.{opening as first_opinion}
-use Rattle.pam_handle.specs.stack_walk.specs.Walk.{Serving, Walked, Next, after, stop, onward, walk}
-use Rattle.pam_handle.specs.stack_walk.specs.Pass.{Answering, PassState, Visit as Passing, pass_state, served_past, serving}
-use Rattle.pam_handle.specs.stack_walk.specs.Route.{KeptAnswers}
+use Rattle.pam_handle.specs.handler_chain.specs.declared.opinion.Opinion.{Opinion}
+use Rattle.pam_handle.specs.handler_chain.specs.declared.pass_kind.PassKind.{PassKind}
+use Rattle.pam_handle.specs.handler_chain.specs.declared.pass_kind.PassKind.TheVariants as kinds
+use Rattle.pam_handle.specs.handler_chain.specs.Opinion.{opening as first_opinion}
+use Rattle.pam_handle.specs.handler_chain.specs.Walk.{Serving, Walked, Next, after, stop, onward, walk}
+use Rattle.pam_handle.specs.handler_chain.specs.Pass.{Answering, PassState, Visit as Passing, pass_state, served_past, serving}
+use Rattle.pam_handle.specs.handler_chain.specs.Route.{KeptAnswers}
 use Rattle.pam_handle.specs.dispatch_core.specs.Lines.{answers_by, call_of, names_of}
 use Rattle.pam_handle.specs.handler_chain.specs.FlatLines.{module_of}
 use Rattle.pam_outside.specs.Files.{File}

@@ -5,7 +5,7 @@ use Rattle.data_cleanup.specs.Ledger.{PlainLedger}
 use Rattle.data_cleanup.specs.Cleanup.{Notes}
 use Rattle.data_cleanup.specs.Due.{Event, birth}
 use Rattle.data_cleanup.specs.declared.datum.Birth.{Birth}
-use Rattle.data_due.specs.Stands.{Lists, StandFor}
+use Rattle.data_cleanup.specs.Stands.{Lists, StandFor}
 use Rattle.pam_library.specs.Calls.{Moved, MoveOn, births_added, events_of, last_ledger, last_lists}
 
 behind : (xs ys : List Birth) → drop (length xs) (xs ++ ys) ≡ ys

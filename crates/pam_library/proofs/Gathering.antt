@@ -5,8 +5,8 @@ use Rattle.pam_base.specs.declared.fault.NoMemory.{NoMemory}
 use Rattle.data_cleanup.specs.Cleanup.{Notes}
 use Rattle.data_cleanup.specs.Due.{Event}
 use Rattle.data_cleanup.specs.Ledger.{PlainLedger}
-use Rattle.data_due.specs.Moves.{Moves}
-use Rattle.data_due.specs.Stands.{Lists}
+use Rattle.data_cleanup.specs.Moves.{Moves}
+use Rattle.data_cleanup.specs.Stands.{Lists}
 use Rattle.pam_handle.specs.pam_room.specs.Module.{Player, notes_of}
 use Rattle.pam_handle.specs.pam_room.specs.State.{PlainWorld}
 use Rattle.pam_library.specs.declared.outcome.Answer.{Answer}

@@ -7,7 +7,7 @@ use Rattle.data_cleanup.specs.DataList.{PlainDataList, birth_of, datum_of}
 use Rattle.data_cleanup.specs.Ledger.{AreNumbered, IsSound as LedgerIsSound, PlainLedger}
 use Rattle.data_cleanup.specs.declared.datum.Birth.{Birth}
 use Rattle.data_cleanup.specs.declared.receipt.Filed.{Filed}
-use Rattle.data_due.specs.Kept.{IsOfHandle}
+use Rattle.data_cleanup.specs.Kept.{IsOfHandle}
 use Rattle.pam_library.specs.Alike.{AreInOrder, IsOfBirth, IsRecorded, IsRecordedAt}
 use Rattle.pam_library.specs.Slots.{PlainSlot, closed, data_in, lists_of, opened, slot_at}
 use Rattle.pam_library.specs.Sound.{IsSound}

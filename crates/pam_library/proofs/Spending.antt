@@ -11,9 +11,9 @@ use Rattle.data_cleanup.specs.Cleanup.{Notes, ledger_after}
 use Rattle.data_cleanup.specs.Grows.{Grows, IsOf}
 use Rattle.data_cleanup.specs.Due.{birth, ends}
 use Rattle.data_cleanup.specs.declared.datum.Birth.{Birth}
-use Rattle.data_due.specs.Stands.{Lists, StandFor, clean_list}
-use Rattle.data_due.specs.Kept.{AreHeld}
-use Rattle.data_due.specs.Moves.{Moves}
+use Rattle.data_cleanup.specs.Stands.{Lists, StandFor, clean_list}
+use Rattle.data_cleanup.specs.Kept.{AreHeld}
+use Rattle.data_cleanup.specs.Moves.{Moves}
 use Rattle.pam_handle.specs.Handle.{PlainHandle}
 use Rattle.pam_library.specs.Slots.{PlainSlot, closed, opened, slot_at, with_slot, data_in, lists_of}
 use Rattle.pam_library.specs.Sound.{ArePlaced, IsAtPlace, IsSound}

@@ -7,8 +7,8 @@ use Rattle.pam_base.specs.declared.call.Func.{Func}
 use Rattle.pam_base.specs.declared.call.Func.TheVariants as funcs
 use Rattle.pam_base.specs.declared.fault.NoMemory.{NoMemory}
 use Rattle.pam_handle.specs.control_words.specs.Stack.{Stack}
-use Rattle.pam_handle.specs.stack_walk.specs.declared.pass_kind.PassKind.{PassKind}
-use Rattle.pam_handle.specs.stack_walk.specs.Route.{KeptAnswers}
+use Rattle.pam_handle.specs.handler_chain.specs.declared.pass_kind.PassKind.{PassKind}
+use Rattle.pam_handle.specs.handler_chain.specs.Route.{KeptAnswers}
 use Rattle.pam_handle.specs.dispatch_core.specs.Failing.{StopsAt}
 use Rattle.pam_handle.specs.pam_room.specs.Module.{Player}
 use Rattle.pam_handle.specs.pam_room.specs.State.{PlainRoom, PlainWorld, State}

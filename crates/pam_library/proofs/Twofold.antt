@@ -13,11 +13,11 @@ use Rattle.pam_outside.specs.Time.{drawn, rested}
 use Rattle.pam_handle.specs.pam_room.specs.Call.{prelim_check}
 use Rattle.pam_handle.specs.pam_room.specs.Module.{Player}
 use Rattle.pam_handle.specs.pam_room.specs.State.{PlainRoom, PlainWorld, State, state_of}
-use Rattle.pam_handle.specs.stack_walk.specs.declared.pass_kind.PassKind.{PassKind}
-use Rattle.pam_handle.specs.stack_walk.specs.declared.pass_kind.PassKind.TheVariants as kinds
-use Rattle.pam_handle.specs.stack_walk.specs.Pass.{PassState, pass_after}
-use Rattle.pam_handle.specs.stack_walk.specs.Route.{KeptAnswers}
-use Rattle.pam_handle.specs.stack_walk.specs.Walk.{Walked}
+use Rattle.pam_handle.specs.handler_chain.specs.declared.pass_kind.PassKind.{PassKind}
+use Rattle.pam_handle.specs.handler_chain.specs.declared.pass_kind.PassKind.TheVariants as kinds
+use Rattle.pam_handle.specs.handler_chain.specs.Pass.{PassState, pass_after}
+use Rattle.pam_handle.specs.handler_chain.specs.Route.{KeptAnswers}
+use Rattle.pam_handle.specs.handler_chain.specs.Walk.{Walked}
 use Rattle.pam_handle.specs.dispatch_core.specs.Pending.{Pending, pending_after, same_func}
 use Rattle.pam_handle.specs.Handle.{PlainHandle, in_room}
 use Rattle.pam_handle.specs.dispatch_core.specs.Calls.{answers_held, following, passed_by}

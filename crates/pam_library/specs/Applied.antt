@@ -4,7 +4,7 @@ use Rattle.std.specs.Prelude.{◌≡◌, ◌&&◌, ℕ, List, Option, length}
 use Rattle.pam_base.specs.declared.code.Code.{Code}
 use Rattle.pam_base.specs.declared.call.Step.{Step}
 use Rattle.data_cleanup.specs.Due.{Event}
-use Rattle.data_due.specs.Moves.{Moves}
+use Rattle.data_cleanup.specs.Moves.{Moves}
 use Rattle.pam_handle.specs.pam_room.specs.Module.{Player, notes_of}
 use Rattle.pam_handle.specs.pam_room.specs.State.{PlainWorld}
 use Rattle.pam_library.specs.declared.outcome.Outcome.{Outcome}

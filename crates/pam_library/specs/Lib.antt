@@ -1,6 +1,5 @@
 pub use Rattle.conv_port
 pub use Rattle.data_cleanup
-pub use Rattle.data_due
 pub use Rattle.pam_handle.specs.dispatch_core
 pub use Rattle.fail_delay
 pub use Rattle.pam_handle

@@ -14,7 +14,7 @@ use Rattle.pam_handle.specs.control_words.specs.Stack.{Stack, none, line, sub, l
 use Rattle.pam_handle.specs.control_words.specs.declared.nodes.Rule.{Rule}
 use Rattle.pam_handle.specs.handler_chain.specs.FlatLines.{module_of, number_of_name}
 use Rattle.pam_handle.specs.service_load.specs.Stacks.{Stacks}
-use Rattle.pam_handle.specs.stack_walk.specs.Pass.{Answered}
+use Rattle.pam_handle.specs.handler_chain.specs.Pass.{Answered}
 use Rattle.pam_handle.specs.dispatch_core.specs.Lines.{answers_by, call_of, names_of}
 use Rattle.pam_outside.specs.Files.{File}
 use Rattle.pam_outside.specs.Time.{Time}

@@ -3,7 +3,7 @@ use Rattle.std.specs.Prelude.{◌≡◌, ℕ, ◌<◌, List, Some, length}
 use Rattle.std.specs.List.{AllByRecursion}
 use Rattle.data_cleanup.specs.Ledger.{PlainLedger}
 use Rattle.data_cleanup.specs.declared.datum.Birth.{Birth}
-use Rattle.data_due.specs.Kept.{AreHeld}
+use Rattle.data_cleanup.specs.Kept.{AreHeld}
 use Rattle.pam_handle.specs.dispatch_core.specs.Lines.{names_of}
 use Rattle.pam_handle.specs.pam_room.specs.Module.{Player}
 use Rattle.pam_handle.specs.Handle.{PlainHandle}

@@ -82,8 +82,8 @@ impl Library {
             (seen self.old world.old) (seen self.new world.new) world.old.nap world.new.nap) }
     {
         laws::one_place_moves();
-        data_due::laws::nothing_moves();
-        data_due::laws::held_data_await_cleanup();
+        data_cleanup::due_laws::nothing_moves();
+        data_cleanup::due_laws::held_data_await_cleanup();
         let number = step.number as usize;
         if number == 0 || self.slots.len() < number {
             let filed_from = receipts_in(world);

@@ -42,8 +42,8 @@ impl Library {
         ensures others { world.new ≡ record world.old { process = world.new.process } }
     {
         laws::one_place_moves();
-        data_due::laws::nothing_moves();
-        data_due::laws::held_data_await_cleanup();
+        data_cleanup::due_laws::nothing_moves();
+        data_cleanup::due_laws::held_data_await_cleanup();
         let place = place_of_first_open(&self.slots)?;
         match self.slots.swap_remove(place) {
             Slot::Open(handle) => {

@@ -11,8 +11,8 @@ ghost use Rattle.conv_port.specs.Conv.{ConvState};
 ghost use Rattle.data_cleanup.specs.Ledger.{AreNumbered, IsSound as LedgerIsSound, PlainLedger};
 ghost use Rattle.data_cleanup.specs.Cleanup.{Notes};
 ghost use Rattle.data_cleanup.specs.Due.{Event};
-ghost use Rattle.data_due.specs.Stands.{Lists, StandFor};
-ghost use Rattle.data_due.specs.Moves.{Moves};
+ghost use Rattle.data_cleanup.specs.Stands.{Lists, StandFor};
+ghost use Rattle.data_cleanup.specs.Moves.{Moves};
 ghost use Rattle.pam_handle.specs.pam_room.specs.Module.{Player};
 ghost use Rattle.pam_library.specs.Slots.{PlainSlot, closed, data_in, handle_limit, lists_of, slot_at, with_slot};
 ghost use Rattle.pam_library.specs.Sound.{IsAtPlace, IsSound};
@@ -43,11 +43,11 @@ pub fn one_place_moves()
         (lists_of (with_slot slots number new)) }
 {
     data_cleanup::laws::nothing_grows();
-    data_due::laws::growth_holds();
-    data_due::laws::growth_moves();
-    data_due::laws::end_holds();
-    data_due::laws::end_moves();
-    data_due::laws::nothing_moves();
+    data_cleanup::due_laws::growth_holds();
+    data_cleanup::due_laws::growth_moves();
+    data_cleanup::due_laws::end_holds();
+    data_cleanup::due_laws::end_moves();
+    data_cleanup::due_laws::nothing_moves();
 }
 
 /// Sixteen closed slots and a cleanup log without sets are sound, and mean no events.
@@ -60,10 +60,10 @@ pub fn closed_places_stand_for_none()
         (lists_of (map closed convs)) [] }
 {
     data_cleanup::laws::nothing_grows();
-    data_due::laws::growth_holds();
-    data_due::laws::nothing_is_held();
-    data_due::laws::nothing_moves();
-    data_due::laws::nothing_stands_for_none();
+    data_cleanup::due_laws::growth_holds();
+    data_cleanup::due_laws::nothing_is_held();
+    data_cleanup::due_laws::nothing_moves();
+    data_cleanup::due_laws::nothing_stands_for_none();
 }
 
 /// After a list of calls, each of which continued from the one before, the events are those before it and then the sets

@@ -25,7 +25,6 @@ mod world;
 
 pub use conv_port;
 pub use data_cleanup;
-pub use data_due;
 pub use fail_delay;
 pub use library::{Library, LibraryTold};
 pub use outcome::{Answer, Outcome};

@@ -4,7 +4,7 @@ use Rattle.pam_base.specs.declared.code.Code.{Code}
 use Rattle.pam_base.specs.declared.call.Func.{Func}
 use Rattle.pam_base.specs.declared.call.Func.TheVariants.{Authenticate, SetCred, AcctMgmt, OpenSession, CloseSession, ChAuthTok}
 use Rattle.dispatch_core.specs.service_load.specs.Stacks.{Stacks}
-use Rattle.stack_walk.specs.Route.{KeptAnswers}
+use Rattle.handler_chain.specs.Route.{KeptAnswers}
 use Rattle.dispatch_core.specs.Calls.{Asking, Held, Passed, Went, first_pass, held_behind, one_pass, passes, went}
 use Rattle.pass_replay.specs.Retold.{cached_for, kind_of, stack_for}
 

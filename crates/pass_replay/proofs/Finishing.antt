@@ -1,11 +1,11 @@
 -- The result of a pass, from its walk.
 use Rattle.std.proofs.Common.{◌≡◌, List, Option, Some, None, sym, ◌∙◌, ap}
 use Rattle.pam_base.specs.declared.code.Code.{Code}
-use Rattle.stack_walk.specs.declared.opinion.Opinion.{Opinion}
-use Rattle.stack_walk.specs.declared.pass_kind.PassKind.{PassKind}
-use Rattle.stack_walk.specs.Walk.{Walked}
-use Rattle.stack_walk.specs.Route.{KeptAnswers}
-use Rattle.stack_walk.specs.Pass.{PassState}
+use Rattle.handler_chain.specs.declared.opinion.Opinion.{Opinion}
+use Rattle.handler_chain.specs.declared.pass_kind.PassKind.{PassKind}
+use Rattle.handler_chain.specs.Walk.{Walked}
+use Rattle.handler_chain.specs.Route.{KeptAnswers}
+use Rattle.handler_chain.specs.Pass.{PassState}
 use Rattle.dispatch_core.specs.Calls.{Passed, passed_by, kept_behind}
 use Rattle.pass_replay.specs.Passed.{ended_code, ended_paused}
 use Rattle.pass_replay.specs.Walk.{WalkEnds}

@@ -4,7 +4,7 @@ use Rattle.std.specs.Option.{option_or}
 use Rattle.std.proofs.lemmas.Bool.{cases_Bool, eqb-true, eqb-false}
 use Rattle.std.proofs.lemmas.List.{take_more}
 use Rattle.pam_base.specs.declared.code.Code.{Code}
-use Rattle.stack_walk.specs.Pass.{Visit, visit, answers_of, kept_in}
+use Rattle.handler_chain.specs.Pass.{Visit, visit, answers_of, kept_in}
 use Rattle.pass_replay.specs.declared.visited.Visited.{Visited}
 use Rattle.pass_replay.specs.Kept.{answers_in, visits_of}
 

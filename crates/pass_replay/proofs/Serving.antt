@@ -3,12 +3,12 @@ use Rattle.std.proofs.Common.{◌≡◌, ℕ, ◌+◌, Bool, false, if◌then◌
 use Rattle.std.specs.List.{slice_get}
 use Rattle.pam_base.specs.declared.code.Code.{Code}
 use Rattle.control_words.specs.declared.nodes.Rule.{Rule}
-use Rattle.stack_walk.specs.declared.pass_kind.PassKind.{PassKind}
-use Rattle.stack_walk.specs.declared.seen.Seen.{Seen}
-use Rattle.stack_walk.specs.Route.{KeptAnswers}
-use Rattle.stack_walk.specs.Retell.{Telling, replaying}
-use Rattle.stack_walk.specs.Pass.{Answered, AnswersAs, PassState, Visit, visit, decides, is_incomplete, pass_state, served_now, served_past, serving}
-use Rattle.stack_walk.specs.Walk.{Served, ServedAs}
+use Rattle.handler_chain.specs.declared.pass_kind.PassKind.{PassKind}
+use Rattle.handler_chain.specs.declared.seen.Seen.{Seen}
+use Rattle.handler_chain.specs.Route.{KeptAnswers}
+use Rattle.handler_chain.specs.Retell.{Telling, replaying}
+use Rattle.handler_chain.specs.Pass.{Answered, AnswersAs, PassState, Visit, visit, decides, is_incomplete, pass_state, served_now, served_past, serving}
+use Rattle.handler_chain.specs.Walk.{Served, ServedAs}
 use Rattle.pass_replay.specs.declared.replay.Replay.{Replay}
 use Rattle.pass_replay.specs.Kept.{visits_of}
 use Rattle.pass_replay.specs.Told.{telling_from}

@@ -2,8 +2,8 @@
 use Rattle.std.proofs.Common.{◌≡◌, ℕ, zero, suc, ◌+◌, ◌-◌, ◌≤◌, List, [], ◌∷◌, Option, Some, None, drop, length, refl, ap, arith}
 use Rattle.std.specs.List.{slice_get}
 use Rattle.std.proofs.Math.Seq.{drop-length}
-use Rattle.stack_walk.specs.declared.seen.Seen.{Seen}
-use Rattle.stack_walk.specs.Seen.{seen_of}
+use Rattle.handler_chain.specs.declared.seen.Seen.{Seen}
+use Rattle.handler_chain.specs.Seen.{seen_of}
 use Rattle.pass_replay.specs.Told.{visits_in, lines_before}
 use Rattle.pass_replay.proofs.Dropping.{drop_next}
 

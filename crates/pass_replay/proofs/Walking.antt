@@ -6,11 +6,11 @@ use Rattle.control_words.specs.declared.nodes.Node.{Node, Line, Sub'}
 use Rattle.control_words.specs.declared.nodes.Rule.{Rule}
 use Rattle.control_words.specs.Control.{action_at}
 use Rattle.control_words.specs.Stack.{Stack, none, line, sub, count, lines_in, depth, node_on, row_stack}
-use Rattle.stack_walk.specs.declared.opinion.Opinion.{Opinion}
-use Rattle.stack_walk.specs.declared.pass_kind.PassKind.{PassKind}
-use Rattle.stack_walk.specs.Opinion.{acted}
-use Rattle.stack_walk.specs.Walk.{Next, after, stop, Serving, Served, ServedAs, Walked, walk, walked, halted, next_of, settled}
-use Rattle.stack_walk.specs.Walk.{onward as onto}
+use Rattle.handler_chain.specs.declared.opinion.Opinion.{Opinion}
+use Rattle.handler_chain.specs.declared.pass_kind.PassKind.{PassKind}
+use Rattle.handler_chain.specs.Opinion.{acted}
+use Rattle.handler_chain.specs.Walk.{Next, after, stop, Serving, Served, ServedAs, Walked, walk, walked, halted, next_of, settled}
+use Rattle.handler_chain.specs.Walk.{onward as onto}
 use Rattle.pass_replay.specs.declared.next_node.NextNode.{NextNode}
 use Rattle.pass_replay.specs.Walk.{skip_of, WalkEnds}
 use Rattle.pass_replay.proofs.Peeling.{count_node, lines_node, depth_node}

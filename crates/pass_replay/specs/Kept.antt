@@ -2,8 +2,8 @@
 use Rattle.std.specs.Prelude.{List, [], ◌∷◌, Option, Some, None, slice_get}
 use Rattle.std.specs.Option.{option_flatten}
 use Rattle.pam_base.specs.declared.code.Code.{Code}
-use Rattle.stack_walk.specs.Route.{KeptAnswers}
-use Rattle.stack_walk.specs.Pass.{Visit, visit}
+use Rattle.handler_chain.specs.Route.{KeptAnswers}
+use Rattle.handler_chain.specs.Pass.{Visit, visit}
 use Rattle.pass_replay.specs.declared.visited.Visited.{Visited}
 
 -- a cell for each line from 0 on; after the last one nothing is cached

@@ -2,11 +2,11 @@
 use Rattle.std.specs.Prelude.{List, Option, Some, None}
 use Rattle.pam_base.specs.declared.code.Code.{Code}
 use Rattle.pam_base.specs.declared.code.Code.TheVariants.{Incomplete}
-use Rattle.stack_walk.specs.declared.opinion.Opinion.{Opinion}
-use Rattle.stack_walk.specs.declared.seen.Seen.{Seen}
-use Rattle.stack_walk.specs.Opinion.{verdict}
-use Rattle.stack_walk.specs.Pass.{Visit, answers_of}
-use Rattle.stack_walk.specs.Retell.{Telling}
+use Rattle.handler_chain.specs.declared.opinion.Opinion.{Opinion}
+use Rattle.handler_chain.specs.declared.seen.Seen.{Seen}
+use Rattle.handler_chain.specs.Opinion.{verdict}
+use Rattle.handler_chain.specs.Pass.{Visit, answers_of}
+use Rattle.handler_chain.specs.Retell.{Telling}
 use Rattle.dispatch_core.specs.Calls as calls
 use Rattle.pass_replay.specs.declared.passed.Passed.{Passed}
 use Rattle.pass_replay.specs.Kept.{kept_answers}

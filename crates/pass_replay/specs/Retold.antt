@@ -5,11 +5,11 @@ use Rattle.pam_base.specs.declared.call.Func.TheVariants.{Authenticate, SetCred,
 use Rattle.control_words.specs.Stack.{Stack, stack_of}
 use Rattle.dispatch_core.specs.service_load.specs.Stacks.{Stacks}
 use Rattle.dispatch_core.specs.service_load.specs.Trees.{Trees}
-use Rattle.stack_walk.specs.declared.seen.Seen.{Seen}
-use Rattle.stack_walk.specs.declared.pass_kind.PassKind.{PassKind}
-use Rattle.stack_walk.specs.declared.pass_kind.PassKind.TheVariants.{Keep}
-use Rattle.stack_walk.specs.Retell.{Telling}
-use Rattle.stack_walk.specs.Route.{KeptAnswers}
+use Rattle.handler_chain.specs.declared.seen.Seen.{Seen}
+use Rattle.handler_chain.specs.declared.pass_kind.PassKind.{PassKind}
+use Rattle.handler_chain.specs.declared.pass_kind.PassKind.TheVariants.{Keep}
+use Rattle.handler_chain.specs.Retell.{Telling}
+use Rattle.handler_chain.specs.Route.{KeptAnswers}
 use Rattle.dispatch_core.specs.Calls.{Held, Went, following, held, went}
 use Rattle.dispatch_core.specs.Pending.{Pending}
 use Rattle.pass_replay.specs.declared.retold.Retold.{Retold}

@@ -1,9 +1,9 @@
 -- The recorded lines of a call: a line that was run, or another one, whose content doesn't matter
 -- here (this project's own).
 use Rattle.std.specs.Prelude.{ℕ, zero, suc, ◌+◌, Bool, List, [], ◌∷◌, Option, Some, None, drop}
-use Rattle.stack_walk.specs.declared.seen.Seen.{Seen}
-use Rattle.stack_walk.specs.Retell as retell
-use Rattle.stack_walk.specs.Seen.{seen_of}
+use Rattle.handler_chain.specs.declared.seen.Seen.{Seen}
+use Rattle.handler_chain.specs.Retell as retell
+use Rattle.handler_chain.specs.Seen.{seen_of}
 
 -- the lines that were run among recorded lines
 abbrev pub visits_in : List (Option Seen) → List retell.Seen

@@ -2,12 +2,12 @@
 use Rattle.std.specs.Prelude.{◌≡◌, ℕ, List, drop, Option, Some, None}
 use Rattle.pam_base.specs.declared.code.Code.{Code}
 use Rattle.control_words.specs.Stack.{Stack}
-use Rattle.stack_walk.specs.declared.opinion.Opinion.{Opinion}
-use Rattle.stack_walk.specs.declared.pass_kind.PassKind.{PassKind}
-use Rattle.stack_walk.specs.declared.seen.Seen.{Seen}
-use Rattle.stack_walk.specs.Walk.{Next, after, stop, Serving, Walked, walk, walked, halted}
-use Rattle.stack_walk.specs.Retell.{Telling}
-use Rattle.stack_walk.specs.Pass.{PassState, pass_state}
+use Rattle.handler_chain.specs.declared.opinion.Opinion.{Opinion}
+use Rattle.handler_chain.specs.declared.pass_kind.PassKind.{PassKind}
+use Rattle.handler_chain.specs.declared.seen.Seen.{Seen}
+use Rattle.handler_chain.specs.Walk.{Next, after, stop, Serving, Walked, walk, walked, halted}
+use Rattle.handler_chain.specs.Retell.{Telling}
+use Rattle.handler_chain.specs.Pass.{PassState, pass_state}
 use Rattle.pass_replay.specs.declared.next_node.NextNode.{NextNode}
 use Rattle.pass_replay.specs.declared.replay.Replay.{Replay}
 use Rattle.pass_replay.specs.Kept.{visits_of}

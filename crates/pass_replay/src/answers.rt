@@ -1,6 +1,6 @@
 ghost use Rattle.std.specs.Prelude.{◌≡◌, ◌≢◌, ◌+◌, ◌≤◌, ◌<◌, ℕ, Some, None, IfOk, OnOk, length};
 ghost use Rattle.std.specs.Option.{option_or};
-ghost use Rattle.stack_walk.specs.Pass.{kept_in};
+ghost use Rattle.handler_chain.specs.Pass.{kept_in};
 ghost use Rattle.pass_replay.specs.Kept.{answers_in, visits_of};
 
 use crate::visited::Visited;

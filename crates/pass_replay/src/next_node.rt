@@ -1,10 +1,10 @@
 ghost use Rattle.std.specs.Prelude.{◌≡◌, if◌then◌else◌, nat_le};
-ghost use Rattle.stack_walk.specs.Opinion.{overrun};
-ghost use Rattle.stack_walk.specs.Walk.{next_of, settled};
+ghost use Rattle.handler_chain.specs.Opinion.{overrun};
+ghost use Rattle.handler_chain.specs.Walk.{next_of, settled};
 ghost use Rattle.pass_replay.specs.Walk.{skip_of};
 
 use control_words::Action;
-use stack_walk::Opinion;
+use handler_chain::Opinion;
 
 /// Where a list goes on after a line: the state, and how many of its nodes are skipped, which is
 /// all that are left if the list ends.

@@ -1,9 +1,9 @@
 ghost use Rattle.std.specs.Prelude.{◌≡◌, ◌≤◌, List, Option, IfOk};
 ghost use Rattle.control_words.specs.Stack.{lines_in, stack_of};
 ghost use Rattle.dispatch_core.specs.Calls.{answers_held, kept_behind, passed_by};
-ghost use Rattle.stack_walk.specs.Pass.{PassState, answers_of, pass_after};
-ghost use Rattle.stack_walk.specs.Retell.{Telling, replaying};
-ghost use Rattle.stack_walk.specs.Walk.{Walked};
+ghost use Rattle.handler_chain.specs.Pass.{PassState, answers_of, pass_after};
+ghost use Rattle.handler_chain.specs.Retell.{Telling, replaying};
+ghost use Rattle.handler_chain.specs.Walk.{Walked};
 ghost use Rattle.pass_replay.specs.Kept.{kept_answers, visits_of};
 ghost use Rattle.pass_replay.specs.Passed.{ended_code, ended_paused, passed_of};
 ghost use Rattle.pass_replay.specs.Told.{telling_from};
@@ -15,8 +15,8 @@ use crate::replay::{Replay, begun};
 use crate::visited::Visited;
 use crate::walk::walk_nodes;
 use control_words::Nodes;
+use handler_chain::{Opinion, PassKind, Seen};
 use pam_base::{Code, NoMemory, Sequence};
-use stack_walk::{Opinion, PassKind, Seen};
 use std::alloc::Global;
 
 /// Replays a pass, after the codes of its earlier calls, by the recorded lines from one on.

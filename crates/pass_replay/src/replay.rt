@@ -1,18 +1,18 @@
 ghost use Rattle.std.specs.Prelude.{◌≡◌, ◌<◌, ◌+◌, ◌∷◌, ◌++◌, [], IfOk, OnOk, is_none, true};
 ghost use Rattle.dispatch_core.specs.Passes.{answer_in};
-ghost use Rattle.stack_walk.specs.declared.pass_kind.PassKind.{PassKind};
-ghost use Rattle.stack_walk.specs.Pass.{AnswersAs, decides, is_incomplete, serving};
-ghost use Rattle.stack_walk.specs.Retell.{replaying};
-ghost use Rattle.stack_walk.specs.Route.{KeptAnswers};
-ghost use Rattle.stack_walk.specs.Walk.{ServedAs};
+ghost use Rattle.handler_chain.specs.declared.pass_kind.PassKind.{PassKind};
+ghost use Rattle.handler_chain.specs.Pass.{AnswersAs, decides, is_incomplete, serving};
+ghost use Rattle.handler_chain.specs.Retell.{replaying};
+ghost use Rattle.handler_chain.specs.Route.{KeptAnswers};
+ghost use Rattle.handler_chain.specs.Walk.{ServedAs};
 ghost use Rattle.pass_replay.specs.Told.{telling_from};
 ghost use Rattle.pass_replay.specs.Walk.{state_in};
 
 use crate::told::{is_of, next_seen};
 use crate::visited::Visited;
 use control_words::Rule;
+use handler_chain::Seen;
 use pam_base::{Code, NoMemory, Sequence};
-use stack_walk::Seen;
 use std::alloc::Global;
 
 /// How far the replay of a pass has got.

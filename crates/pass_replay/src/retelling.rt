@@ -4,8 +4,8 @@ ghost use Rattle.dispatch_core.specs.Calls as calls;
 ghost use Rattle.dispatch_core.specs.Calls.{change, check, following, goes, held_behind, one_pass, passes, update, went};
 ghost use Rattle.dispatch_core.specs.Pending.{first_in, past_in, pending_after};
 ghost use Rattle.dispatch_core.specs.service_load.specs.Load.{AreBounded};
-ghost use Rattle.stack_walk.specs.Retell.{Telling, telling};
-ghost use Rattle.stack_walk.specs.declared.seen.Seen.{Seen};
+ghost use Rattle.handler_chain.specs.Retell.{Telling, telling};
+ghost use Rattle.handler_chain.specs.declared.seen.Seen.{Seen};
 ghost use Rattle.pass_replay.specs.Held.{held_of, pending_of};
 ghost use Rattle.pass_replay.specs.Kept.{kept_answers};
 ghost use Rattle.pass_replay.specs.Replay.{as_told};
@@ -21,8 +21,8 @@ use crate::retold::Retold;
 use crate::told::first_left;
 use control_words::Nodes;
 use dispatch_core::service_load::Trees;
+use handler_chain::{PassKind, Seen};
 use pam_base::{Code, Func, NoMemory, Sequence};
-use stack_walk::{PassKind, Seen};
 use std::alloc::Global;
 
 /// Replays a stack call, while no other one is pending, by the recorded lines of its block: lines

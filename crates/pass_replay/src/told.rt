@@ -1,10 +1,10 @@
 ghost use Rattle.std.specs.Prelude.{◌≡◌, ◌≤◌, ◌+◌, ◌-◌, ◌∷◌, [], Some, IfSome, IfNone, drop, length, slice_get};
-ghost use Rattle.stack_walk.specs.Retell.{is_of};
-ghost use Rattle.stack_walk.specs.Seen.{seen_of};
+ghost use Rattle.handler_chain.specs.Retell.{is_of};
+ghost use Rattle.handler_chain.specs.Seen.{seen_of};
 ghost use Rattle.pass_replay.specs.Told.{lines_before, visits_in};
 
 use control_words::{Rule, module_name};
-use stack_walk::Seen;
+use handler_chain::Seen;
 
 /// The index, from 0, of the first recorded line of a rule; the number of recorded lines if there
 /// is none.

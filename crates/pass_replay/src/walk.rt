@@ -1,9 +1,9 @@
 ghost use Rattle.std.specs.Prelude.{◌≡◌, ◌<◌, ◌≤◌, ◌+◌, IfOk, IfSome};
 ghost use Rattle.control_words.specs.Stack.{Stack, count, line, lines_in, node_on, none, stack_of};
 ghost use Rattle.dispatch_core.specs.Calls.{answers_held};
-ghost use Rattle.stack_walk.specs.Pass.{decides, serving};
-ghost use Rattle.stack_walk.specs.Retell.{replaying};
-ghost use Rattle.stack_walk.specs.Walk.{walk};
+ghost use Rattle.handler_chain.specs.Pass.{decides, serving};
+ghost use Rattle.handler_chain.specs.Retell.{replaying};
+ghost use Rattle.handler_chain.specs.Walk.{walk};
 ghost use Rattle.pass_replay.specs.Kept.{kept_answers};
 ghost use Rattle.pass_replay.specs.Walk.{WalkEnds, after_line, state_in};
 
@@ -11,8 +11,8 @@ use crate::answers::Answers;
 use crate::next_node::{NextNode, next_node_after};
 use crate::replay::{Replay, next_answer};
 use control_words::{Node, Nodes, Rule};
+use handler_chain::{Opinion, PassKind, Seen};
 use pam_base::{Code, NoMemory};
-use stack_walk::{Opinion, PassKind, Seen};
 
 // How many lines a list has, including those of its substacks.
 fn line_count(nodes: &Nodes) -> usize

@@ -2,5 +2,5 @@ pub use Rattle.service_load.specs.conf_lex
 pub use Rattle.service_load.specs.control_words
 pub use Rattle.script_lang
 pub use Rattle.service_load
-pub use Rattle.stack_walk
+pub use Rattle.handler_chain
 pub mod Line

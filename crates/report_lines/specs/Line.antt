@@ -16,7 +16,7 @@ use Rattle.pam_base.specs.Quote.{quoted_text}
 use Rattle.pam_base.specs.Style.{style_number}
 use Rattle.script_lang.specs.Command.{word_of_func}
 use Rattle.service_load.specs.declared.load_fault.LoadFault.{LoadFault}
-use Rattle.stack_walk.specs.Retell.{Seen}
+use Rattle.handler_chain.specs.Retell.{Seen}
 
 -- ---- what a step reports before its result
 

@@ -1,5 +1,5 @@
 ghost use Rattle.std.specs.Prelude.{◌≡◌, ◌++◌, OnOk, codes, decimal, string_bytes};
-ghost use Rattle.stack_walk.specs.Retell.{seen_at};
+ghost use Rattle.handler_chain.specs.Retell.{seen_at};
 ghost use Rattle.report_lines.specs.Line.{cleanup_text, message_text, missing_text, names_text, status_words, variable_text, visit_text, wait_text};
 
 use crate::code::{write_code, write_code_line};

@@ -14,7 +14,7 @@ use Rattle.pam_base.specs.Style.{style_number}
 use Rattle.script_lang.specs.Command.{word_of_func}
 use Rattle.report_lines.specs.service_load.specs.declared.load_fault.LoadFault.{LoadFault}
 use Rattle.report_lines.specs.service_load.specs.FirstFault.{fault_at}
-use Rattle.stack_walk.specs.Retell.{Seen, seen_at}
+use Rattle.handler_chain.specs.Retell.{Seen, seen_at}
 use Rattle.report_lines.specs.Line.{Cleanup, Told, told_message, told_visit, told_cleanup, told_wait, told_missing, told_variable, Shown, shows_code, shows_fault, shows_value, shows_count, shows_not_open, shows_already_open, shows_bad_number, shows_pending, Result, answered, closed_by_program, command_word, number_words, code_words, status_words, shown_words, refused_words, pending_words, told_text, result_text, AreBytes, IsSeen, IsTold, IsShown}
 use Rattle.report_reader.specs.Says.{bare_told}
 use Rattle.report_reader.specs.Words.{before_space, after_space, last_word, before_last, guessed_number, guessed_status, unquoted, guessed_code, guessed_style, guessed_fault}

@@ -8,7 +8,7 @@ use Rattle.pam_base.specs.declared.fault.FaultKind.TheVariants.{ReadFailed}
 use Rattle.pam_base.specs.declared.fault.ScriptKind.TheVariants.{BadWord}
 use Rattle.pam_base.specs.declared.style.Style.TheVariants.{EchoOff}
 use Rattle.report_lines.specs.service_load.specs.FirstFault.{fault_at}
-use Rattle.stack_walk.specs.Retell.{seen_at}
+use Rattle.handler_chain.specs.Retell.{seen_at}
 use Rattle.report_lines.specs.Line.{told_message, told_visit, told_cleanup, told_wait, told_missing, told_variable, shows_code, shows_fault, shows_value, shows_count, shows_not_open, shows_already_open, shows_bad_number, shows_pending, starts, ends, runs, gets_item, lists_env, answered, closed_by_program, unread, refused_at}
 use Rattle.report_reader.specs.Guess.{if_printed, read_line}
 use Rattle.report_reader.specs.Says.{tells, results, lasts}

@@ -7,8 +7,8 @@ use Rattle.pam_base.specs.declared.call.CallName.TheVariants as names
 use Rattle.pam_base.specs.declared.fault.FaultKind.TheVariants.{OpenBracket}
 use Rattle.pam_base.specs.declared.fault.NoMemory.{NoMemory}
 use Rattle.report_lines.specs.service_load.specs.FirstFault.{fault_at}
-use Rattle.stack_walk.specs.declared.seen.Seen.{Seen}
-use Rattle.stack_walk.specs.Seen.{seen_of}
+use Rattle.handler_chain.specs.declared.seen.Seen.{Seen}
+use Rattle.handler_chain.specs.Seen.{seen_of}
 use Rattle.report_lines.specs.Line as lines
 use Rattle.report_reader.specs.declared.form.ReportedAnswer.{ReportedAnswer}
 use Rattle.report_reader.specs.declared.form.ReportedAnswer.TheVariants as answers

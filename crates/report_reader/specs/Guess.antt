@@ -7,7 +7,7 @@ use Rattle.std.specs.Str.{bytes_eq}
 use Rattle.pam_base.specs.Bytes.{has_byte}
 use Rattle.report_lines.specs.service_load.specs.declared.load_fault.LoadFault.{LoadFault}
 use Rattle.report_lines.specs.service_load.specs.FirstFault.{fault_at}
-use Rattle.stack_walk.specs.Retell.{Seen, seen_at}
+use Rattle.handler_chain.specs.Retell.{Seen, seen_at}
 use Rattle.report_lines.specs.Line.{Cleanup, Told, told_message, told_visit, told_cleanup, told_wait, told_missing, told_variable, Shown, shows_code, shows_fault, shows_value, shows_count, shows_not_open, shows_already_open, shows_bad_number, shows_pending, Result, answered, closed_by_program, Last, unread, refused_at}
 use Rattle.report_reader.specs.Says.{Says, tells, results, lasts, says_text}
 use Rattle.report_reader.specs.Words.{before_space, after_space, last_word, before_last, guessed_number, guessed_status, unquoted, guessed_code, guessed_style, guessed_fault, guessed_script_fault, guessed_func, guessed_command}

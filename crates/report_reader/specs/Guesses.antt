@@ -4,7 +4,7 @@ use Rattle.std.specs.Option.{option_map}
 use Rattle.pam_base.specs.declared.fault.NoMemory.{NoMemory}
 use Rattle.report_lines.specs.Line as lines
 use Rattle.report_lines.specs.service_load.specs.FirstFault.{fault_at}
-use Rattle.stack_walk.specs.Seen.{seen_of}
+use Rattle.handler_chain.specs.Seen.{seen_of}
 use Rattle.report_reader.specs.Form.{command_of}
 use Rattle.report_reader.specs.Words.{before_space, after_space}
 use Rattle.report_reader.specs.declared.told.ToldGuess.{ToldGuess}

@@ -1,5 +1,5 @@
+use handler_chain::Seen;
 use pam_base::{CallName, Code, Func};
-use stack_walk::Seen;
 
 /// The result of a command. What is only checked for its format is left out: why a start was
 /// refused, the value, the count.

@@ -11,11 +11,11 @@ use crate::names::{code_in, style_in};
 use crate::printed::if_printed;
 use crate::quoted::unquoted;
 use crate::words::{after_space, before_last, before_space, last_word, number_of, status_of};
+use handler_chain::Seen;
 use pam_base::{Code, NoMemory, Style, Text, first_place};
 use report_lines::{
     write_cleanup, write_missing, write_said, write_variable, write_visit, write_wait,
 };
-use stack_walk::Seen;
 use std::alloc::Global;
 
 /// What a line before a result may say.

@@ -4,10 +4,10 @@ use Rattle.pam_base.specs.declared.code.Code.{Code}
 use Rattle.pam_base.specs.declared.call.Func.{Func}
 use Rattle.pam_base.specs.declared.call.Func.TheVariants as funcs
 use Rattle.pam_base.specs.declared.code.Code.TheVariants as codes
-use Rattle.stack_walk.specs.declared.seen.Seen.{Seen}
-use Rattle.stack_walk.specs.Seen.{seen_of}
-use Rattle.stack_walk.specs.Retell as retell
-use Rattle.stack_walk.specs.Retell.{telling}
+use Rattle.handler_chain.specs.declared.seen.Seen.{Seen}
+use Rattle.handler_chain.specs.Seen.{seen_of}
+use Rattle.handler_chain.specs.Retell as retell
+use Rattle.handler_chain.specs.Retell.{telling}
 use Rattle.service_load.specs.Stacks.{Stacks}
 use Rattle.pass_replay.specs.dispatch_core.specs.Calls.{Held, Went, goes}
 use Rattle.pass_replay.specs.dispatch_core.specs.Pending.{is_other_pending}

@@ -7,7 +7,7 @@ use Rattle.pam_base.specs.declared.call.Func.{Func}
 use Rattle.service_load.specs.Stacks.{Stacks}
 use Rattle.pass_replay.specs.dispatch_core.specs.Calls.{Held}
 use Rattle.pass_replay.specs.Held.{held_of}
-use Rattle.stack_walk.specs.declared.seen.Seen.{Seen}
+use Rattle.handler_chain.specs.declared.seen.Seen.{Seen}
 use Rattle.report_lines.specs.Line.{Told, Command, runs, Shown, shows_code, shows_pending, Result, answered, closed_by_program, Block}
 use Rattle.report_reader.specs.Form.{told_of}
 use Rattle.report_reader.specs.Guess.{read_line}

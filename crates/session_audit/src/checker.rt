@@ -15,10 +15,10 @@ ghost use Rattle.session_audit.specs.Whole.{formless};
 use crate::place::SlotLog;
 use crate::places::{closed_places, judge_at};
 use crate::verdict::Verdict;
+use handler_chain::Seen;
 use pam_base::NoMemory;
 use report_reader::{Form, ReportedOutcome, read_line};
 use service_load::Trees;
-use stack_walk::Seen;
 use std::alloc::Global;
 
 /// A block that has begun: the transaction number of its lines, and what they have said so far.

@@ -9,11 +9,11 @@ ghost use Rattle.session_audit.specs.Differs.{lines_before};
 ghost use Rattle.session_audit.specs.Fits.{is_refused_change, running, same_code, visits_told, without_visits};
 
 use crate::place::{SlotLog, behind_quiet};
+use handler_chain::Seen;
 use pam_base::{CallName, Code, Func, NoMemory};
 use pass_replay::{Held, Retold, first_visit, retell};
 use report_reader::{ReportedAnswer, ReportedOutcome};
 use service_load::Trees;
-use stack_walk::Seen;
 use std::alloc::Global;
 
 /// The result of a block for what is known of its transaction.

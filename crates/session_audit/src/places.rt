@@ -9,11 +9,11 @@ ghost use Rattle.session_audit.specs.Fits.{all_shut, is_bad_number};
 
 use crate::judge::{Judged, judge};
 use crate::place::SlotLog;
+use handler_chain::Seen;
 use pam_base::NoMemory;
 use pass_replay::first_visit;
 use report_reader::{ReportedAnswer, ReportedOutcome};
 use service_load::Trees;
-use stack_walk::Seen;
 use std::alloc::Global;
 
 // The maximum number of a transaction; they begin with 1.

@@ -7,7 +7,7 @@ use Rattle.data_cleanup.specs.Cleanup.{Notes, times}
 use Rattle.data_cleanup.specs.Due.{Event, birth, ends}
 use Rattle.data_cleanup.specs.declared.datum.Birth.{Birth}
 use Rattle.data_cleanup.specs.Ledger.{PlainLedger}
-use Rattle.data_due.specs.Stands.{Lists, StandFor, times_held, receipts_in}
+use Rattle.data_cleanup.specs.Stands.{Lists, StandFor, times_held, receipts_in}
 use Rattle.session_check.specs.pam_library.specs.Calls.{Moved, births_added, events_of}
 use Rattle.session_check.specs.pam_library.specs.Slots.{NoneIsOpen, PlainSlot, closed, opened, data_in, lists_of}
 use Rattle.session_login.specs.session_run.specs.AnyWorld.{AllEndsAre, Proceeds, ProceedsBy}

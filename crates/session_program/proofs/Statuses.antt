@@ -2,7 +2,7 @@
 use Rattle.std.proofs.Common.{◌≡◌, ℕ, List, [], ◌++◌, Option, Ok, sym, ap, ◌∙◌, subst}
 use Rattle.pam_base.specs.declared.fault.ScriptKind.{ScriptKind}
 use Rattle.pam_outside.specs.Streams.{SourceState, SinkState}
-use Rattle.data_due.specs.Stands.{StandFor}
+use Rattle.data_cleanup.specs.Stands.{StandFor}
 use Rattle.pam_room.specs.Module.{notes_of}
 use Rattle.session_check.specs.pam_library.specs.Slots.{lists_of}
 use Rattle.item_stream.specs.Run.{come_to}

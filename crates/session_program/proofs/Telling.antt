@@ -3,7 +3,7 @@ use Rattle.std.proofs.Common.{◌≡◌, inl, inr, ℕ, suc, Bool, true, false, 
 use Rattle.pam_room.specs.conv_port.specs.Conv.{ConvState}
 use Rattle.data_cleanup.specs.Cleanup.{Notes}
 use Rattle.data_cleanup.specs.Ledger.{PlainLedger}
-use Rattle.data_due.specs.Stands.{StandFor}
+use Rattle.data_cleanup.specs.Stands.{StandFor}
 use Rattle.pam_outside.specs.Streams.{SourceState, SinkState}
 use Rattle.pam_base.specs.declared.code.Code.{Code}
 use Rattle.pam_room.specs.Module.{Player, notes_of}

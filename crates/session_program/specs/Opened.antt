@@ -1,7 +1,7 @@
 -- A library that a command opens, over a world under its root (this project's own).
 use Rattle.std.specs.Prelude.{◌≡◌, ℕ, List, []}
 use Rattle.pam_base.specs.declared.code.Code.{Code}
-use Rattle.data_due.specs.Stands.{StandFor}
+use Rattle.data_cleanup.specs.Stands.{StandFor}
 use Rattle.pam_room.specs.Module.{notes_of}
 use Rattle.pam_room.specs.State.{PlainWorld}
 use Rattle.session_check.specs.pam_library.specs.Slots.{handle_limit, lists_of}

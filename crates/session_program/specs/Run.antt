@@ -1,6 +1,6 @@
 -- A run of a script under a root, by the status with which the program ends (this project's own).
 use Rattle.std.specs.Prelude.{◌≡◌, ◌⊎◌, ℕ, ◌≤◌, Bool, true, false, List, [], ◌++◌, length, Some, None, Result, Ok, Err}
-use Rattle.data_due.specs.Stands.{StandFor}
+use Rattle.data_cleanup.specs.Stands.{StandFor}
 use Rattle.pam_base.specs.declared.fault.ScriptKind.{ScriptKind}
 use Rattle.pam_outside.specs.Streams.{SourceState, SinkState}
 use Rattle.pam_room.specs.Module.{notes_of}

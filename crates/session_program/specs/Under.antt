@@ -1,6 +1,6 @@
 -- A run of a stream under a root, whatever its items are (this project's own).
 use Rattle.std.specs.Prelude.{◌≡◌, ◌⊎◌, ℕ, List, [], Some, Result, Ok, Err, IfOk, IsTrue}
-use Rattle.data_due.specs.Stands.{StandFor}
+use Rattle.data_cleanup.specs.Stands.{StandFor}
 use Rattle.pam_outside.specs.Counts.{RisesIf, Rose}
 use Rattle.pam_outside.specs.Streams.{SourceState, SinkState}
 use Rattle.pam_room.specs.Module.{notes_of}

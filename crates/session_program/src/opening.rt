@@ -1,7 +1,7 @@
 ghost use Rattle.std.specs.Prelude.{◌≡◌, ℕ, [], IfOk, IsTrue, OnErr, length};
 ghost use Rattle.pam_base.specs.declared.code.Code.{Code};
 ghost use Rattle.fail_delay.specs.DelayFn.{IsNumberGiven};
-ghost use Rattle.data_due.specs.Stands.{StandFor};
+ghost use Rattle.data_cleanup.specs.Stands.{StandFor};
 ghost use Rattle.pam_room.specs.Module.{notes_of};
 ghost use Rattle.session_check.specs.pam_library.specs.Slots.{NoneIsOpen, handle_limit, lists_of};
 ghost use Rattle.session_check.specs.pam_library.specs.Plain.{gear_in};

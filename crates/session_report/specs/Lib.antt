@@ -1,6 +1,6 @@
 pub use Rattle.report_lines.specs.conf_lex
 pub use Rattle.pam_library.specs.conv_port
-pub use Rattle.pam_library.specs.data_due
+pub use Rattle.pam_library.specs.data_cleanup
 pub use Rattle.pam_library.specs.dispatch_core
 pub use Rattle.pam_library.specs.fail_delay
 pub use Rattle.pam_library.specs.pam_handle

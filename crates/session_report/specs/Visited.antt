@@ -4,7 +4,7 @@ use Rattle.std.specs.List.{flat_map}
 use Rattle.report_lines.specs.control_words.specs.Module.{name_of_module}
 use Rattle.pam_library.specs.pam_room.specs.declared.visits.Visit.{Visit}
 use Rattle.report_lines.specs.Line as lines
-use Rattle.report_lines.specs.stack_walk.specs.Retell.{seen_at}
+use Rattle.report_lines.specs.handler_chain.specs.Retell.{seen_at}
 
 -- the line of the report for a line that was run
 abbrev pub visit_text : ℕ → Visit → List ℕ

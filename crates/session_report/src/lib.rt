@@ -20,7 +20,7 @@ mod waited;
 pub use closing::closing_report;
 pub use fault::refused_report;
 pub use pam_library;
-pub use pam_library::{data_due, fail_delay, pam_handle, pam_room};
+pub use pam_library::{data_cleanup, fail_delay, pam_handle, pam_room};
 pub use result::result_report;
 pub use script::{read_fault_report, script_report};
 pub use step::step_report;

@@ -3,7 +3,7 @@ use Rattle.std.proofs.Common.{◌≡◌, ℕ, List, Result, Ok, refl, ap, ◌∙
 use Rattle.pam_base.specs.declared.call.Step.{Step}
 use Rattle.pam_base.specs.declared.code.Code.{Code}
 use Rattle.data_cleanup.specs.Due.{Event}
-use Rattle.session_report.specs.data_due.specs.Moves.{Moves}
+use Rattle.data_cleanup.specs.Moves.{Moves}
 use Rattle.session_report.specs.pam_room.specs.Module.{notes_of}
 use Rattle.session_report.specs.pam_library.specs.Applied.{Keeps, ended_by}
 use Rattle.session_report.specs.pam_library.specs.Seen.{slot_of}

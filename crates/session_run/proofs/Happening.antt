@@ -5,7 +5,7 @@ use Rattle.std.proofs.lemmas.Bool.Decides.{nat_tests}
 use Rattle.data_cleanup.specs.Cleanup.{Notes, ledger_after}
 use Rattle.data_cleanup.specs.Due.{Event, ends}
 use Rattle.data_cleanup.specs.Ledger.{PlainLedger}
-use Rattle.session_report.specs.data_due.specs.Stands.{Lists, StandFor, clean_list}
+use Rattle.data_cleanup.specs.Stands.{Lists, StandFor, clean_list}
 use Rattle.pam_base.specs.Code.{number_of}
 use Rattle.pam_base.specs.Lines.{lines_of}
 use Rattle.pam_base.specs.declared.code.Code.{Code}

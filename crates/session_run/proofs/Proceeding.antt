@@ -7,8 +7,8 @@ use Rattle.data_cleanup.specs.Ledger.{PlainLedger}
 use Rattle.data_cleanup.specs.Cleanup.{Notes, receipts_for}
 use Rattle.data_cleanup.specs.Due.{Event, birth, ends}
 use Rattle.data_cleanup.specs.Grows.{Grows}
-use Rattle.session_report.specs.data_due.specs.Stands.{Lists}
-use Rattle.session_report.specs.data_due.specs.Moves.{Moves}
+use Rattle.data_cleanup.specs.Stands.{Lists}
+use Rattle.data_cleanup.specs.Moves.{Moves}
 use Rattle.session_report.specs.pam_library.specs.AnyWorld.{SpendsAs, SpendsAt, end_at}
 use Rattle.session_report.specs.pam_library.specs.Closing.{end_of}
 use Rattle.session_report.specs.pam_library.specs.Calls.{MoveOn, Moved, last_ledger, last_lists}

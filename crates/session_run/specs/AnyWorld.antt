@@ -3,7 +3,7 @@ use Rattle.std.specs.Prelude.{◌≡◌, ℕ, List, [], ◌∷◌, ◌++◌}
 use Rattle.data_cleanup.specs.Ledger.{PlainLedger}
 use Rattle.data_cleanup.specs.Cleanup.{Notes}
 use Rattle.data_cleanup.specs.Due.{Event}
-use Rattle.session_report.specs.data_due.specs.Stands.{Lists, StandFor}
+use Rattle.data_cleanup.specs.Stands.{Lists, StandFor}
 use Rattle.session_report.specs.pam_room.specs.Module.{Player, notes_of}
 use Rattle.session_report.specs.pam_library.specs.Calls.{MoveOn, Moved, events_of, last_ledger, last_lists}
 use Rattle.session_report.specs.pam_library.specs.Slots.{PlainSlot, handle_limit, lists_of}

@@ -8,8 +8,8 @@ use Rattle.pam_base.specs.declared.fault.ScriptKind.{ScriptKind}
 use Rattle.data_cleanup.specs.Cleanup.{Notes}
 use Rattle.data_cleanup.specs.Due.{Event, ends, due}
 use Rattle.data_cleanup.specs.Ledger.{PlainLedger}
-use Rattle.session_report.specs.data_due.specs.Moves.{Moves}
-use Rattle.session_report.specs.data_due.specs.Stands.{StandFor, births_of, receipts_in}
+use Rattle.data_cleanup.specs.Moves.{Moves}
+use Rattle.data_cleanup.specs.Stands.{StandFor, births_of, receipts_in}
 use Rattle.session_report.specs.pam_room.specs.Module.{notes_of}
 use Rattle.session_report.specs.pam_library.specs.AnyWorld.{end_at}
 use Rattle.session_report.specs.pam_library.specs.Calls.{Moved, events_of}

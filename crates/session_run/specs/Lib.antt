@@ -1,7 +1,6 @@
 pub use Rattle.session_report.specs.conf_lex
 pub use Rattle.session_report.specs.conv_port
 pub use Rattle.data_cleanup
-pub use Rattle.session_report.specs.data_due
 pub use Rattle.session_report.specs.dispatch_core
 pub use Rattle.item_stream
 pub use Rattle.session_report.specs.pam_handle

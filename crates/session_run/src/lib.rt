@@ -18,11 +18,12 @@ mod status;
 mod world;
 
 pub use closing::end_next;
+pub use data_cleanup;
 pub use item_stream;
 pub use protocol::Protocol;
 pub use run::run_stream;
 pub use script::Script;
 pub use script_lang;
 pub use session_report;
-pub use session_report::{data_due, fail_delay, pam_handle, pam_library, pam_room};
+pub use session_report::{fail_delay, pam_handle, pam_library, pam_room};
 pub use status::stop_status;

@@ -45,7 +45,7 @@ pub fn run_stream<P: Protocol, S: Source, K: Sink>(
         (object_of S.source_tells S.source_holds S.source_faults source.old source.new)
         (object_of K.sink_tells K.sink_holds K.sink_faults sink.old sink.new) }
 {
-    session_report::data_due::laws::all_are_filed();
+    data_cleanup::due_laws::all_are_filed();
     P::ends();
     let mut taken = 0;
     match serve_items::<P, S, K>(alloc, library, &mut taken, source, sink, world) {

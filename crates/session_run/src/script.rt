@@ -94,7 +94,7 @@ impl Protocol for Script {
 
     fn ends() {
         session_report::pam_library::laws::calls_stand_for_their_events();
-        session_report::data_due::laws::end_stands();
+        data_cleanup::due_laws::end_stands();
         script_stream::laws::whole_input_is_looked_at();
     }
 

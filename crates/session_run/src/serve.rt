@@ -63,7 +63,7 @@ pub(crate) fn serve<P: Protocol, K: Sink>(
         (K.sink_faults sink.new) }
 {
     laws::item_is_served::<Items<P>>();
-    session_report::data_due::laws::nothing_moves();
+    data_cleanup::due_laws::nothing_moves();
     P::does();
     match P::read(alloc, taken, item) {
         Err(Refuse::NoMemory) => Err(Stop::NoMemory),

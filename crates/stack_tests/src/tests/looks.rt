@@ -7,12 +7,11 @@ use control_words::{Keyword, Node, Nodes, Rule};
 use conv_port::QueueConv;
 use dispatch_core::{PassRequest, Paused, dispatch};
 use frozen_chain::Kept;
-use handler_chain::flatten;
+use handler_chain::{PassKind, flatten};
 use mod_basic::Deny;
 use pam_base::{Code, Func, NoMemory, Numbers, SharedText, Text, Texts};
 use pam_outside::{FixedClock, MemVault, NapSum};
 use pam_room::{Module, Process, Room, World, end_room, name_of};
-use stack_walk::PassKind;
 use std::alloc::Global;
 use std::test::Fail;
 

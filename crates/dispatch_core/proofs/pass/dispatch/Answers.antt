@@ -1,7 +1,7 @@
 use Rattle.std.proofs.Common.{◌≡◌, true, is_some, sym, ◌∙◌, ap, rules}
 use Rattle.control_words.specs.Stack.{lines_in}
 use Rattle.pam_room.specs.State.{PlainRoom}
-use Rattle.stack_walk.specs.declared.pass_kind.PassKind.TheVariants.{Keep}
+use Rattle.handler_chain.specs.declared.pass_kind.PassKind.TheVariants.{Keep}
 use Rattle.dispatch_core.specs.Passes.{by_place}
 use Rattle.dispatch_core.proofs.Progress.{first_cells-held, first_cells-open}
 use Rattle.dispatch_core.proofs.Reaching.{stopped_as}

@@ -6,8 +6,8 @@ use Rattle.frozen_chain.specs.Kept.{lines_kept}
 use Rattle.pam_room.specs.State.{State, state_of}
 use Rattle.pam_room.specs.Module.{player_of}
 use Rattle.pam_room.specs.Plain.{plain_room, plain_world}
-use Rattle.stack_walk.specs.Pass.{Answering, Visit, decides, pass_state, serving, visit}
-use Rattle.stack_walk.specs.Walk.{halted}
+use Rattle.handler_chain.specs.Pass.{Answering, Visit, decides, pass_state, serving, visit}
+use Rattle.handler_chain.specs.Walk.{halted}
 use Rattle.dispatch_core.specs.Index.{GoesOn, walk_on}
 use Rattle.dispatch_core.specs.Lines.{answers_by}
 use Rattle.dispatch_core.specs.Passes.{answer_in, by_place, taken_with}

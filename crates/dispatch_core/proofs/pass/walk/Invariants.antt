@@ -5,7 +5,7 @@ use Rattle.pam_room.specs.State.{State, state_of}
 use Rattle.pam_room.specs.Stays.{IsReady}
 use Rattle.pam_room.specs.Module.{Player, notes_of, player_of}
 use Rattle.pam_room.specs.Plain.{plain_process, plain_room, plain_transaction, plain_world}
-use Rattle.stack_walk.specs.Pass.{Answering, Visit, pass_after, pass_state, serving}
+use Rattle.handler_chain.specs.Pass.{Answering, Visit, pass_after, pass_state, serving}
 use Rattle.dispatch_core.specs.AnyWorld.{GoesSoundly}
 use Rattle.dispatch_core.specs.Index.{walk_on}
 use Rattle.dispatch_core.specs.Lines.{answers_by}

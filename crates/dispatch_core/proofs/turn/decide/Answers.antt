@@ -1,7 +1,7 @@
 use Rattle.std.proofs.Common.{Option, unwrap_or, ◌+◌, ◌∙◌, sym, ap}
 use Rattle.pam_base.specs.declared.code.Code.{Code}
-use Rattle.stack_walk.specs.declared.pass_kind.PassKind.{PassKind}
-use Rattle.stack_walk.specs.Pass.{decides}
+use Rattle.handler_chain.specs.declared.pass_kind.PassKind.{PassKind}
+use Rattle.handler_chain.specs.Pass.{decides}
 use Rattle.dispatch_core.specs.Passes.{by_place}
 use Rattle.dispatch_core.proofs.Keeping.{by_place-next}
 use Rattle.dispatch_core.proofs.turn.decide.Goals as goal

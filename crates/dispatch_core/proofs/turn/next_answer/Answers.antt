@@ -5,7 +5,7 @@ use Rattle.handler_chain.specs.FlatLines.{rule_at}
 use Rattle.pam_room.specs.Module.{player_of}
 use Rattle.pam_room.specs.Plain.{plain_room, plain_transaction, plain_world}
 use Rattle.pam_room.specs.State.{State, state_of}
-use Rattle.stack_walk.specs.Pass.{AnswersAs}
+use Rattle.handler_chain.specs.Pass.{AnswersAs}
 use Rattle.dispatch_core.specs.AnswersSoFar.{AnswersView}
 use Rattle.dispatch_core.specs.Failing.{visited_at}
 use Rattle.dispatch_core.specs.Lines.{answers_by}

@@ -1,6 +1,6 @@
 use Rattle.std.proofs.Common.{ap}
 use Rattle.std.specs.Prelude.{string_bytes}
-use Rattle.stack_walk.specs.Retell.{telling}
+use Rattle.handler_chain.specs.Retell.{telling}
 use Rattle.pass_replay.specs.Held.{held_of}
 use Rattle.pass_replay.specs.Kept.{kept_answers}
 use Rattle.pass_replay.specs.Retold.{stacks_in}

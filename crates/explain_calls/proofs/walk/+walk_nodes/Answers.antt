@@ -2,10 +2,10 @@ use Rattle.std.proofs.Common.{◌≡◌, ◌<◌, ◌≤◌, ◌+◌, ◌-◌, �
 use Rattle.control_words.specs.declared.nodes.Node.{Node}
 use Rattle.control_words.specs.Stack.{Stack, count, depth, line, lines_in, stack_of}
 use Rattle.pass_replay.specs.dispatch_core.specs.Calls.{answers_held}
-use Rattle.stack_walk.specs.declared.opinion.Opinion.{Opinion}
-use Rattle.stack_walk.specs.Pass.{PassState, serving}
-use Rattle.stack_walk.specs.Retell.{Telling, replaying}
-use Rattle.stack_walk.specs.Walk.{Serving, walk}
+use Rattle.handler_chain.specs.declared.opinion.Opinion.{Opinion}
+use Rattle.handler_chain.specs.Pass.{PassState, serving}
+use Rattle.handler_chain.specs.Retell.{Telling, replaying}
+use Rattle.handler_chain.specs.Walk.{Serving, walk}
 use Rattle.pass_replay.specs.Kept.{kept_answers}
 use Rattle.pass_replay.specs.declared.next_node.NextNode.{NextNode}
 use Rattle.pass_replay.specs.Walk.{WalkEnds, state_in}

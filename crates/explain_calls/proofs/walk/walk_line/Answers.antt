@@ -3,11 +3,11 @@ use Rattle.pam_base.specs.declared.code.Code.{Code}
 use Rattle.control_words.specs.Control.{action_at}
 use Rattle.pass_replay.specs.dispatch_core.specs.Calls.{answers_held}
 use Rattle.pass_replay.specs.dispatch_core.specs.Passes.{answer_in}
-use Rattle.stack_walk.specs.Opinion.{acted}
-use Rattle.stack_walk.specs.Pass.{PassState, decides, serving}
-use Rattle.stack_walk.specs.Retell.{Telling, replaying}
-use Rattle.stack_walk.specs.Route.{KeptAnswers}
-use Rattle.stack_walk.specs.Walk.{ServedAs, Serving, next_of}
+use Rattle.handler_chain.specs.Opinion.{acted}
+use Rattle.handler_chain.specs.Pass.{PassState, decides, serving}
+use Rattle.handler_chain.specs.Retell.{Telling, replaying}
+use Rattle.handler_chain.specs.Route.{KeptAnswers}
+use Rattle.handler_chain.specs.Walk.{ServedAs, Serving, next_of}
 use Rattle.pass_replay.specs.Kept.{kept_answers}
 use Rattle.pass_replay.specs.Walk.{state_in}
 use Rattle.pass_replay.proofs.Walking.{line_goes}

@@ -1,5 +1,5 @@
 use Rattle.std.proofs.Common.{◌≡◌, take}
-use Rattle.stack_walk.specs.Pass.{answers_of}
+use Rattle.handler_chain.specs.Pass.{answers_of}
 use Rattle.pass_replay.specs.Kept.{visits_of}
 use Rattle.pass_replay.proofs.pass.answers_of.Given as goal
 

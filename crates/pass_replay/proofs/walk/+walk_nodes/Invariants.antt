@@ -1,8 +1,8 @@
 use Rattle.std.proofs.Common.{drop}
 use Rattle.control_words.specs.Stack.{depth, stack_of}
 use Rattle.dispatch_core.specs.Calls.{answers_held}
-use Rattle.stack_walk.specs.Pass.{serving}
-use Rattle.stack_walk.specs.Retell.{replaying}
+use Rattle.handler_chain.specs.Pass.{serving}
+use Rattle.handler_chain.specs.Retell.{replaying}
 use Rattle.pass_replay.specs.Kept.{kept_answers}
 use Rattle.pass_replay.specs.Walk.{state_in}
 use Rattle.pass_replay.proofs.Walking.{IsWalking}

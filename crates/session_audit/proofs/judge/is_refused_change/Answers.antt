@@ -1,5 +1,5 @@
 use Rattle.std.proofs.Common.{List, [], sym, ◌∙◌, ap}
-use Rattle.stack_walk.specs.Retell.{Seen}
+use Rattle.handler_chain.specs.Retell.{Seen}
 use Rattle.session_audit.specs.Checked.{told_in}
 use Rattle.session_audit.specs.Fits.{visits_told, is_refused_change}
 use Rattle.session_audit.proofs.Checking.{told_some, told_none, and_no, refused_by}

@@ -3,7 +3,7 @@ use Rattle.pass_replay.specs.dispatch_core.specs.Calls.{goes}
 use Rattle.pass_replay.specs.Held.{held_of}
 use Rattle.pass_replay.specs.Replay.{as_told}
 use Rattle.pass_replay.specs.Retold.{stacks_in, went_of}
-use Rattle.stack_walk.specs.Retell.{Seen, telling}
+use Rattle.handler_chain.specs.Retell.{Seen, telling}
 use Rattle.session_audit.specs.Checked.{told_in}
 use Rattle.session_audit.specs.Differs.{lines_before}
 use Rattle.session_audit.specs.Fits.{visits_told, is_refused_change, running, same_code}

@@ -1,5 +1,5 @@
 use Rattle.std.proofs.Common.{◌≡◌, ℕ, take}
-use Rattle.stack_walk.specs.Pass.{kept_in}
+use Rattle.handler_chain.specs.Pass.{kept_in}
 use Rattle.pass_replay.specs.Kept.{answers_in, visits_of}
 use Rattle.pass_replay.proofs.answers.Answers.of.Given as goal
 

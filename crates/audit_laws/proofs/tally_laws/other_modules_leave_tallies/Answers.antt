@@ -1,0 +1,12 @@
+use Rattle.audit_laws.proofs.Others.{alone, others_leave}
+use Rattle.audit_laws.proofs.Paths.{usual}
+use Rattle.audit_laws.proofs.tally_laws.other_modules_leave_tallies.Goals as goal
+
+pub returns-clause-others : goal.returns-clause-others
+returns-clause-others c = others_leave
+
+pub returns-clause-usual : goal.returns-clause-usual
+returns-clause-usual c = usual
+
+pub returns-clause-alone : goal.returns-clause-alone
+returns-clause-alone c = alone

@@ -1,5 +1,0 @@
-use Rattle.data_due.proofs.Once.{once_due}
-use Rattle.data_due.proofs.laws.each_is_due_once.Goals as goal
-
-pub returns : goal.returns
-returns c = once_due

@@ -1,5 +1,0 @@
-use Rattle.data_due.proofs.Orderly.{tidy_on_end}
-use Rattle.data_due.proofs.laws.end_keeps_tidy.Goals as goal
-
-pub returns : goal.returns
-returns c = tidy_on_end

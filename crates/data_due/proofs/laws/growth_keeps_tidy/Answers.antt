@@ -1,5 +1,0 @@
-use Rattle.data_due.proofs.Orderly.{tidy_on_growth}
-use Rattle.data_due.proofs.laws.growth_keeps_tidy.Goals as goal
-
-pub returns : goal.returns
-returns c = tidy_on_growth

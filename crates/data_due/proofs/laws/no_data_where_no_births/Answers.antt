@@ -1,5 +1,0 @@
-use Rattle.data_due.proofs.Exact.{none_where_none}
-use Rattle.data_due.proofs.laws.no_data_where_no_births.Goals as goal
-
-pub returns : goal.returns
-returns c = none_where_none

@@ -1,5 +1,0 @@
-use Rattle.data_due.proofs.Whole.{stands_at_first}
-use Rattle.data_due.proofs.laws.nothing_stands_for_none.Goals as goal
-
-pub returns : goal.returns
-returns c = stands_at_first

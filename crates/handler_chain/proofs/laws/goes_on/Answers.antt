@@ -1,0 +1,5 @@
+use Rattle.handler_chain.proofs.Resuming.{goes_on}
+use Rattle.handler_chain.proofs.laws.goes_on.Goals as goal
+
+pub returns : goal.returns
+returns g c = goes_on _

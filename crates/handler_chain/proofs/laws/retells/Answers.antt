@@ -1,0 +1,5 @@
+use Rattle.handler_chain.proofs.Retelling.{retells}
+use Rattle.handler_chain.proofs.laws.retells.Goals as goal
+
+pub returns : goal.returns
+returns g c = retells _

@@ -1,6 +1,0 @@
--- A recorded line, as the definitions of runs have it.
-use Rattle.stack_walk.specs.declared.seen.Seen.{Seen}
-use Rattle.stack_walk.specs.Retell as retell
-
-abbrev pub seen_of : Seen → retell.Seen
-seen_of v = retell.seen_at v.place v.name v.answer

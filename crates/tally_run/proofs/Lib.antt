@@ -1,8 +1,0 @@
-mod Tallying
-mod Steps
-mod Paths
-mod Lists
-mod Envs
-mod Unixes
-mod Histories
-mod Others
