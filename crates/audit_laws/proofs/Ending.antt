@@ -7,8 +7,8 @@ use Rattle.pam_base.specs.declared.code.Code.{Code}
 use Rattle.pam_base.specs.declared.fault.ScriptKind.{ScriptKind}
 use Rattle.item_stream.specs.declared.ending.Ending.TheVariants.{Done, ReadFault, Refused}
 use Rattle.item_stream.specs.Run.{come_to, run_of}
-use Rattle.script_stream.specs.Run.{Run, run_lines}
-use Rattle.script_stream.specs.Turns.{Ending, Reports}
+use Rattle.item_stream.specs.LineRun.{Run, run_lines}
+use Rattle.item_stream.specs.LineTurns.{Ending, Reports}
 use Rattle.dispatch_core.specs.Lines.{names_of}
 use Rattle.pam_room.specs.Module.{Player}
 use Rattle.pam_room.specs.State.{PlainWorld}

@@ -4,8 +4,8 @@ use Rattle.pam_base.specs.declared.code.Code.TheVariants as returns
 use Rattle.pam_room.specs.Call.{PlainCall, value_among}
 use Rattle.pam_room.specs.env_list.specs.Environment.{Variable}
 use Rattle.mod_unix.specs.module_acts.specs.account_db.specs.declared.passwd.Passwd.{Passwd}
-use Rattle.mod_unix.specs.module_acts.specs.account_files.specs.declared.content.Content.{Content}
-use Rattle.mod_unix.specs.module_acts.specs.account_files.specs.Act.{Act, answers, in_room}
+use Rattle.mod_unix.specs.module_acts.specs.declared.content.Content.{Content}
+use Rattle.mod_unix.specs.module_acts.specs.Act.{Act, answers, in_room}
 use Rattle.mod_env.specs.declared.conf.EnvLine.{EnvLine}
 use Rattle.mod_env.specs.declared.expand.Expansion.{Expansion}
 use Rattle.mod_env.specs.declared.expand.Expansion.TheVariants.{TooLong, Puts}

@@ -9,8 +9,8 @@ use Rattle.pam_base.specs.declared.style.Style.TheVariants.{ErrorMsg}
 use Rattle.pam_outside.specs.Paths.{path_of}
 use Rattle.pam_room.specs.Call.{PlainCall}
 use Rattle.mod_unix.specs.module_acts.specs.account_db.specs.declared.passwd.Passwd.{Passwd}
-use Rattle.mod_unix.specs.module_acts.specs.account_files.specs.Accounts.{Account, account_limit, found, missing, unreadable}
-use Rattle.mod_unix.specs.module_acts.specs.account_files.specs.Act.{Act, answers, finds_account, reads_groups, reads_passwds, shows, unless_answered}
+use Rattle.mod_unix.specs.module_acts.specs.Accounts.{Account, account_limit, found, missing, unreadable}
+use Rattle.mod_unix.specs.module_acts.specs.Act.{Act, answers, finds_account, reads_groups, reads_passwds, shows, unless_answered}
 use Rattle.mod_unix.specs.module_acts.specs.Steps.{sees_caller}
 use Rattle.mod_unix.specs.module_acts.specs.Uncheck.{code_unchecked}
 use Rattle.mod_unix.specs.declared.look.KnownPassword.{KnownPassword}

@@ -10,10 +10,10 @@ use Rattle.std.specs.Str.{bytes_eq}
 use Rattle.mod_unix.specs.module_acts.specs.account_db.specs.declared.passwd.Passwd.{Passwd}
 use Rattle.mod_unix.specs.module_acts.specs.account_db.specs.declared.group.Group.{Group as Entry}
 use Rattle.mod_unix.specs.module_acts.specs.account_db.specs.Passwd.{entry_of}
-use Rattle.mod_unix.specs.module_acts.specs.account_files.specs.declared.content.Content.{Content}
-use Rattle.mod_unix.specs.module_acts.specs.account_files.specs.declared.content.Content.TheVariants.{Absent, Unreadable, Holds}
-use Rattle.mod_unix.specs.module_acts.specs.account_files.specs.Accounts.{Account, account_limit, found, missing, unreadable}
-use Rattle.mod_unix.specs.module_acts.specs.account_files.specs.Act.{Act, answers, asks_user, finds_account, reads_file}
+use Rattle.mod_unix.specs.module_acts.specs.declared.content.Content.{Content}
+use Rattle.mod_unix.specs.module_acts.specs.declared.content.Content.TheVariants.{Absent, Unreadable, Holds}
+use Rattle.mod_unix.specs.module_acts.specs.Accounts.{Account, account_limit, found, missing, unreadable}
+use Rattle.mod_unix.specs.module_acts.specs.Act.{Act, answers, asks_user, finds_account, reads_file}
 use Rattle.mod_unix.specs.module_acts.specs.Uncheck.{code_unchecked}
 use Rattle.mod_lists.specs.declared.condition.AccountField.{AccountField}
 use Rattle.mod_lists.specs.declared.condition.Field.{Field}

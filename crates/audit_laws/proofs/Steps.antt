@@ -18,11 +18,11 @@ use Rattle.pam_room.specs.conv_port.specs.declared.message.Message.{Message}
 use Rattle.pam_room.specs.conv_port.specs.declared.message.Reply.{Reply}
 use Rattle.mod_unix.specs.module_acts.specs.account_db.specs.declared.passwd.Passwd.{Passwd}
 use Rattle.mod_unix.specs.module_acts.specs.account_db.specs.declared.group.Group.{Group}
-use Rattle.mod_unix.specs.module_acts.specs.account_files.specs.declared.content.Content.{Content}
-use Rattle.mod_unix.specs.module_acts.specs.account_files.specs.declared.content.Content.TheVariants.{Absent}
-use Rattle.mod_unix.specs.module_acts.specs.account_files.specs.Content.{is_rooted}
-use Rattle.mod_unix.specs.module_acts.specs.account_files.specs.Accounts.{Account, account_in, account_limit, nothing_known, shells_in}
-use Rattle.mod_unix.specs.module_acts.specs.account_files.specs.Act.{Act, Stage, answers, asks_user, called, draws_word, finds_account, groups_by, in_room, later, passwds_by, plays_by, reads_file, reads_groups, reads_if, reads_passwds, reads_shells, replaced, replaces_file, sees_items, sees_moment, shown, shows, unless_answered}
+use Rattle.mod_unix.specs.module_acts.specs.declared.content.Content.{Content}
+use Rattle.mod_unix.specs.module_acts.specs.declared.content.Content.TheVariants.{Absent}
+use Rattle.mod_unix.specs.module_acts.specs.Content.{is_rooted}
+use Rattle.mod_unix.specs.module_acts.specs.Accounts.{Account, account_in, account_limit, nothing_known, shells_in}
+use Rattle.mod_unix.specs.module_acts.specs.Act.{Act, Stage, answers, asks_user, called, draws_word, finds_account, groups_by, in_room, later, passwds_by, plays_by, reads_file, reads_groups, reads_if, reads_passwds, reads_shells, replaced, replaces_file, sees_items, sees_moment, shown, shows, unless_answered}
 use Rattle.mod_unix.specs.module_acts.specs.Steps.{answers_keeping, asks_token, exchanges, requests_delay, sees_caller, sees_clock, sees_data, sets_item, with_replies}
 use Rattle.audit_laws.specs.Tallied.{LeavesFile}
 

@@ -12,11 +12,11 @@ use Rattle.mod_unix.specs.module_acts.specs.account_db.specs.declared.shadow.Sha
 use Rattle.mod_unix.specs.module_acts.specs.account_db.specs.declared.fault.DbFault.{DbFault}
 use Rattle.mod_unix.specs.module_acts.specs.account_db.specs.declared.passwd.Passwd.{Passwd}
 use Rattle.mod_unix.specs.module_acts.specs.account_db.specs.Passwd.{entry_of, passwds_of}
-use Rattle.mod_unix.specs.module_acts.specs.account_files.specs.declared.content.Content.{Content}
-use Rattle.mod_unix.specs.module_acts.specs.account_files.specs.declared.content.Content.TheVariants as content
-use Rattle.mod_unix.specs.module_acts.specs.account_files.specs.Accounts.{account_limit}
-use Rattle.mod_unix.specs.module_acts.specs.account_files.specs.Act.{Act, answers, asks_user, draws_word}
-use Rattle.mod_unix.specs.module_acts.specs.account_files.specs.Arguments.{has_argument}
+use Rattle.mod_unix.specs.module_acts.specs.declared.content.Content.{Content}
+use Rattle.mod_unix.specs.module_acts.specs.declared.content.Content.TheVariants as content
+use Rattle.mod_unix.specs.module_acts.specs.Accounts.{account_limit}
+use Rattle.mod_unix.specs.module_acts.specs.Act.{Act, answers, asks_user, draws_word}
+use Rattle.mod_unix.specs.module_acts.specs.Arguments.{has_argument}
 use Rattle.mod_unix.specs.module_acts.specs.Steps.{answers_keeping}
 use Rattle.pam_base.specs.Code.{number_of}
 use Rattle.mod_unix.specs.declared.look.KnownPassword.{KnownPassword}

@@ -3,7 +3,7 @@ use Rattle.std.proofs.Common.{◌≡◌, ◌≢◌, ◌⊎◌, ℕ, List, [], Op
 use Rattle.std.specs.Prelude.{IfOk}
 use Rattle.pam_outside.specs.Counts.{Rose, RisesIf}
 use Rattle.session_audit.specs.service_load.specs.Stacks.{Stacks}
-use Rattle.session_audit.specs.report_reader.specs.Guess.{read_line}
+use Rattle.session_audit.specs.report_lines.specs.Guess.{read_line}
 use Rattle.session_audit.specs.Checked.{bare_lines}
 use Rattle.session_audit.specs.Differs.{differs}
 use Rattle.session_audit.specs.Fits.{all_shut}

@@ -7,17 +7,16 @@ use Rattle.std.proofs.lemmas.Option.{slice_get-map}
 use Rattle.pam_base.specs.declared.code.Code.{Code}
 use Rattle.pam_base.specs.declared.call.Func.{Func}
 use Rattle.service_load.specs.Stacks.{Stacks}
-use Rattle.handler_chain.specs.Retell.{telling}
-use Rattle.handler_chain.specs.Retell.{Seen as Visit}
+use Rattle.handler_chain.specs.Retell.{telling, Seen as Visit}
 use Rattle.pass_replay.specs.dispatch_core.specs.Calls.{Held}
 use Rattle.pass_replay.specs.Told.{visits_in}
 use Rattle.handler_chain.specs.declared.seen.Seen.{Seen}
 use Rattle.report_lines.specs.Line.{Told, Result, block_of}
-use Rattle.report_reader.specs.declared.form.Form.{Form}
-use Rattle.report_reader.specs.declared.form.Form.TheVariants as forms
-use Rattle.report_reader.specs.declared.form.ReportedOutcome.{ReportedOutcome}
-use Rattle.report_reader.specs.Form.{told_of, result_of, says_of}
-use Rattle.report_reader.specs.Says.{Says, tells, results}
+use Rattle.report_lines.specs.declared.form.Form.{Form}
+use Rattle.report_lines.specs.declared.form.Form.TheVariants as forms
+use Rattle.report_lines.specs.declared.form.ReportedOutcome.{ReportedOutcome}
+use Rattle.report_lines.specs.Form.{told_of, result_of, says_of}
+use Rattle.report_lines.specs.Says.{Says, tells, results}
 use Rattle.session_audit.specs.Checked.{told_in, place_of}
 use Rattle.session_audit.specs.Fits.{SlotLog, place_at, visits_told, is_refused_change, behind_block}
 use Rattle.session_audit.specs.declared.place.SlotLog as held

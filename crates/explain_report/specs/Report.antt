@@ -7,7 +7,7 @@ use Rattle.service_load.specs.Stacks.{Stacks}
 use Rattle.handler_chain.specs.Retell.{Seen, telling}
 use Rattle.pass_replay.specs.dispatch_core.specs.Calls.{Held}
 use Rattle.report_lines.specs.Line.{Told, shows_code, runs, Result, answered, closed_by_program, block_of}
-use Rattle.report_reader.specs.Says.{Says, tells, results, lasts}
+use Rattle.report_lines.specs.Says.{Says, tells, results, lasts}
 use Rattle.session_audit.specs.Checked.{told_in, place_of}
 use Rattle.session_audit.specs.Fits.{SlotLog, shut, running, place_at, visits_told, is_refused_change, behind_block}
 use Rattle.explain_lines.specs.Origins.{Sources}

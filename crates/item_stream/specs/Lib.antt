@@ -8,3 +8,6 @@ pub mod Whole
 pub mod Laws
 pub mod Written
 pub mod Object
+pub mod Looked
+pub mod LineRun
+pub mod LineTurns

@@ -1,4 +1,7 @@
+ghost use Rattle.std.specs.Prelude.{◌≡◌, ℕ, List, true};
 ghost use Rattle.item_stream.specs.Laws.{NoTurnYet, StopsAtOnce, SilentIsServed, WrittenIsServed, RefusedIsServed, UnbegunIsServed, BegunIsServed, FaultIsTurn, EndIsTurn, ItemIsTurn, RestIsTurn, TurnsGoOn, TurnsAreRun};
+ghost use Rattle.pam_base.specs.Lines.{lines_of};
+ghost use Rattle.item_stream.specs.Looked.{looked};
 
 use crate::stepping::Stepping;
 
@@ -54,3 +57,9 @@ pub fn turns_are_a_run<R: Stepping>()
     R::cuts();
     R::keeps();
 }
+
+/// If the input ends after some bytes, all their lines are applied or refused. This is a law about
+/// the definitions: its contract states it, for those who call it in a proof.
+pub fn whole_input_is_looked_at()
+    ensures { (n : ℕ) (bytes : List ℕ) → looked n bytes true ≡ lines_of bytes }
+{}

@@ -6,18 +6,18 @@ use Rattle.conv_port.specs.Conv.{ConvState}
 use Rattle.env_list.specs.Environment.{Variable}
 use Rattle.pam_outside.specs.Files.{VaultState}
 use Rattle.pam_outside.specs.Time.{ClockState}
-use Rattle.account_files.specs.pam_room.specs.declared.process.Process.{Process}
-use Rattle.account_files.specs.pam_room.specs.declared.transaction.Transaction.{Transaction}
-use Rattle.account_files.specs.pam_room.specs.Plain.{plain_transaction}
-use Rattle.account_files.specs.pam_room.specs.State.{PlainProcess, Scene}
-use Rattle.account_files.specs.pam_room.specs.Stays.{Stays}
-use Rattle.account_files.specs.pam_room.specs.Module.{Played, with_played}
-use Rattle.account_files.specs.Accounts.{Known}
-use Rattle.account_files.specs.Act.{Act, Acts, stage_of, scene_at}
+use Rattle.module_acts.specs.pam_room.specs.declared.process.Process.{Process}
+use Rattle.module_acts.specs.pam_room.specs.declared.transaction.Transaction.{Transaction}
+use Rattle.module_acts.specs.pam_room.specs.Plain.{plain_transaction}
+use Rattle.module_acts.specs.pam_room.specs.State.{PlainProcess, Scene}
+use Rattle.module_acts.specs.pam_room.specs.Stays.{Stays}
+use Rattle.module_acts.specs.pam_room.specs.Module.{Played, with_played}
+use Rattle.module_acts.specs.Accounts.{Known}
+use Rattle.module_acts.specs.Act.{Act, Acts, stage_of, scene_at}
 use Rattle.module_acts.specs.SetsNoData.{SetsNoData}
 use Rattle.mod_env.specs.Env.{put_in, puts_env, sees_env}
 use Rattle.mod_env.specs.Puts.{Puts}
-use Rattle.account_files.proofs.Acting.{carried}
+use Rattle.module_acts.proofs.Acting.{carried}
 
 pub seeing_env : (act : List Variable → Act) (known : Known) (s : Scene) (code : Code) (new : Scene) → Acts (act s.room.transaction.env) known s code new → Acts (sees_env act) known s code new
 unfolding sees_env

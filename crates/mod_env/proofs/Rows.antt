@@ -6,13 +6,13 @@ use Rattle.pam_base.specs.Lines.{cut, lines_of}
 use Rattle.env_list.specs.Environment.{Variable}
 use Rattle.item_store.specs.Items.{no_texts}
 use Rattle.pam_outside.specs.Files.{File}
-use Rattle.account_files.specs.pam_room.specs.State.{PlainRoom, new_transaction, room_of, scene_of}
-use Rattle.account_files.specs.pam_room.specs.Module.{Played, failing_of, seen_of, sight_of}
+use Rattle.module_acts.specs.pam_room.specs.State.{PlainRoom, new_transaction, room_of, scene_of}
+use Rattle.module_acts.specs.pam_room.specs.Module.{Played, failing_of, seen_of, sight_of}
 use Rattle.pam_base.specs.Parts.{parts_of}
 use Rattle.account_db.specs.Entries.{entries_of}
 use Rattle.pam_outside.specs.Paths.{path_of}
-use Rattle.account_files.specs.Content.{content_of}
-use Rattle.account_files.specs.Act.{answers, reads_file, reads_passwds, sees_items}
+use Rattle.module_acts.specs.Content.{content_of}
+use Rattle.module_acts.specs.Act.{answers, reads_file, reads_passwds, sees_items}
 use Rattle.mod_env.specs.declared.value.Piece.TheVariants.{Byte, Variable as Var, Item}
 use Rattle.mod_env.specs.Conf.{conf_of, values_of}
 use Rattle.mod_env.specs.Env.{env_plays, put_in, puts_env, sees_env, sets_by, sets_variable}

@@ -4,10 +4,10 @@ use Rattle.std.proofs.lemmas.List.{take_all}
 use Rattle.env_list.specs.Environment.{Variable}
 use Rattle.item_store.specs.Items.{ItemTexts}
 use Rattle.pam_base.specs.declared.code.Code.{Code}
-use Rattle.account_files.specs.pam_room.specs.State.{Scene}
+use Rattle.module_acts.specs.pam_room.specs.State.{Scene}
 use Rattle.account_db.specs.declared.passwd.Passwd.{Passwd}
-use Rattle.account_files.specs.Accounts.{Known, account_in, known_passwds}
-use Rattle.account_files.specs.Act.{Act, Acts, reads_passwds, sees_items}
+use Rattle.module_acts.specs.Accounts.{Known, account_in, known_passwds}
+use Rattle.module_acts.specs.Act.{Act, Acts, reads_passwds, sees_items}
 use Rattle.mod_env.specs.declared.conf.EnvLine.{EnvLine}
 use Rattle.mod_env.specs.declared.expand.Expansion.{Expansion}
 use Rattle.mod_env.specs.declared.expand.Expansion.TheVariants.{TooLong, Puts}

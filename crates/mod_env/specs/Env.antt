@@ -6,13 +6,13 @@ use Rattle.pam_base.specs.declared.code.Code.TheVariants as returns
 use Rattle.pam_base.specs.declared.call.Func.{Func}
 use Rattle.pam_base.specs.declared.call.Func.TheVariants.{Authenticate, SetCred, AcctMgmt, OpenSession, CloseSession, ChAuthTok}
 use Rattle.env_list.specs.Environment.{Variable, after_put, is_refused}
-use Rattle.account_files.specs.pam_room.specs.Call.{PlainCall, value_among}
-use Rattle.account_files.specs.pam_room.specs.Module.{Plays}
+use Rattle.module_acts.specs.pam_room.specs.Call.{PlainCall, value_among}
+use Rattle.module_acts.specs.pam_room.specs.Module.{Plays}
 use Rattle.account_db.specs.declared.passwd.Passwd.{Passwd}
-use Rattle.account_files.specs.declared.content.Content.{Content}
-use Rattle.account_files.specs.declared.content.Content.TheVariants.{Absent, Unreadable, Holds}
-use Rattle.account_files.specs.Accounts.{Account, Known, account_in, found, known_passwds, missing, unreadable}
-use Rattle.account_files.specs.Act.{Act, answers, finds_account, in_room, plays_by, reads_file, sees_items, unless_answered}
+use Rattle.module_acts.specs.declared.content.Content.{Content}
+use Rattle.module_acts.specs.declared.content.Content.TheVariants.{Absent, Unreadable, Holds}
+use Rattle.module_acts.specs.Accounts.{Account, Known, account_in, found, known_passwds, missing, unreadable}
+use Rattle.module_acts.specs.Act.{Act, answers, finds_account, in_room, plays_by, reads_file, sees_items, unless_answered}
 use Rattle.mod_env.specs.declared.conf.EnvLine.{EnvLine}
 use Rattle.mod_env.specs.declared.expand.Expansion.{Expansion}
 use Rattle.mod_env.specs.declared.expand.Expansion.TheVariants.{TooLong, Puts}

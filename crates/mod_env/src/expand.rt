@@ -7,9 +7,9 @@ ghost use Rattle.mod_env.specs.Expand.{asks_account, expanded, expansion_of, fit
 use crate::conf::EnvLine;
 use crate::value::{Piece, Pieces};
 use account_db::Passwd;
-use account_files::pam_room::get_item;
 use env_list::EnvList;
 use item_store::Items;
+use module_acts::pam_room::get_item;
 use pam_base::{ItemName, NoMemory, Text};
 use std::alloc::Global;
 

@@ -1,10 +1,10 @@
 ghost use Rattle.std.specs.Prelude.{◌≡◌, ℕ, List, Some};
 ghost use Rattle.pam_base.specs.declared.code.Code.{Code};
 ghost use Rattle.env_list.specs.Environment.{Variable};
-ghost use Rattle.account_files.specs.pam_room.specs.declared.transaction.Transaction.{Transaction};
-ghost use Rattle.account_files.specs.pam_room.specs.State.{Scene};
-ghost use Rattle.account_files.specs.Accounts.{Known};
-ghost use Rattle.account_files.specs.Act.{Act, Acts};
+ghost use Rattle.module_acts.specs.pam_room.specs.declared.transaction.Transaction.{Transaction};
+ghost use Rattle.module_acts.specs.pam_room.specs.State.{Scene};
+ghost use Rattle.module_acts.specs.Accounts.{Known};
+ghost use Rattle.module_acts.specs.Act.{Act, Acts};
 ghost use Rattle.module_acts.specs.SetsNoData.{SetsNoData};
 ghost use Rattle.mod_env.specs.declared.conf.EnvLine.{EnvLine};
 ghost use Rattle.mod_env.specs.Conf.{conf_of};

@@ -14,11 +14,11 @@ use Rattle.pam_room.specs.Module.{Played, with_played}
 use Rattle.pam_room.specs.State.{PlainProcess, Scene}
 use Rattle.pam_room.specs.declared.transaction.Transaction.{Transaction}
 use Rattle.account_db.specs.declared.shadow.Shadow.{Shadow}
-use Rattle.account_files.specs.declared.content.Content.{Content}
-use Rattle.account_files.specs.Accounts.{Known}
-use Rattle.account_files.specs.Act.{Act, Acts, Yields, Reaches, reads_file, replaces_file, stage_of}
-use Rattle.mod_unix.specs.module_acts.specs.Returns.{Returns, scene_of_parts}
-use Rattle.mod_unix.specs.module_acts.specs.Steps.{sees_caller}
+use Rattle.module_acts.specs.declared.content.Content.{Content}
+use Rattle.module_acts.specs.Accounts.{Known}
+use Rattle.module_acts.specs.Act.{Act, Acts, Yields, Reaches, reads_file, replaces_file, stage_of}
+use Rattle.module_acts.specs.Returns.{Returns, scene_of_parts}
+use Rattle.module_acts.specs.Steps.{sees_caller}
 use Rattle.mod_unix.specs.declared.look.KnownPassword.{KnownPassword}
 use Rattle.mod_unix.specs.declared.look.KnownPassword.TheVariants.{Unknown, Unavailable, Plain, Shadowed}
 use Rattle.mod_unix.specs.Change.{write_result}

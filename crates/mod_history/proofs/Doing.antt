@@ -14,15 +14,15 @@ use Rattle.std.specs.Result.{result_ok}
 use Rattle.account_db.specs.declared.fault.DbFault.{DbFault}
 use Rattle.account_db.specs.declared.passwd.Passwd.{Passwd}
 use Rattle.account_db.specs.Passwd.{entry_of, passwds_of}
-use Rattle.account_files.specs.declared.content.Content.{Content}
-use Rattle.account_files.specs.declared.content.Content.TheVariants as content
-use Rattle.account_files.specs.Accounts.{account_limit, nothing_known, passwds_in}
-use Rattle.account_files.specs.Act.{Act, Stage, answers, asks_user, called, in_room, later, reads_file, replaced as seen_after, replaces_file, sees_items, shows, unless_answered}
-use Rattle.account_files.specs.Content.{content_of}
-use Rattle.mod_unix.specs.module_acts.specs.Steps.{exchanges, sees_caller, sets_item, with_replies}
+use Rattle.module_acts.specs.declared.content.Content.{Content}
+use Rattle.module_acts.specs.declared.content.Content.TheVariants as content
+use Rattle.module_acts.specs.Accounts.{account_limit, nothing_known, passwds_in}
+use Rattle.module_acts.specs.Act.{Act, Stage, answers, asks_user, called, in_room, later, reads_file, replaced as seen_after, replaces_file, sees_items, shows, unless_answered}
+use Rattle.module_acts.specs.Content.{content_of}
+use Rattle.module_acts.specs.Steps.{exchanges, sees_caller, sets_item, with_replies}
 use Rattle.mod_unix.specs.declared.look.KnownPassword.{KnownPassword}
 use Rattle.mod_unix.specs.declared.look.KnownPassword.TheVariants.{Unknown, Unavailable, Plain, Shadowed}
-use Rattle.account_files.specs.Arguments.{has_argument}
+use Rattle.module_acts.specs.Arguments.{has_argument}
 use Rattle.mod_unix.specs.Change.{by_authtok, write_result, new_prompts, same_reply, sets_new, takes_token, usable}
 use Rattle.mod_unix.specs.Look.{by_field, by_x as by_password, field_among, field_in, field_or_missing, is_x, looks, shadow_in}
 use Rattle.mod_history.specs.declared.history.Remembered.{Remembered}

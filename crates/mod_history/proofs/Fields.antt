@@ -16,9 +16,9 @@ use Rattle.account_db.specs.Parts.{field, fields_of}
 use Rattle.account_db.specs.Passwd.{entry_of, passwd_in, passwds_of, with_ids}
 use Rattle.account_db.specs.Shadow.{are_days, shadow_in as shadow_entry_in, shadow_of, shadows_of}
 use Rattle.std.specs.Result.{result_ok}
-use Rattle.account_files.specs.declared.content.Content.{Content}
-use Rattle.account_files.specs.declared.content.Content.TheVariants as content
-use Rattle.account_files.specs.Accounts.{passwds_in}
+use Rattle.module_acts.specs.declared.content.Content.{Content}
+use Rattle.module_acts.specs.declared.content.Content.TheVariants as content
+use Rattle.module_acts.specs.Accounts.{passwds_in}
 use Rattle.mod_unix.specs.Look.{is_x, shadow_among, shadow_in, shadowed}
 use Rattle.mod_history.specs.History.{IsPart, part_in}
 use Rattle.mod_history.specs.Standing.{account_text, entry_hash, hash_by, hash_in, passwd_hash, present_hash}

@@ -13,9 +13,9 @@ use Rattle.pam_room.specs.Call.{PlainCall}
 use Rattle.pam_room.specs.Module.{Played, Plays, failing_of, seen_of, sight_of}
 use Rattle.account_db.specs.Entries.{entries_of}
 use Rattle.account_db.specs.Shells.{without_end}
-use Rattle.account_files.specs.Content.{content_of}
-use Rattle.account_files.specs.Act.{answers, asks_user, reads_file, reads_groups, reads_passwds, replaces_file, sees_items}
-use Rattle.mod_unix.specs.module_acts.specs.Steps.{sees_caller}
+use Rattle.module_acts.specs.Content.{content_of}
+use Rattle.module_acts.specs.Act.{answers, asks_user, reads_file, reads_groups, reads_passwds, replaces_file, sees_items}
+use Rattle.module_acts.specs.Steps.{sees_caller}
 use Rattle.mod_unix.specs.Change.{takes_token}
 use Rattle.mod_unix.specs.Look.{looks}
 use Rattle.mod_history.specs.declared.history.Remembered.{Remembered}

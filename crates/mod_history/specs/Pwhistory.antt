@@ -13,10 +13,10 @@ use Rattle.pam_base.specs.declared.style.Style.TheVariants.{ErrorMsg}
 use Rattle.item_store.specs.Items.{with_text}
 use Rattle.pam_room.specs.Call.{PlainCall, has_flag, prelim_check, value_among}
 use Rattle.pam_room.specs.Module.{Plays}
-use Rattle.account_files.specs.declared.content.Content.{Content}
-use Rattle.account_files.specs.declared.content.Content.TheVariants.{Absent, Unreadable, Holds}
-use Rattle.account_files.specs.Act.{Act, answers, asks_user, in_room, plays_by, reads_file, replaces_file, shows, unless_answered}
-use Rattle.mod_unix.specs.module_acts.specs.Steps.{sees_caller}
+use Rattle.module_acts.specs.declared.content.Content.{Content}
+use Rattle.module_acts.specs.declared.content.Content.TheVariants.{Absent, Unreadable, Holds}
+use Rattle.module_acts.specs.Act.{Act, answers, asks_user, in_room, plays_by, reads_file, replaces_file, shows, unless_answered}
+use Rattle.module_acts.specs.Steps.{sees_caller}
 use Rattle.sha_crypt.specs.declared.setting.SettingFault.{SettingFault}
 use Rattle.sha_crypt.specs.Hash.{crypted}
 use Rattle.mod_unix.specs.declared.look.KnownPassword.{KnownPassword}
@@ -24,7 +24,7 @@ use Rattle.mod_unix.specs.declared.look.KnownPassword.TheVariants.{Unknown, Unav
 use Rattle.mod_unix.specs.Change.{write_result, takes_token}
 use Rattle.mod_unix.specs.Look.{looks}
 use Rattle.mod_history.specs.declared.history.Remembered.{Remembered}
-use Rattle.account_files.specs.Arguments.{has_argument}
+use Rattle.module_acts.specs.Arguments.{has_argument}
 use Rattle.mod_history.specs.History.{history_of, history_text}
 use Rattle.mod_history.specs.Renewal.{hashes_of, renewed}
 

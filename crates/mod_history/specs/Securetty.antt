@@ -8,11 +8,11 @@ use Rattle.pam_base.specs.declared.code.Code.TheVariants.{Success, ServiceErr, A
 use Rattle.pam_room.specs.Call.{PlainCall, value_in}
 use Rattle.pam_room.specs.Module.{Plays}
 use Rattle.account_db.specs.Shells.{without_end}
-use Rattle.account_files.specs.declared.content.Content.{Content}
-use Rattle.account_files.specs.declared.content.Content.TheVariants.{Absent, Unreadable, Holds}
-use Rattle.account_files.specs.Accounts.{Account, account_limit, found, missing, unreadable}
-use Rattle.account_files.specs.Act.{Act, answers, asks_user, finds_account, plays_by, reads_file, sees_items, unless_answered}
-use Rattle.mod_unix.specs.module_acts.specs.Uncheck.{code_unchecked}
+use Rattle.module_acts.specs.declared.content.Content.{Content}
+use Rattle.module_acts.specs.declared.content.Content.TheVariants.{Absent, Unreadable, Holds}
+use Rattle.module_acts.specs.Accounts.{Account, account_limit, found, missing, unreadable}
+use Rattle.module_acts.specs.Act.{Act, answers, asks_user, finds_account, plays_by, reads_file, sees_items, unless_answered}
+use Rattle.module_acts.specs.Uncheck.{code_unchecked}
 
 -- a terminal's name, without a leading /dev/
 abbrev pub terminal_name : List ℕ → List ℕ

@@ -9,11 +9,11 @@ use Rattle.pam_outside.specs.Paths.{path_of}
 use Rattle.pam_room.specs.Call.{PlainCall}
 use Rattle.pam_room.specs.Module.{NamedData, Played, SeenRoom, Sight}
 use Rattle.pam_room.specs.Say.{user_asked}
-use Rattle.account_files.specs.declared.content.Content.{Content}
+use Rattle.module_acts.specs.declared.content.Content.{Content}
 use Rattle.account_db.specs.declared.passwd.Passwd.{Passwd}
 use Rattle.account_db.specs.Passwd.{entry_of}
-use Rattle.account_files.specs.Accounts.{account_limit, passwds_in}
-use Rattle.account_files.specs.Content.{text_within}
+use Rattle.module_acts.specs.Accounts.{account_limit, passwds_in}
+use Rattle.module_acts.specs.Content.{text_within}
 use Rattle.mod_unix.specs.declared.look.KnownPassword.{KnownPassword}
 use Rattle.mod_unix.specs.declared.look.KnownPassword.TheVariants.{Unknown, Unavailable, Plain, Shadowed}
 use Rattle.mod_unix.specs.Look.{is_x, shadow_in}

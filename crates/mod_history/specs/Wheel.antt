@@ -9,10 +9,10 @@ use Rattle.account_db.specs.declared.passwd.Passwd.{Passwd}
 use Rattle.account_db.specs.declared.group.Group.{Group}
 use Rattle.account_db.specs.Members.{group_of, is_member}
 use Rattle.account_db.specs.Passwd.{entry_of, entry_of_uid}
-use Rattle.account_files.specs.Act.{Act, answers, asks_user, plays_by, reads_groups, reads_passwds, unless_answered}
-use Rattle.mod_unix.specs.module_acts.specs.Steps.{sees_caller}
-use Rattle.account_files.specs.Arguments.{has_argument}
-use Rattle.mod_unix.specs.module_acts.specs.Uncheck.{code_unchecked}
+use Rattle.module_acts.specs.Act.{Act, answers, asks_user, plays_by, reads_groups, reads_passwds, unless_answered}
+use Rattle.module_acts.specs.Steps.{sees_caller}
+use Rattle.module_acts.specs.Arguments.{has_argument}
+use Rattle.module_acts.specs.Uncheck.{code_unchecked}
 
 -- ---- who is tested
 

@@ -1,19 +1,18 @@
 ghost use Rattle.std.specs.Prelude.{◌≡◌, ◌≤◌, ◌<◌, IsTrue, IfOk, OnErr, IfSome, length};
 ghost use Rattle.pam_outside.specs.Time.{ClockState};
 ghost use Rattle.pam_room.specs.Plain.{plain_call, plain_process};
-ghost use Rattle.account_files.specs.Act.{Yields};
-ghost use Rattle.mod_unix.specs.module_acts.specs.Returns.{Returns, scene_of_parts};
-ghost use Rattle.mod_unix.specs.module_acts.specs.OnlyTalks.{OnlyTalks};
+ghost use Rattle.module_acts.specs.Act.{Yields};
+ghost use Rattle.module_acts.specs.Returns.{Returns, scene_of_parts};
+ghost use Rattle.module_acts.specs.OnlyTalks.{OnlyTalks};
 ghost use Rattle.mod_history.specs.Pwhistory.{remember_in_history, renew_if_known, checks_token, remember_of, remembers, renews, short_number};
 
 use crate::file::{HISTORY_LIMIT, HISTORY_NAME, history_in, store_text};
 use crate::history::{History, hashes_of};
 use crate::refusal::{is_refused, refuse_token, unset_token};
 use crate::renewal::renewed_text;
-use account_files::{hold_named, read_named};
 use conv_port::Conv;
-use mod_unix::module_acts::{Asked, laws, require_user, user_of};
 use mod_unix::{KnownPassword, look_up, take_token};
+use module_acts::{Asked, hold_named, laws, read_named, require_user, user_of};
 use pam_base::{Code, ConvErr, NoMemory, Refuse, Text, number_in};
 use pam_outside::{Held, LockKind, Vault};
 use pam_room::{Call, Transaction};

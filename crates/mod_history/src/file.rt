@@ -1,10 +1,10 @@
 ghost use Rattle.std.specs.Prelude.{◌≡◌, IsTrue, IfOk, OnErr};
-ghost use Rattle.account_files.specs.Act.{StepsTo};
+ghost use Rattle.module_acts.specs.Act.{StepsTo};
 ghost use Rattle.mod_history.specs.Pwhistory.{history_in, stores_text};
 
 use crate::history::{History, history_of};
-use account_files::{Content, replace_named};
 use mod_unix::write_result;
+use module_acts::{Content, replace_named};
 use pam_base::{Code, NoMemory};
 use pam_outside::Vault;
 use pam_room::Process;

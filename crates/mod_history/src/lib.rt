@@ -15,7 +15,7 @@ mod renewal;
 
 pub use history::{Damaged, History, Remembered, read_history};
 pub use mod_unix;
-use mod_unix::module_acts::{CheckModule, WorkModule};
+use module_acts::{CheckModule, WorkModule};
 use pam_pwhistory::PwhistoryWork;
 use pam_securetty::SecurettyCheck;
 use pam_wheel::WheelCheck;

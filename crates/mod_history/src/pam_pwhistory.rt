@@ -1,11 +1,11 @@
 ghost use Rattle.std.specs.Prelude.{◌≡◌, codes};
 ghost use Rattle.pam_room.specs.Plain.{plain_call};
-ghost use Rattle.account_files.specs.Act.{answers};
+ghost use Rattle.module_acts.specs.Act.{answers};
 ghost use Rattle.mod_history.specs.Pwhistory.{at_once, checks_token, pwhistory_plays};
 
 use crate::change::check_token;
 use conv_port::Conv;
-use mod_unix::module_acts::{Asked, Work, laws};
+use module_acts::{Asked, Work, laws};
 use pam_base::{Code, ConvErr, Func, PRELIM_CHECK, Refuse};
 use pam_outside::{Clock, Vault};
 use pam_room::{Call, Transaction};
@@ -43,7 +43,7 @@ impl Work for PwhistoryWork {
     }
 
     fn plays_so() {
-        account_files::laws::act_steps();
+        module_acts::laws::act_steps();
     }
 }
 

@@ -2,15 +2,17 @@ ghost use Rattle.std.specs.Prelude.{◌≡◌, IsTrue, IfOk, codes};
 ghost use Rattle.pam_base.specs.declared.code.Code.TheVariants.{Success};
 ghost use Rattle.conv_port.specs.Conv.{ConvState};
 ghost use Rattle.pam_outside.specs.Time.{ClockState};
-ghost use Rattle.account_files.specs.Accounts.{Known};
-ghost use Rattle.account_files.specs.Act.{Acts, finds_account};
-ghost use Rattle.mod_unix.specs.module_acts.specs.Seen.{scene_seen};
-ghost use Rattle.mod_unix.specs.module_acts.specs.Uncheck.{code_unchecked};
+ghost use Rattle.module_acts.specs.Accounts.{Known};
+ghost use Rattle.module_acts.specs.Act.{Acts, finds_account};
+ghost use Rattle.module_acts.specs.Seen.{scene_seen};
+ghost use Rattle.module_acts.specs.Uncheck.{code_unchecked};
 ghost use Rattle.mod_history.specs.Securetty.{by_account, by_list, checks_root, is_secure, is_terminal, securetty_plays, terminal_name};
 
 use account_db::without_end;
-use account_files::{ACCOUNT_LIMIT, Account, Accounts, Content, laws, read_named};
-use mod_unix::module_acts::{Check, Seen, account_of, code_unchecked};
+use module_acts::{
+    ACCOUNT_LIMIT, Account, Accounts, Check, Content, Seen, account_of, code_unchecked, laws,
+    read_named,
+};
 use pam_base::{Code, ItemName, Lines, NoMemory};
 use pam_outside::{Clock, Vault};
 use pam_room::{Call, get_item, value_in};

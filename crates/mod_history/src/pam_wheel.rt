@@ -1,12 +1,11 @@
 ghost use Rattle.std.specs.Prelude.{◌≡◌, IfOk, codes};
 ghost use Rattle.std.specs.Option.{option_copied};
 ghost use Rattle.pam_base.specs.declared.code.Code.TheVariants.{Success};
-ghost use Rattle.mod_unix.specs.module_acts.specs.Uncheck.{code_unchecked};
+ghost use Rattle.module_acts.specs.Uncheck.{code_unchecked};
 ghost use Rattle.mod_history.specs.Wheel.{by_group, by_membership, checks_user, code_by_groups, code_by_passwds, group_of_gid, is_passed_over, trusted, wheel_group, wheel_plays};
 
 use account_db::{Group, Groups, Passwd, PasswdFile, entry_of, entry_of_uid, group_of, is_member};
-use account_files::{Accounts, has_argument, laws};
-use mod_unix::module_acts::{Check, Seen, code_unchecked, user_of};
+use module_acts::{Accounts, Check, Seen, code_unchecked, has_argument, laws, user_of};
 use pam_base::{Code, NoMemory, Texts};
 use pam_outside::{Clock, Vault};
 use pam_room::Call;
@@ -58,7 +57,7 @@ impl Check for WheelCheck {
 
     fn plays_so() {
         laws::act_steps();
-        mod_unix::module_acts::laws::acting();
+        module_acts::laws::acting();
     }
 }
 

@@ -4,15 +4,14 @@ ghost use Rattle.conv_port.specs.Conv.{ConvState};
 ghost use Rattle.pam_outside.specs.Files.{VaultState};
 ghost use Rattle.pam_outside.specs.Time.{ClockState};
 ghost use Rattle.pam_room.specs.State.{PlainProcess};
-ghost use Rattle.account_files.specs.Act.{Yields, Reaches};
-ghost use Rattle.mod_unix.specs.module_acts.specs.Returns.{scene_of_parts};
-ghost use Rattle.mod_unix.specs.module_acts.specs.OnlyTalks.{OnlyTalks};
+ghost use Rattle.module_acts.specs.Act.{Yields, Reaches};
+ghost use Rattle.module_acts.specs.Returns.{scene_of_parts};
+ghost use Rattle.module_acts.specs.OnlyTalks.{OnlyTalks};
 ghost use Rattle.mod_history.specs.Pwhistory.{has_hash, is_enforced, is_refused, refuses_token, unsets_item, was_used};
 
-use account_files::has_argument;
 use conv_port::Conv;
 use item_store::Items;
-use mod_unix::module_acts::show;
+use module_acts::{has_argument, show};
 use pam_base::{Code, ItemName, NoMemory, Refuse, Style, Text};
 use pam_room::{Call, Transaction};
 use sha_crypt::crypt;
@@ -90,7 +89,7 @@ pub(crate) fn refuse_token(
         (scene_of_parts transaction.new (conv_holds conv.new) vault clock process)) }
     ensures talks { OnlyTalks transaction.old transaction.new }
 {
-    mod_unix::module_acts::laws::talking();
+    module_acts::laws::talking();
     unset_token(transaction);
     show(
         alloc,

@@ -3,8 +3,8 @@ use Rattle.std.proofs.Common.{◌≡◌, ◌≤◌, ℕ, ◌-◌, List, [], ◌�
 use Rattle.std.proofs.lemmas.List.{take_all}
 use Rattle.pam_base.specs.declared.code.Code.{Code}
 use Rattle.pam_room.specs.State.{Scene}
-use Rattle.account_files.specs.Accounts.{Known}
-use Rattle.account_files.specs.Act.{Act, Acts, answers}
+use Rattle.module_acts.specs.Accounts.{Known}
+use Rattle.module_acts.specs.Act.{Act, Acts, answers}
 use Rattle.mod_lists.specs.declared.truth.Truth.{Truth}
 use Rattle.mod_lists.specs.declared.truth.Truth.TheVariants.{Holds}
 use Rattle.mod_lists.specs.Condition.{condition_of}

@@ -2,7 +2,7 @@
 use Rattle.std.proofs.Common.{◌≡◌, Bool, true, false, List, ℕ, Option, Some, None, refl}
 use Rattle.pam_base.specs.declared.code.Code.{Code}
 use Rattle.std.specs.Option.{option_or}
-use Rattle.account_files.specs.Act.{Act, asks_user, unless_answered}
+use Rattle.module_acts.specs.Act.{Act, asks_user, unless_answered}
 use Rattle.mod_lists.specs.ListSettings.{PlainSettings}
 use Rattle.mod_lists.specs.Listfile.{by_settings, by_user, error_if_none}
 use Rattle.mod_lists.specs.SucceedIf.{by_use, conditions_in, meets_all, unsupported}

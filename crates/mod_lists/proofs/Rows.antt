@@ -14,8 +14,8 @@ use Rattle.pam_base.specs.Parts.{parts_of}
 use Rattle.account_db.specs.Entries.{entries_of}
 use Rattle.account_db.specs.Shells.{shells_of, without_end}
 use Rattle.pam_outside.specs.Paths.{path_of}
-use Rattle.account_files.specs.Content.{content_of}
-use Rattle.account_files.specs.Act.{answers, asks_user, reads_file, reads_groups, reads_passwds, reads_shells, sees_items, shows}
+use Rattle.module_acts.specs.Content.{content_of}
+use Rattle.module_acts.specs.Act.{answers, asks_user, reads_file, reads_groups, reads_passwds, reads_shells, sees_items, shows}
 use Rattle.mod_lists.specs.Condition.{condition_of}
 use Rattle.mod_lists.specs.Listfile.{is_listed, listfile_plays}
 use Rattle.mod_lists.specs.Nologin.{nologin_plays}

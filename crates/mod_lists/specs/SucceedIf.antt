@@ -14,8 +14,8 @@ use Rattle.account_db.specs.declared.passwd.Passwd.{Passwd}
 use Rattle.account_db.specs.declared.group.Group.{Group}
 use Rattle.account_db.specs.Members.{is_in_group}
 use Rattle.account_db.specs.Passwd.{entry_of}
-use Rattle.account_files.specs.Accounts.{Account, found, missing, unreadable}
-use Rattle.account_files.specs.Act.{Act, answers, asks_user, finds_account, plays_by, reads_groups, reads_passwds, sees_items, unless_answered}
+use Rattle.module_acts.specs.Accounts.{Account, found, missing, unreadable}
+use Rattle.module_acts.specs.Act.{Act, answers, asks_user, finds_account, plays_by, reads_groups, reads_passwds, sees_items, unless_answered}
 use Rattle.mod_lists.specs.declared.condition.AccountField.{AccountField}
 use Rattle.mod_lists.specs.declared.condition.AccountField.TheVariants.{Uid, Gid, Shell, Home}
 use Rattle.mod_lists.specs.declared.condition.ItemField.{ItemField}

@@ -1,15 +1,14 @@
 ghost use Rattle.std.specs.Prelude.{◌≡◌, ◌≢◌, None, IsTrue, IfOk};
 ghost use Rattle.std.specs.Str.{bytes_eq};
-ghost use Rattle.account_files.specs.Accounts.{entry_known, known_groups, known_passwds};
-ghost use Rattle.account_files.specs.Act.{LooksTo};
+ghost use Rattle.module_acts.specs.Accounts.{entry_known, known_groups, known_passwds};
+ghost use Rattle.module_acts.specs.Act.{LooksTo};
 ghost use Rattle.module_acts.specs.Seen.{user_seen};
 ghost use Rattle.mod_lists.specs.ListSettings.{plain_apply};
 ghost use Rattle.mod_lists.specs.Listfile.{applies, by_groups, yes_or_no};
 
 use crate::list_settings::Apply;
 use account_db::is_in_group;
-use account_files::Accounts;
-use module_acts::{Seen, user_of};
+use module_acts::{Accounts, Seen, user_of};
 use pam_base::NoMemory;
 use pam_outside::Vault;
 

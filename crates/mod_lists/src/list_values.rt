@@ -6,17 +6,16 @@ ghost use Rattle.item_store.specs.declared.access.Access.TheVariants.{ModuleGets
 ghost use Rattle.conv_port.specs.Conv.{ConvState};
 ghost use Rattle.pam_outside.specs.Files.{VaultState};
 ghost use Rattle.pam_outside.specs.Time.{ClockState};
-ghost use Rattle.account_files.specs.Accounts.{Known, account_in, known_groups, known_passwds};
-ghost use Rattle.account_files.specs.Act.{LooksTo, sees_items};
-ghost use Rattle.account_files.specs.Found.{plain_account};
-ghost use Rattle.account_files.specs.YieldsWith.{YieldsWith};
+ghost use Rattle.module_acts.specs.Accounts.{Known, account_in, known_groups, known_passwds};
+ghost use Rattle.module_acts.specs.Act.{LooksTo, sees_items};
+ghost use Rattle.module_acts.specs.Found.{plain_account};
+ghost use Rattle.module_acts.specs.YieldsWith.{YieldsWith};
 ghost use Rattle.module_acts.specs.Seen.{scene_seen, user_seen};
 ghost use Rattle.mod_lists.specs.Listfile.{group_values, reads_values, shell_values, text_value, text_values, without_dev};
 
 use crate::list_settings::ListItem;
 use account_db::group_names;
-use account_files::{Account, Accounts, laws};
-use module_acts::{Seen, account_of, user_of};
+use module_acts::{Account, Accounts, Seen, account_of, laws, user_of};
 use pam_base::{ItemName, NoMemory, Text, Texts};
 use pam_outside::Vault;
 use pam_room::get_item;

@@ -2,7 +2,7 @@ ghost use Rattle.std.specs.Prelude.{◌≡◌, ◌≢◌, ◌<◌, length, None,
 ghost use Rattle.std.specs.List.{list_any};
 ghost use Rattle.conv_port.specs.Conv.{ConvState};
 ghost use Rattle.pam_outside.specs.Time.{ClockState};
-ghost use Rattle.account_files.specs.Act.{answers};
+ghost use Rattle.module_acts.specs.Act.{answers};
 ghost use Rattle.module_acts.specs.Returns.{Follows};
 ghost use Rattle.module_acts.specs.Seen.{scene_seen, user_seen};
 ghost use Rattle.mod_lists.specs.SucceedIf.{at_once, before_user, conditions_in, is_about_log, meets_all, succeed_if_plays, unsupported, uses_uid};
@@ -10,8 +10,7 @@ ghost use Rattle.mod_lists.specs.SucceedIf.{at_once, before_user, conditions_in,
 use crate::condition::condition_of;
 use crate::trial::try_words;
 use crate::truth::Truth;
-use account_files::{Accounts, laws};
-use module_acts::{Check, Seen};
+use module_acts::{Accounts, Check, Seen, laws};
 use pam_base::{Code, Func, NoMemory, Text, Texts};
 use pam_outside::{Clock, Vault};
 use pam_room::Call;

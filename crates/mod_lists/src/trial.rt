@@ -2,11 +2,11 @@ ghost use Rattle.std.specs.Prelude.{◌≡◌, ◌≢◌, [], Some, None, IsTrue
 ghost use Rattle.std.specs.Option.{option_copied};
 ghost use Rattle.conv_port.specs.Conv.{ConvState};
 ghost use Rattle.pam_outside.specs.Time.{ClockState};
-ghost use Rattle.account_files.specs.Accounts.{entry_known, known_groups, known_passwds};
-ghost use Rattle.account_files.specs.Act.{LooksTo, reads_passwds};
-ghost use Rattle.account_files.specs.YieldsWith.{YieldsWith};
+ghost use Rattle.module_acts.specs.Accounts.{entry_known, known_groups, known_passwds};
+ghost use Rattle.module_acts.specs.Act.{LooksTo, reads_passwds};
+ghost use Rattle.module_acts.specs.YieldsWith.{YieldsWith};
 ghost use Rattle.module_acts.specs.Seen.{scene_seen, user_seen};
-ghost use Rattle.account_files.specs.Found.{plain_account};
+ghost use Rattle.module_acts.specs.Found.{plain_account};
 ghost use Rattle.mod_lists.specs.declared.truth.Truth.{Truth};
 ghost use Rattle.mod_lists.specs.Condition.{items_of, plain_condition, plain_test};
 ghost use Rattle.mod_lists.specs.SucceedIf.{by_groups, by_passwds, is_in_any, item_text, on_account, on_entry, tries_words};
@@ -14,9 +14,8 @@ ghost use Rattle.mod_lists.specs.SucceedIf.{by_groups, by_passwds, is_in_any, it
 use crate::condition::{AccountField, Condition, Field, ItemField, Test};
 use crate::truth::{Truth, in_sense};
 use account_db::{Groups, Passwd, is_in_group};
-use account_files::{Account, Accounts, laws};
 use item_store::Items;
-use module_acts::{Seen, account_of, user_of};
+use module_acts::{Account, Accounts, Seen, account_of, laws, user_of};
 use pam_base::{ItemName, NoMemory, Parts};
 use pam_outside::Vault;
 use pam_room::get_item;

@@ -1,7 +1,7 @@
 -- What is decided for the user is what the module does.
 use Rattle.std.proofs.Common.{◌≡◌, Result, Ok, Err, refl}
 use Rattle.pam_base.specs.declared.code.Code.{Code}
-use Rattle.module_acts.specs.account_files.specs.Act.{asks_user, unless_answered}
+use Rattle.module_acts.specs.Act.{asks_user, unless_answered}
 use Rattle.mod_tally.specs.declared.settings.Task.{Task}
 use Rattle.mod_tally.specs.Settings.{PlainSettings}
 use Rattle.mod_tally.specs.Faillock.{by_call, for_user, refused}

@@ -10,11 +10,11 @@ use Rattle.module_acts.specs.pam_room.specs.Call.{PlainCall}
 use Rattle.module_acts.specs.pam_room.specs.Module.{NamedData, Played, SeenRoom, Sight}
 use Rattle.module_acts.specs.pam_room.specs.Say.{user_asked}
 use Rattle.module_acts.specs.account_db.specs.declared.passwd.Passwd.{Passwd}
-use Rattle.module_acts.specs.account_files.specs.declared.content.Content.TheVariants.{Unreadable, Holds}
+use Rattle.module_acts.specs.declared.content.Content.TheVariants.{Unreadable, Holds}
 use Rattle.pam_outside.specs.Paths.{path_of}
-use Rattle.module_acts.specs.account_files.specs.Content.{content_of, is_rooted}
-use Rattle.module_acts.specs.account_files.specs.Accounts.{Account, found, missing, unreadable, account_in, nothing_known}
-use Rattle.module_acts.specs.account_files.specs.Act.{Act, Stage, answers, asks_user, called, finds_account, in_room, later, passwds_by, reads_file, reads_if, reads_passwds, replaced, replaces_file, sees_items, sees_moment}
+use Rattle.module_acts.specs.Content.{content_of, is_rooted}
+use Rattle.module_acts.specs.Accounts.{Account, found, missing, unreadable, account_in, nothing_known}
+use Rattle.module_acts.specs.Act.{Act, Stage, answers, asks_user, called, finds_account, in_room, later, passwds_by, reads_file, reads_if, reads_passwds, replaced, replaces_file, sees_items, sees_moment}
 use Rattle.mod_tally.specs.declared.tally.Failure.{Failure}
 use Rattle.mod_tally.specs.declared.settings.Task.{Task}
 use Rattle.mod_tally.specs.declared.settings.Task.TheVariants.{Preauth, AuthFail, AuthSucc, Clear}

@@ -9,11 +9,11 @@ use Rattle.pam_base.specs.declared.call.Func.TheVariants.{Authenticate, SetCred,
 use Rattle.item_store.specs.Items.{ItemTexts}
 use Rattle.module_acts.specs.pam_room.specs.Call.{PlainCall}
 use Rattle.module_acts.specs.pam_room.specs.Module.{Plays}
-use Rattle.module_acts.specs.account_files.specs.declared.content.Content.{Content}
-use Rattle.module_acts.specs.account_files.specs.declared.content.Content.TheVariants.{Absent, Unreadable, Holds}
-use Rattle.module_acts.specs.account_files.specs.Content.{is_rooted}
-use Rattle.module_acts.specs.account_files.specs.Accounts.{Account, found, missing, unreadable}
-use Rattle.module_acts.specs.account_files.specs.Act.{Act, answers, asks_user, finds_account, plays_by, reads_file, replaces_file, sees_items, sees_moment}
+use Rattle.module_acts.specs.declared.content.Content.{Content}
+use Rattle.module_acts.specs.declared.content.Content.TheVariants.{Absent, Unreadable, Holds}
+use Rattle.module_acts.specs.Content.{is_rooted}
+use Rattle.module_acts.specs.Accounts.{Account, found, missing, unreadable}
+use Rattle.module_acts.specs.Act.{Act, answers, asks_user, finds_account, plays_by, reads_file, replaces_file, sees_items, sees_moment}
 use Rattle.mod_tally.specs.declared.tally.Failure.{Failure}
 use Rattle.mod_tally.specs.declared.settings.Task.{Task}
 use Rattle.mod_tally.specs.declared.settings.Task.TheVariants.{Preauth, AuthFail, AuthSucc, Clear}

@@ -5,7 +5,7 @@ use Rattle.std.specs.List.{filter_map, last_or}
 use Rattle.std.specs.Str.{bytes_eq}
 use Rattle.pam_base.specs.Number.{number_of_word}
 use Rattle.module_acts.specs.pam_room.specs.Call.{value_among}
-use Rattle.module_acts.specs.account_files.specs.Arguments.{has_argument}
+use Rattle.module_acts.specs.Arguments.{has_argument}
 use Rattle.mod_tally.specs.declared.settings.Task.{Task}
 use Rattle.mod_tally.specs.declared.settings.Task.TheVariants.{Preauth, AuthFail, AuthSucc}
 use Rattle.mod_tally.specs.declared.settings.TallySettings.{TallySettings}

@@ -1,7 +1,7 @@
 ghost use Rattle.std.specs.Prelude.{◌≡◌, ◌≢◌, ◌&&◌, ◌==◌, not, false, None, IsTrue, IfOk, OnErr, codes};
 ghost use Rattle.conv_port.specs.Conv.{ConvState};
-ghost use Rattle.module_acts.specs.account_files.specs.Accounts.{Known};
-ghost use Rattle.module_acts.specs.account_files.specs.Act.{Acts};
+ghost use Rattle.module_acts.specs.Accounts.{Known};
+ghost use Rattle.module_acts.specs.Act.{Acts};
 ghost use Rattle.module_acts.specs.Returns.{Follows};
 ghost use Rattle.module_acts.specs.Seen.{scene_seen, user_seen};
 ghost use Rattle.mod_tally.specs.Settings.{plain_settings, settings_of, task_among};
@@ -10,9 +10,8 @@ ghost use Rattle.mod_tally.specs.Faillock.{by_name, by_spared, faillock_plays, f
 use crate::settings::{TallySettings, Task, settings_of, task_among};
 use crate::tally_file::{hold_tallies, is_no_file, read_tally, tally_name};
 use crate::task::by_task;
-use module_acts::account_files::{Account, Accounts, laws};
 use module_acts::pam_room::Call;
-use module_acts::{Check, Seen, account_of, user_of};
+use module_acts::{Account, Accounts, Check, Seen, account_of, laws, user_of};
 use pam_base::{Code, Func, NoMemory};
 use pam_outside::{Clock, Vault};
 

@@ -2,7 +2,7 @@ ghost use Rattle.std.specs.Prelude.{◌≡◌};
 ghost use Rattle.std.specs.Option.{option_copied};
 ghost use Rattle.mod_tally.specs.Settings.{number_among, plain_settings, settings_of, short_number, task_among, task_word, time_word, unlock_among};
 
-use module_acts::account_files::has_argument;
+use module_acts::has_argument;
 use module_acts::pam_room::Call;
 use pam_base::{Texts, number_in};
 

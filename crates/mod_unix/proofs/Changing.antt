@@ -8,12 +8,12 @@ use Rattle.pam_base.specs.declared.fault.Refuse.{Refuse}
 use Rattle.pam_base.specs.declared.fault.Refuse.TheVariants.{NoMemory, Named}
 use Rattle.pam_room.specs.State.{Scene}
 use Rattle.account_db.specs.declared.shadow.Shadow.{Shadow}
-use Rattle.account_files.specs.Act.{Act, Acts}
+use Rattle.module_acts.specs.Act.{Act, Acts}
 use Rattle.module_acts.specs.Returns.{Returns}
 use Rattle.module_acts.specs.Steps.{sees_caller}
 use Rattle.mod_unix.specs.Authenticate.{is_empty}
 use Rattle.mod_unix.specs.Change.{asks_old, by_early, by_empty, by_root, is_too_early, tries_change}
-use Rattle.account_files.specs.Accounts.{Known}
+use Rattle.module_acts.specs.Accounts.{Known}
 use Rattle.mod_unix.specs.Verify.{hash_verified}
 
 -- the token in an item was verified

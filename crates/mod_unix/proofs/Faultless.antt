@@ -5,7 +5,7 @@ use Rattle.sha_crypt.specs.Characters.{characters}
 use Rattle.sha_crypt.specs.declared.setting.SettingFault.{SettingFault}
 use Rattle.sha_crypt.specs.Hash.{crypted}
 use Rattle.sha_crypt.specs.Setting.{rounds_text}
-use Rattle.account_files.specs.Arguments.{has_argument}
+use Rattle.module_acts.specs.Arguments.{has_argument}
 use Rattle.mod_unix.specs.NewHash.{new_setting, rounds_in, rounds_of, short_number}
 
 -- no rounds are named, or few enough

@@ -4,9 +4,9 @@ use Rattle.pam_base.specs.declared.code.Code.{Code}
 use Rattle.pam_outside.specs.Time.{Time, time_of}
 use Rattle.pam_room.specs.State.{Scene}
 use Rattle.account_db.specs.declared.shadow.Shadow.{Shadow}
-use Rattle.account_files.specs.Act.{Act, Acts}
+use Rattle.module_acts.specs.Act.{Act, Acts}
 use Rattle.module_acts.specs.Steps.{sees_clock}
-use Rattle.account_files.specs.Accounts.{Known}
+use Rattle.module_acts.specs.Accounts.{Known}
 use Rattle.mod_unix.specs.Aging.{aged, day_of}
 
 same_code : (act : Code → Act) (answer is : Code) (known : Known) (s : Scene) (code : Code) (end : Scene) → answer ≡ is → Acts (act answer) known s code end → Acts (act is) known s code end

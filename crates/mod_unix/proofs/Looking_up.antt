@@ -2,8 +2,8 @@
 use Rattle.std.proofs.Common.{◌≡◌, ℕ, Bool, true, false, List, codes}
 use Rattle.pam_base.specs.declared.code.Code.{Code}
 use Rattle.pam_room.specs.State.{Scene}
-use Rattle.account_files.specs.Accounts.{Known, account_limit}
-use Rattle.account_files.specs.Act.{Act, Acts, reads_file}
+use Rattle.module_acts.specs.Accounts.{Known, account_limit}
+use Rattle.module_acts.specs.Act.{Act, Acts, reads_file}
 use Rattle.mod_unix.specs.declared.look.Field.TheVariants.{Holds}
 use Rattle.mod_unix.specs.declared.look.KnownPassword.{KnownPassword}
 use Rattle.mod_unix.specs.declared.look.KnownPassword.TheVariants.{Plain}

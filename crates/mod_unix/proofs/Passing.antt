@@ -8,15 +8,15 @@ use Rattle.pam_base.specs.declared.fault.Refuse.TheVariants.{NoMemory, Named}
 use Rattle.item_store.specs.Items.{ItemTexts}
 use Rattle.pam_room.specs.Call.{PlainCall}
 use Rattle.pam_room.specs.State.{Scene}
-use Rattle.account_files.specs.Act.{Act, Acts, Reaches, sees_items}
+use Rattle.module_acts.specs.Act.{Act, Acts, Reaches, sees_items}
 use Rattle.module_acts.specs.Returns.{Returns, then_on}
 use Rattle.module_acts.specs.Steps.{requests_delay}
 use Rattle.mod_unix.specs.declared.authenticate.Authenticated.{Authenticated}
 use Rattle.mod_unix.specs.declared.authenticate.Authenticated.TheVariants.{Kept, Unkept}
 use Rattle.mod_unix.specs.declared.look.KnownPassword.{KnownPassword}
-use Rattle.account_files.specs.Arguments.{has_argument}
+use Rattle.module_acts.specs.Arguments.{has_argument}
 use Rattle.mod_unix.specs.Authenticate.{asks_password, judge_account, by_open, by_pass, delays, is_open, is_success, try_first, unless_success, verifies_token, with_first}
-use Rattle.account_files.specs.Accounts.{Known}
+use Rattle.module_acts.specs.Accounts.{Known}
 use Rattle.mod_unix.specs.Verify.{verified}
 
 module _ (r : Result Authenticated (Refuse ConvErr)) (look : KnownPassword) (s new : Scene) where

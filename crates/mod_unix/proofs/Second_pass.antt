@@ -14,23 +14,23 @@ use Rattle.account_db.specs.declared.fault.DbFault.{DbFault}
 use Rattle.account_db.specs.declared.shadow.Shadow.{Shadow}
 use Rattle.account_db.specs.Replace.{unless_faulty_file, with_hash}
 use Rattle.account_db.specs.Shadow.{shadow_of, shadows_of}
-use Rattle.account_files.specs.declared.content.Content.{Content}
-use Rattle.account_files.specs.Accounts.{account_limit}
-use Rattle.account_files.specs.Act.{Stage, answers, called, content_seen, draws_word, in_room, later, reads_file, replaced, replaces_file, sees_items}
-use Rattle.account_files.specs.Content.{content_of}
+use Rattle.module_acts.specs.declared.content.Content.{Content}
+use Rattle.module_acts.specs.Accounts.{account_limit}
+use Rattle.module_acts.specs.Act.{Stage, answers, called, content_seen, draws_word, in_room, later, reads_file, replaced, replaces_file, sees_items}
+use Rattle.module_acts.specs.Content.{content_of}
 use Rattle.module_acts.specs.Steps.{exchanges, sees_clock, sets_item, with_replies}
 use Rattle.mod_unix.specs.declared.look.Field.{Field}
 use Rattle.mod_unix.specs.declared.look.KnownPassword.{KnownPassword}
 use Rattle.mod_unix.specs.declared.look.KnownPassword.TheVariants.{Unknown, Unavailable, Plain, Shadowed}
 use Rattle.mod_unix.specs.Aging.{day_of}
-use Rattle.account_files.specs.Arguments.{has_argument}
+use Rattle.module_acts.specs.Arguments.{has_argument}
 use Rattle.mod_unix.specs.Flags.{change_expired_authtok}
 use Rattle.mod_unix.specs.Change.{by_authtok, write_result, by_kept, by_pass, by_text, change_by, changed_by, changed_shadow, changes_entry, changes_shadow, is_kept, new_prompts, same_reply, sets_new, stores_token, takes_token, usable}
 use Rattle.mod_unix.specs.Look.{by_field, by_x, field_in, is_x, looks, shadow_among, shadow_in, shadowed}
 use Rattle.mod_unix.specs.NewHash.{hashed_token}
 use Rattle.mod_unix.specs.Stands.{shadow_path}
 use Rattle.pam_base.specs.declared.code.Code.TheVariants as returns
-use Rattle.account_files.specs.declared.content.Content.TheVariants as content
+use Rattle.module_acts.specs.declared.content.Content.TheVariants as content
 use Rattle.mod_unix.specs.declared.look.Field.TheVariants as field
 
 -- ---- what the module did

@@ -8,10 +8,10 @@ use Rattle.std.specs.Prelude.{List}
 use Rattle.pam_room.specs.Call.{PlainCall}
 use Rattle.pam_room.specs.Module.{NamedData, named_data}
 use Rattle.pam_room.specs.State.{Scene}
-use Rattle.account_files.specs.Act.{Act, Acts, answers}
+use Rattle.module_acts.specs.Act.{Act, Acts, answers}
 use Rattle.module_acts.specs.Returns.{Follows}
 use Rattle.module_acts.specs.Steps.{sees_data}
-use Rattle.account_files.specs.Accounts.{Known, nothing_known}
+use Rattle.module_acts.specs.Accounts.{Known, nothing_known}
 use Rattle.mod_unix.specs.Unix.{by_func, kept_code}
 
 pub by_this : (f func : Func) (call : PlainCall) (r : Result Code NoMemory) (old new : Scene) → f ≡ func → IfOk r (λ code. Follows (by_func func call) old code new) → IfOk r (λ code. Follows (by_func f call) old code new)

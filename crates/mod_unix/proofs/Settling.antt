@@ -8,8 +8,8 @@ use Rattle.pam_base.specs.declared.fault.NoMemory.{NoMemory as Memoryless}
 use Rattle.pam_base.specs.declared.fault.Refuse.{Refuse}
 use Rattle.pam_base.specs.declared.fault.Refuse.TheVariants.{Named}
 use Rattle.pam_room.specs.State.{Scene}
-use Rattle.account_files.specs.Accounts.{Known, nothing_known}
-use Rattle.account_files.specs.Act.{Act, Acts, Yields, answers}
+use Rattle.module_acts.specs.Accounts.{Known, nothing_known}
+use Rattle.module_acts.specs.Act.{Act, Acts, Yields, answers}
 use Rattle.module_acts.specs.Returns.{Ends, Follows}
 use Rattle.module_acts.specs.Steps.{answers_keeping}
 use Rattle.mod_unix.specs.declared.authenticate.Authenticated.{Authenticated}

@@ -13,8 +13,8 @@ use Rattle.pam_room.specs.Say.{Asked, user_asked}
 use Rattle.account_db.specs.declared.shadow.Shadow.{Shadow}
 use Rattle.account_db.specs.Replace.{changed_entries, renewed, with_hash}
 use Rattle.account_db.specs.Shadow.{shadow_of, shadows_of}
-use Rattle.account_files.specs.Accounts.{nothing_known}
-use Rattle.account_files.specs.Act.{Stage, answers, asks_user, in_room}
+use Rattle.module_acts.specs.Accounts.{nothing_known}
+use Rattle.module_acts.specs.Act.{Stage, answers, asks_user, in_room}
 use Rattle.sha_crypt.specs.Characters.{characters}
 use Rattle.sha_crypt.specs.Hash.{crypted}
 use Rattle.sha_crypt.specs.Setting.{is_forbidden, rounds_text}

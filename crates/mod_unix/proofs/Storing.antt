@@ -13,15 +13,15 @@ use Rattle.pam_room.specs.Call.{PlainCall, has_flag, prelim_check}
 use Rattle.pam_outside.specs.Files.{VaultState}
 use Rattle.pam_room.specs.State.{PlainProcess, PlainRoom, Scene, scene_of}
 use Rattle.account_db.specs.declared.shadow.Shadow.{Shadow}
-use Rattle.account_files.specs.declared.content.Content.{Content}
-use Rattle.account_files.specs.Accounts.{Known, account_limit}
-use Rattle.account_files.specs.Act.{Act, Acts, Yields, Reaches, draws_word, reads_file, replaces_file, sees_items}
+use Rattle.module_acts.specs.declared.content.Content.{Content}
+use Rattle.module_acts.specs.Accounts.{Known, account_limit}
+use Rattle.module_acts.specs.Act.{Act, Acts, Yields, Reaches, draws_word, reads_file, replaces_file, sees_items}
 use Rattle.module_acts.specs.Returns.{Returns, Ends, early, then}
 use Rattle.module_acts.specs.Steps.{exchanges, sees_clock, sets_item}
 use Rattle.mod_unix.specs.declared.look.KnownPassword.{KnownPassword}
 use Rattle.mod_unix.specs.declared.look.KnownPassword.TheVariants.{Unknown, Unavailable, Plain, Shadowed}
 use Rattle.mod_unix.specs.Aging.{day_of}
-use Rattle.account_files.specs.Arguments.{has_argument}
+use Rattle.module_acts.specs.Arguments.{has_argument}
 use Rattle.mod_unix.specs.NewHash.{hashed_token}
 use Rattle.mod_unix.specs.Change.{change_by, by_authtok, write_result, by_kept, by_pass, by_text, changed_shadow, changes_entry, changes_shadow, is_kept, new_prompts, same_reply, sets_new, stores_token, takes_token, tries_change, usable}
 

@@ -2,14 +2,14 @@
 use Rattle.std.proofs.Common.{◌≡◌, ℕ, false, List, [], length, nat_lt, Option, Some, unwrap_or, Err, sym, ap}
 use Rattle.pam_base.specs.declared.code.Code.{Code}
 use Rattle.pam_room.specs.State.{Scene}
-use Rattle.account_files.specs.Act.{Act, Acts}
+use Rattle.module_acts.specs.Act.{Act, Acts}
 use Rattle.mod_unix.specs.declared.authenticate.Authenticated.{Authenticated}
 use Rattle.mod_unix.specs.declared.authenticate.Authenticated.TheVariants.{Kept}
 use Rattle.mod_unix.specs.declared.look.KnownPassword.{KnownPassword}
 use Rattle.pam_base.specs.declared.code.Code.TheVariants.{AuthinfoUnavail}
 use Rattle.sha_crypt.specs.declared.setting.SettingFault.{SettingFault}
 use Rattle.sha_crypt.specs.Hash.{crypted}
-use Rattle.account_files.specs.Accounts.{Known}
+use Rattle.module_acts.specs.Accounts.{Known}
 use Rattle.mod_unix.specs.Verify.{by_hash, hash_verified, is_locked, verified}
 
 pub faulty : (hash token : List ℕ) (fault : SettingFault) → is_locked hash ≡ false → nat_lt 512 (length token) ≡ false → crypted hash token ≡ Err fault → AuthinfoUnavail ≡ hash_verified hash token

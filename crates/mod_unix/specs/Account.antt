@@ -1,7 +1,7 @@
 -- pam_unix(8), acct_mgmt.
 use Rattle.pam_base.specs.declared.code.Code.{Code}
 use Rattle.pam_base.specs.declared.code.Code.TheVariants as returns
-use Rattle.account_files.specs.Act.{Act, asks_user}
+use Rattle.module_acts.specs.Act.{Act, asks_user}
 use Rattle.module_acts.specs.Steps.{sees_clock}
 use Rattle.mod_unix.specs.declared.look.KnownPassword.{KnownPassword}
 use Rattle.mod_unix.specs.declared.look.KnownPassword.TheVariants.{Unknown, Unavailable, Plain, Shadowed}

@@ -4,13 +4,13 @@ use Rattle.pam_base.specs.Code.{number_of}
 use Rattle.pam_base.specs.declared.code.Code.{Code}
 use Rattle.pam_base.specs.declared.code.Code.TheVariants as returns
 use Rattle.pam_room.specs.Call.{PlainCall, has_flag}
-use Rattle.account_files.specs.Act.{Act, answers, asks_user, sees_items}
+use Rattle.module_acts.specs.Act.{Act, answers, asks_user, sees_items}
 use Rattle.module_acts.specs.Steps.{answers_keeping, asks_token, requests_delay}
 use Rattle.mod_unix.specs.declared.authenticate.Authenticated.{Authenticated}
 use Rattle.mod_unix.specs.declared.authenticate.Authenticated.TheVariants.{Kept, Unkept}
 use Rattle.mod_unix.specs.declared.look.KnownPassword.{KnownPassword}
 use Rattle.mod_unix.specs.declared.look.KnownPassword.TheVariants.{Unknown, Unavailable, Plain, Shadowed}
-use Rattle.account_files.specs.Arguments.{has_argument}
+use Rattle.module_acts.specs.Arguments.{has_argument}
 use Rattle.mod_unix.specs.Flags.{disallow_null_authtok}
 use Rattle.mod_unix.specs.Look.{looks}
 use Rattle.mod_unix.specs.Verify.{verified}

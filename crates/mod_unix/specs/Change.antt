@@ -12,15 +12,15 @@ use Rattle.pam_room.specs.Call.{PlainCall, has_flag, prelim_check}
 use Rattle.account_db.specs.declared.fault.DbFault.{DbFault}
 use Rattle.account_db.specs.declared.shadow.Shadow.{Shadow}
 use Rattle.account_db.specs.Replace.{hash_replaced}
-use Rattle.account_files.specs.declared.content.Content.{Content}
-use Rattle.account_files.specs.declared.content.Content.TheVariants as content
-use Rattle.account_files.specs.Accounts.{account_limit}
-use Rattle.account_files.specs.Act.{Act, asks_user, draws_word, reads_file, sees_items, replaces_file}
+use Rattle.module_acts.specs.declared.content.Content.{Content}
+use Rattle.module_acts.specs.declared.content.Content.TheVariants as content
+use Rattle.module_acts.specs.Accounts.{account_limit}
+use Rattle.module_acts.specs.Act.{Act, asks_user, draws_word, reads_file, sees_items, replaces_file}
 use Rattle.module_acts.specs.Steps.{asks_token, exchanges, sees_caller, sees_clock, sets_item}
 use Rattle.mod_unix.specs.declared.look.KnownPassword.{KnownPassword}
 use Rattle.mod_unix.specs.declared.look.KnownPassword.TheVariants.{Unknown, Unavailable, Plain, Shadowed}
 use Rattle.mod_unix.specs.Aging.{aged, day_of}
-use Rattle.account_files.specs.Arguments.{has_argument}
+use Rattle.module_acts.specs.Arguments.{has_argument}
 use Rattle.mod_unix.specs.Flags.{change_expired_authtok}
 use Rattle.mod_unix.specs.Authenticate.{is_empty}
 use Rattle.mod_unix.specs.Look.{looks, shadow_in}

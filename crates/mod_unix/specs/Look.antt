@@ -6,10 +6,10 @@ use Rattle.account_db.specs.declared.passwd.Passwd.{Passwd}
 use Rattle.account_db.specs.declared.shadow.Shadow.{Shadow}
 use Rattle.account_db.specs.Passwd.{entry_of, passwds_of}
 use Rattle.account_db.specs.Shadow.{shadow_of, shadows_of}
-use Rattle.account_files.specs.declared.content.Content.{Content}
-use Rattle.account_files.specs.declared.content.Content.TheVariants as content
-use Rattle.account_files.specs.Accounts.{account_limit}
-use Rattle.account_files.specs.Act.{Act, reads_file}
+use Rattle.module_acts.specs.declared.content.Content.{Content}
+use Rattle.module_acts.specs.declared.content.Content.TheVariants as content
+use Rattle.module_acts.specs.Accounts.{account_limit}
+use Rattle.module_acts.specs.Act.{Act, reads_file}
 use Rattle.mod_unix.specs.declared.look.Field.{Field}
 use Rattle.mod_unix.specs.declared.look.Field.TheVariants as field
 use Rattle.mod_unix.specs.declared.look.KnownPassword.{KnownPassword}

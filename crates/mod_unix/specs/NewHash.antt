@@ -5,7 +5,7 @@ use Rattle.pam_room.specs.Call.{value_among}
 use Rattle.sha_crypt.specs.Characters.{characters}
 use Rattle.sha_crypt.specs.Hash.{crypted}
 use Rattle.sha_crypt.specs.declared.setting.SettingFault.{SettingFault}
-use Rattle.account_files.specs.Arguments.{has_argument}
+use Rattle.module_acts.specs.Arguments.{has_argument}
 
 -- SHA-256 with `sha256`, else SHA-512
 abbrev pub method_text : List (List ℕ) → List ℕ

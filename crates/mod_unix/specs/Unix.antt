@@ -10,7 +10,7 @@ use Rattle.pam_base.specs.declared.call.Func.{Func}
 use Rattle.pam_base.specs.declared.call.Func.TheVariants.{Authenticate, SetCred, AcctMgmt, OpenSession, CloseSession, ChAuthTok}
 use Rattle.pam_room.specs.Call.{PlainCall}
 use Rattle.pam_room.specs.Module.{NamedData, Plays}
-use Rattle.account_files.specs.Act.{Act, answers, plays_by}
+use Rattle.module_acts.specs.Act.{Act, answers, plays_by}
 use Rattle.module_acts.specs.Steps.{sees_data}
 use Rattle.mod_unix.specs.Account.{checks_account}
 use Rattle.mod_unix.specs.Change.{changes_token}

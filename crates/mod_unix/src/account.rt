@@ -2,7 +2,7 @@ ghost use Rattle.std.specs.Prelude.{◌≡◌, IsTrue};
 ghost use Rattle.pam_outside.specs.Files.{VaultState};
 ghost use Rattle.pam_room.specs.Plain.{plain_process};
 ghost use Rattle.pam_room.specs.State.{PlainProcess, PlainRoom, scene_of};
-ghost use Rattle.account_files.specs.Act.{Yields};
+ghost use Rattle.module_acts.specs.Act.{Yields};
 ghost use Rattle.module_acts.specs.Returns.{Returns, scene_of_parts};
 ghost use Rattle.module_acts.specs.OnlyTalks.{OnlyTalks};
 ghost use Rattle.mod_unix.specs.Account.{account_by, checks_account};

@@ -9,9 +9,8 @@ ghost use Rattle.mod_unix.specs.Authenticate.{asks_password, authenticates, has_
 
 use crate::look::{KnownPassword, look_up};
 use crate::verify::verify;
-use account_files::has_argument;
 use conv_port::Conv;
-use module_acts::{laws, request_delay, require_token, require_user, user_of};
+use module_acts::{has_argument, laws, request_delay, require_token, require_user, user_of};
 use pam_base::{Code, ConvErr, DISALLOW_NULL_AUTHTOK, ItemName, Refuse};
 use pam_outside::Vault;
 use pam_room::{Call, Process, Transaction, get_item};
@@ -95,7 +94,7 @@ fn verify_token(
         (scene_of_parts transaction.new (conv_holds conv.new) vault clock process) }
     ensures talks { OnlyTalks transaction.old transaction.new }
 {
-    account_files::laws::act_steps();
+    module_acts::laws::act_steps();
     laws::talking();
     if has_argument(b"use_first_pass", call.args) {
         return match get_item(&transaction.items, ItemName::AuthTok) {

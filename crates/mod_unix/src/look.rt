@@ -1,11 +1,11 @@
 ghost use Rattle.std.specs.Prelude.{◌≡◌, ◌≤◌, IsTrue, IfOk, length};
-ghost use Rattle.account_files.specs.Accounts.{account_limit};
-ghost use Rattle.account_files.specs.Content.{IsWithin};
-ghost use Rattle.account_files.specs.Act.{StepsTo};
+ghost use Rattle.module_acts.specs.Accounts.{account_limit};
+ghost use Rattle.module_acts.specs.Content.{IsWithin};
+ghost use Rattle.module_acts.specs.Act.{StepsTo};
 ghost use Rattle.mod_unix.specs.Look.{field_in, is_x, looks, shadow_in};
 
 use account_db::{Shadow, entry_of, passwds, shadows};
-use account_files::{ACCOUNT_LIMIT, Content, read_named};
+use module_acts::{ACCOUNT_LIMIT, Content, read_named};
 use pam_base::{NoMemory, Text};
 use pam_outside::Vault;
 use pam_room::Process;

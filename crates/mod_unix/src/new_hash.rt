@@ -3,7 +3,7 @@ ghost use Rattle.std.specs.Option.{option_copied};
 ghost use Rattle.sha_crypt.specs.Characters.{characters};
 ghost use Rattle.mod_unix.specs.NewHash.{hashed_token, method_text, new_setting, rounds_in, rounds_of, short_number};
 
-use account_files::has_argument;
+use module_acts::has_argument;
 use pam_base::{NoMemory, Refuse, Text, number_in};
 use pam_room::Call;
 use sha_crypt::{crypt, laws};

@@ -8,9 +8,8 @@ ghost use Rattle.module_acts.specs.Returns.{Returns, scene_of_parts};
 ghost use Rattle.module_acts.specs.OnlyTalks.{OnlyTalks};
 ghost use Rattle.mod_unix.specs.Change.{new_prompts, same_reply, takes_token, usable};
 
-use account_files::has_argument;
 use conv_port::{Conv, Message, Messages, Replies};
-use module_acts::{exchange, laws, set_token};
+use module_acts::{exchange, has_argument, laws, set_token};
 use pam_base::{ConvErr, ItemName, NoMemory, Refuse, Style, Text};
 use pam_room::{Call, Transaction, get_item};
 use std::alloc::Global;
@@ -32,7 +31,7 @@ pub fn take_token(
     ensures short { IfOk result (λ token. IfSome token (λ t. length t ≤ 512)) }
     ensures talks { OnlyTalks transaction.old transaction.new }
 {
-    account_files::laws::act_steps();
+    module_acts::laws::act_steps();
     laws::talking();
     if has_argument(b"use_authtok", call.args) {
         let token = usable(alloc, get_item(&transaction.items, ItemName::AuthTok))?;

@@ -6,7 +6,7 @@ ghost use Rattle.pam_outside.specs.Time.{ClockState};
 ghost use Rattle.pam_room.specs.Module.{keeps_files, length_note, named_data};
 ghost use Rattle.pam_room.specs.Plain.{plain_process};
 ghost use Rattle.pam_room.specs.State.{Scene};
-ghost use Rattle.account_files.specs.Act.{Act};
+ghost use Rattle.module_acts.specs.Act.{Act};
 ghost use Rattle.module_acts.specs.Returns.{Returns, Follows, scene_of_parts};
 ghost use Rattle.mod_unix.specs.declared.authenticate.Authenticated.{Authenticated};
 ghost use Rattle.mod_unix.specs.Authenticate.{keeps_for_setcred};
@@ -61,7 +61,7 @@ impl Module for Unix {
         vault: &mut dyn Vault,
         clock: &mut dyn Clock,
     ) -> Result<Code, NoMemory> {
-        account_files::laws::act_steps();
+        module_acts::laws::act_steps();
         laws::acting();
         laws::talking();
         pam_room::laws::files_stay();
@@ -119,7 +119,7 @@ fn keep_for_setcred(
     ensures others { transaction.new ≡ record transaction.old { datums = transaction.new.datums } }
     ensures process { process.new ≡ record process.old { ledger = process.new.ledger } }
 {
-    account_files::laws::act_steps();
+    module_acts::laws::act_steps();
     laws::talking();
     match answer {
         Ok(answer) => match answer {

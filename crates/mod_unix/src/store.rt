@@ -2,18 +2,15 @@ ghost use Rattle.std.specs.Prelude.{◌≡◌, ◌≤◌, IsTrue, IfOk, OnErr, I
 ghost use Rattle.pam_outside.specs.Time.{time_of};
 ghost use Rattle.pam_room.specs.Plain.{plain_call, plain_process};
 ghost use Rattle.pam_room.specs.State.{PlainRoom, scene_of};
-ghost use Rattle.account_files.specs.Accounts.{account_limit};
-ghost use Rattle.account_files.specs.Content.{IsWithin};
-ghost use Rattle.account_files.specs.Act.{Yields, StepsTo};
+ghost use Rattle.module_acts.specs.Accounts.{account_limit};
+ghost use Rattle.module_acts.specs.Content.{IsWithin};
+ghost use Rattle.module_acts.specs.Act.{Yields, StepsTo};
 ghost use Rattle.mod_unix.specs.Aging.{day_of};
 ghost use Rattle.mod_unix.specs.Change.{write_result, changed_shadow, changes_shadow, stores_token};
 
 use crate::new_hash::hashed_token;
 use account_db::{entry_of, replace_hash, shadows};
-use account_files::{
-    ACCOUNT_LIMIT, Content, hold_named, laws as act_laws, read_named, replace_named,
-};
-use module_acts::laws;
+use module_acts::{ACCOUNT_LIMIT, Content, hold_named, laws, read_named, replace_named};
 use pam_base::{Code, NoMemory, Refuse, Text};
 use pam_outside::{Clock, LockKind, Vault, random_word};
 use pam_room::{Call, Process};
@@ -44,7 +41,7 @@ pub(crate) fn store_token(
         (scene_of room (vault_holds vault.new) (clock_holds clock.new)
         (plain_process process.now))) }
 {
-    act_laws::act_steps();
+    laws::act_steps();
     laws::acting();
     let token = match token {
         Some(token) => token,

@@ -10,26 +10,26 @@ use Rattle.pam_base.specs.declared.fault.Refuse.TheVariants as refusals
 use Rattle.pam_base.specs.declared.fault.ConvErr.{ConvErr as NoReply}
 use Rattle.pam_base.specs.declared.item.ItemName.{ItemName}
 use Rattle.pam_base.specs.declared.style.Style.{Style}
-use Rattle.account_files.specs.item_store.specs.Items.{ItemTexts, text_of, with_text}
+use Rattle.pam_room.specs.item_store.specs.Items.{ItemTexts, text_of, with_text}
 use Rattle.conv_port.specs.Conv.{ConvState}
 use Rattle.conv_port.specs.declared.conv.ConvFault.{ConvFault}
 use Rattle.conv_port.specs.declared.message.Message.{Message}
 use Rattle.conv_port.specs.declared.message.Reply.{Reply}
-use Rattle.account_files.specs.data_cleanup.specs.DataList.{PlainDataList, hold_all}
-use Rattle.account_files.specs.data_cleanup.specs.Ledger.{PlainLedger}
-use Rattle.account_files.specs.fail_delay.specs.Delay.{counted_request}
+use Rattle.pam_room.specs.data_cleanup.specs.DataList.{PlainDataList, hold_all}
+use Rattle.pam_room.specs.data_cleanup.specs.Ledger.{PlainLedger}
+use Rattle.pam_room.specs.fail_delay.specs.Delay.{counted_request}
 use Rattle.pam_outside.specs.Files.{VaultState}
 use Rattle.pam_outside.specs.Time.{ClockState, Time, time_of}
-use Rattle.account_files.specs.pam_room.specs.declared.transaction.Transaction.{Transaction}
-use Rattle.account_files.specs.pam_room.specs.Plain.{plain_transaction}
-use Rattle.account_files.specs.pam_room.specs.State.{PlainProcess, PlainTransaction, Scene, room_of, scene_of}
-use Rattle.account_files.specs.pam_room.specs.Module.{HasSet, NamedData, Played, SeenRoom, births_of, named_data, seen_of, with_played}
-use Rattle.account_files.specs.pam_room.specs.Say.{Asked, Asks, Says, asked, speak, token_asked, token_of, user_asked}
-use Rattle.account_files.specs.Accounts.{Known}
-use Rattle.account_files.specs.Act.{Act, Acts, Reaches, Stage, answers, asks_user, in_room, shown, shows, stage_of}
+use Rattle.pam_room.specs.declared.transaction.Transaction.{Transaction}
+use Rattle.pam_room.specs.Plain.{plain_transaction}
+use Rattle.pam_room.specs.State.{PlainProcess, PlainTransaction, Scene, room_of, scene_of}
+use Rattle.pam_room.specs.Module.{HasSet, NamedData, Played, SeenRoom, births_of, named_data, seen_of, with_played}
+use Rattle.pam_room.specs.Say.{Asked, Asks, Says, asked, speak, token_asked, token_of, user_asked}
+use Rattle.module_acts.specs.Accounts.{Known}
+use Rattle.module_acts.specs.Act.{Act, Acts, Reaches, Stage, answers, asks_user, in_room, shown, shows, stage_of}
 use Rattle.module_acts.specs.Returns.{Returns, ReturnsWith, Follows, scene_of_parts}
 use Rattle.module_acts.specs.Steps.{answers_keeping, asks_token, exchanges, requests_delay, sees_caller, sees_clock, sees_data, sets_item, with_replies}
-use Rattle.account_files.proofs.Acting.{carried}
+use Rattle.module_acts.proofs.Acting.{carried}
 
 pub answering : (code : Code) (known : Known) (s : Scene) → Acts (answers code) known s code s
 unfolding answers

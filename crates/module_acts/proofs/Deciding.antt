@@ -2,10 +2,10 @@
 use Rattle.std.proofs.Common.{◌≡◌, Option, None, Result, Ok, Err, IfOk}
 use Rattle.pam_base.specs.declared.code.Code.{Code}
 use Rattle.pam_base.specs.declared.fault.NoMemory.{NoMemory}
-use Rattle.account_files.specs.pam_room.specs.Call.{PlainCall}
-use Rattle.account_files.specs.pam_room.specs.Module.{Plays, PlaysIn}
-use Rattle.account_files.specs.pam_room.specs.State.{Scene}
-use Rattle.account_files.specs.Act.{Act, unless_answered}
+use Rattle.pam_room.specs.Call.{PlainCall}
+use Rattle.pam_room.specs.Module.{Plays, PlaysIn}
+use Rattle.pam_room.specs.State.{Scene}
+use Rattle.module_acts.specs.Act.{Act, unless_answered}
 use Rattle.module_acts.specs.Returns.{Follows}
 
 pub decided : (plays : Plays) (call : PlainCall) (at_once : Option Code) (does : Act) (old new : Scene) (r : Result Code NoMemory) → None ≡ at_once

@@ -1,3 +1,5 @@
+mod Looking
+pub mod Acting
 mod Carrying
 mod Refusing
 mod Talks_on

@@ -5,9 +5,9 @@ use Rattle.pam_base.specs.declared.code.Code.TheVariants as returns
 use Rattle.pam_base.specs.declared.fault.ConvErr.{ConvErr}
 use Rattle.pam_base.specs.declared.fault.Refuse.{Refuse}
 use Rattle.pam_base.specs.declared.fault.Refuse.TheVariants.{NoMemory, Named}
-use Rattle.account_files.specs.pam_room.specs.State.{Scene}
-use Rattle.account_files.specs.Accounts.{nothing_known}
-use Rattle.account_files.specs.Act.{Act, answers}
+use Rattle.pam_room.specs.State.{Scene}
+use Rattle.module_acts.specs.Accounts.{nothing_known}
+use Rattle.module_acts.specs.Act.{Act, answers}
 use Rattle.module_acts.specs.Returns.{Ends, Finishes, Follows, Returns}
 use Rattle.module_acts.proofs.Carrying.{answering}
 

@@ -2,13 +2,13 @@
 use Rattle.std.proofs.Common.{◌≡◌, ◌⊎◌, inl, inr, ℕ, List, [], ◌++◌, refl, sym, ap, ◌∙◌, append_assoc, arith}
 use Rattle.std.proofs.lemmas.List.{append-nil}
 use Rattle.conv_port.specs.declared.message.Message.{Message}
-use Rattle.account_files.specs.item_store.specs.Items.{ItemTexts}
-use Rattle.account_files.specs.data_cleanup.specs.Ledger.{PlainLedger}
-use Rattle.account_files.specs.data_cleanup.specs.Sets.{Sets}
-use Rattle.account_files.specs.pam_room.specs.declared.transaction.Transaction.{Transaction}
-use Rattle.account_files.specs.pam_room.specs.Plain.{plain_transaction}
-use Rattle.account_files.specs.pam_room.specs.State.{PlainProcess}
-use Rattle.account_files.specs.pam_room.specs.Stays.{Stays}
+use Rattle.pam_room.specs.item_store.specs.Items.{ItemTexts}
+use Rattle.pam_room.specs.data_cleanup.specs.Ledger.{PlainLedger}
+use Rattle.pam_room.specs.data_cleanup.specs.Sets.{Sets}
+use Rattle.pam_room.specs.declared.transaction.Transaction.{Transaction}
+use Rattle.pam_room.specs.Plain.{plain_transaction}
+use Rattle.pam_room.specs.State.{PlainProcess}
+use Rattle.pam_room.specs.Stays.{Stays}
 use Rattle.module_acts.specs.OnlyTalks.{OnlyTalks}
 use Rattle.module_acts.specs.SetsNoData.{SetsNoData}
 

@@ -1,7 +1,7 @@
 -- What a module that talks with the user does to a transaction, with real objects too (this project's own).
 use Rattle.std.specs.Prelude.{◌≡◌, ◌≤◌, List, ◌++◌}
 use Rattle.conv_port.specs.declared.message.Message.{Message}
-use Rattle.account_files.specs.pam_room.specs.declared.transaction.Transaction.{Transaction}
+use Rattle.pam_room.specs.declared.transaction.Transaction.{Transaction}
 
 -- SERVICE stays, the longest request for a delay doesn't shrink, messages are only added, the call may be left
 -- incomplete; of the rest only the items may change

@@ -8,11 +8,11 @@ use Rattle.pam_base.specs.declared.fault.Refuse.TheVariants.{NoMemory, Named}
 use Rattle.conv_port.specs.Conv.{ConvState}
 use Rattle.pam_outside.specs.Files.{VaultState}
 use Rattle.pam_outside.specs.Time.{ClockState}
-use Rattle.account_files.specs.pam_room.specs.State.{PlainProcess, Scene, room_of, scene_of}
-use Rattle.account_files.specs.pam_room.specs.Plain.{plain_transaction}
-use Rattle.account_files.specs.pam_room.specs.declared.transaction.Transaction.{Transaction}
-use Rattle.account_files.specs.Accounts.{Known, nothing_known}
-use Rattle.account_files.specs.Act.{Act, Acts, Yields, Reaches}
+use Rattle.pam_room.specs.State.{PlainProcess, Scene, room_of, scene_of}
+use Rattle.pam_room.specs.Plain.{plain_transaction}
+use Rattle.pam_room.specs.declared.transaction.Transaction.{Transaction}
+use Rattle.module_acts.specs.Accounts.{Known, nothing_known}
+use Rattle.module_acts.specs.Act.{Act, Acts, Yields, Reaches}
 
 -- what a module gets, as a scene
 abbrev pub scene_of_parts : Transaction → ConvState → VaultState → ClockState → PlainProcess → Scene

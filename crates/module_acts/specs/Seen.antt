@@ -3,8 +3,8 @@ use Rattle.std.specs.Prelude.{ℕ, List, [], unwrap_or}
 use Rattle.conv_port.specs.Conv.{ConvState}
 use Rattle.pam_outside.specs.Files.{VaultState}
 use Rattle.pam_outside.specs.Time.{ClockState}
-use Rattle.account_files.specs.pam_room.specs.State.{Scene}
-use Rattle.account_files.specs.Act.{scene_at}
+use Rattle.pam_room.specs.State.{Scene}
+use Rattle.module_acts.specs.Act.{scene_at}
 use Rattle.module_acts.specs.declared.seen.Seen.{Seen}
 
 -- the user's name, which is set

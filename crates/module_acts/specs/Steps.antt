@@ -3,15 +3,15 @@ use Rattle.std.specs.Prelude.{ℕ, max, Bool, if◌then◌else◌, List, [], ◌
 use Rattle.pam_base.specs.declared.code.Code.{Code}
 use Rattle.pam_base.specs.declared.code.Code.TheVariants.{ConvErr}
 use Rattle.pam_base.specs.declared.item.ItemName.{ItemName}
-use Rattle.account_files.specs.item_store.specs.Items.{text_of, with_text}
+use Rattle.pam_room.specs.item_store.specs.Items.{text_of, with_text}
 use Rattle.conv_port.specs.declared.conv.ConvFault.{ConvFault}
 use Rattle.conv_port.specs.declared.message.Message.{Message}
 use Rattle.conv_port.specs.declared.message.Reply.{Reply}
-use Rattle.account_files.specs.fail_delay.specs.Delay.{counted_request}
+use Rattle.pam_room.specs.fail_delay.specs.Delay.{counted_request}
 use Rattle.pam_outside.specs.Time.{Time}
-use Rattle.account_files.specs.pam_room.specs.Module.{NamedData, SeenRoom, answered}
-use Rattle.account_files.specs.pam_room.specs.Say.{Asked, speak, token_asked, token_of}
-use Rattle.account_files.specs.Act.{Act, in_room}
+use Rattle.pam_room.specs.Module.{NamedData, SeenRoom, answered}
+use Rattle.pam_room.specs.Say.{Asked, speak, token_asked, token_of}
+use Rattle.module_acts.specs.Act.{Act, in_room}
 
 -- ---- asking
 

@@ -1,4 +1,4 @@
-use account_files::pam_room::{Call, Process};
+use pam_room::{Call, Process};
 use std::alloc::Global;
 
 /// What a module gets and only reads: its call, the process, and the allocator.

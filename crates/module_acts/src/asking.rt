@@ -1,18 +1,18 @@
 ghost use Rattle.std.specs.Prelude.{◌≡◌, ◌≢◌, ◌≤◌, None, Err, IsOk, IsTrue, IfOk, OnOk, OnErr, length, unwrap_or, []};
-ghost use Rattle.account_files.specs.item_store.specs.Items.{text_of};
+ghost use Rattle.pam_room.specs.item_store.specs.Items.{text_of};
 ghost use Rattle.conv_port.specs.Message.{AreReplies, IsExchange};
 ghost use Rattle.pam_outside.specs.Files.{VaultState};
 ghost use Rattle.pam_outside.specs.Time.{ClockState};
-ghost use Rattle.account_files.specs.pam_room.specs.State.{PlainProcess};
-ghost use Rattle.account_files.specs.pam_room.specs.Say.{ConvErrIsCounted, signs, token_of};
-ghost use Rattle.account_files.specs.Act.{asks_user};
+ghost use Rattle.pam_room.specs.State.{PlainProcess};
+ghost use Rattle.pam_room.specs.Say.{ConvErrIsCounted, signs, token_of};
+ghost use Rattle.module_acts.specs.Act.{asks_user};
 ghost use Rattle.module_acts.specs.Returns.{Returns, ReturnsWith, scene_of_parts};
 ghost use Rattle.module_acts.specs.Steps.{asks_token, exchanges};
 ghost use Rattle.module_acts.specs.OnlyTalks.{OnlyTalks};
 
-use account_files::pam_room::{Transaction, ask_token, get_user, say};
 use conv_port::{Conv, Messages, Replies};
 use pam_base::{ConvErr, MAX_TEXT, Refuse};
+use pam_room::{Transaction, ask_token, get_user, say};
 use std::alloc::Global;
 
 /// Makes sure that USER is set, as `get_user` does (`pam_get_user(3)`).

@@ -1,17 +1,17 @@
 ghost use Rattle.std.specs.Prelude.{◌≡◌, ℕ, IfOk, OnOk, OnErr, Some};
 ghost use Rattle.conv_port.specs.Conv.{ConvState};
-ghost use Rattle.account_files.specs.data_cleanup.specs.Sets.{Sets};
+ghost use Rattle.pam_room.specs.data_cleanup.specs.Sets.{Sets};
 ghost use Rattle.pam_outside.specs.Files.{VaultState};
 ghost use Rattle.pam_outside.specs.Time.{ClockState};
-ghost use Rattle.account_files.specs.pam_room.specs.State.{PlainProcess};
-ghost use Rattle.account_files.specs.pam_room.specs.Plain.{plain_process};
-ghost use Rattle.account_files.specs.Act.{Reaches};
+ghost use Rattle.pam_room.specs.State.{PlainProcess};
+ghost use Rattle.pam_room.specs.Plain.{plain_process};
+ghost use Rattle.module_acts.specs.Act.{Reaches};
 ghost use Rattle.module_acts.specs.Returns.{Follows, scene_of_parts};
 ghost use Rattle.module_acts.specs.Steps.{answers_keeping, requests_delay, sets_item};
 ghost use Rattle.module_acts.specs.OnlyTalks.{OnlyTalks};
 
-use account_files::pam_room::{Process, Transaction, laws, set_item};
 use pam_base::{Code, ItemName, NoMemory};
+use pam_room::{Process, Transaction, laws, set_item};
 use std::alloc::Global;
 
 /// Requests a delay, in microseconds (`pam_fail_delay(3)`).

@@ -1,18 +1,18 @@
 ghost use Rattle.std.specs.Prelude.{◌≡◌, ◌≢◌, ℕ, List, Option, None, IsTrue, IfOk, OnErr};
 ghost use Rattle.pam_base.specs.declared.code.Code.{Code};
 ghost use Rattle.conv_port.specs.Conv.{ConvState};
-ghost use Rattle.account_files.specs.pam_room.specs.Call.{PlainCall};
-ghost use Rattle.account_files.specs.pam_room.specs.Module.{Plays, PlaysIn};
-ghost use Rattle.account_files.specs.pam_room.specs.Plain.{plain_call};
-ghost use Rattle.account_files.specs.pam_room.specs.State.{Scene};
-ghost use Rattle.account_files.specs.Act.{Act, asks_user, unless_answered};
+ghost use Rattle.pam_room.specs.Call.{PlainCall};
+ghost use Rattle.pam_room.specs.Module.{Plays, PlaysIn};
+ghost use Rattle.pam_room.specs.Plain.{plain_call};
+ghost use Rattle.pam_room.specs.State.{Scene};
+ghost use Rattle.module_acts.specs.Act.{Act, asks_user, unless_answered};
 ghost use Rattle.module_acts.specs.Returns.{Follows};
 ghost use Rattle.module_acts.specs.Seen.{scene_seen, user_seen};
 
 use crate::seen::Seen;
-use account_files::pam_room::Call;
 use pam_base::{Code, NoMemory};
 use pam_outside::{Clock, Vault};
+use pam_room::Call;
 
 /// A module that asks for the user's name, and then decides by files and the time.
 pub trait Check {

@@ -1,5 +1,5 @@
 ghost use Rattle.std.specs.Prelude.{◌≡◌, IsTrue, OnErr};
-ghost use Rattle.account_files.specs.Act.{asks_user};
+ghost use Rattle.module_acts.specs.Act.{asks_user};
 ghost use Rattle.module_acts.specs.Returns.{Finishes};
 ghost use Rattle.module_acts.specs.SetsNoData.{SetsNoData};
 
@@ -9,10 +9,10 @@ use crate::check::Check;
 use crate::laws::talking;
 use crate::seen::Seen;
 use crate::work::Work;
-use account_files::pam_room::{Call, Transaction};
 use conv_port::Conv;
 use pam_base::{Code, ConvErr, Refuse};
 use pam_outside::{Clock, Vault};
+use pam_room::{Call, Transaction};
 use std::marker::PhantomData;
 
 /// The work of a check: it asks for the user's name, and decides.

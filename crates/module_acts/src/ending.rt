@@ -1,10 +1,10 @@
 ghost use Rattle.std.specs.Prelude.{◌≡◌, Err, IfOk, OnErr};
 ghost use Rattle.pam_base.specs.declared.code.Code.{Code};
-ghost use Rattle.account_files.specs.pam_room.specs.State.{Scene};
-ghost use Rattle.account_files.specs.Act.{Act, answers};
+ghost use Rattle.pam_room.specs.State.{Scene};
+ghost use Rattle.module_acts.specs.Act.{Act, answers};
 ghost use Rattle.module_acts.specs.Returns.{Returns, Finishes, Follows};
 
-use account_files::laws;
+use crate::laws;
 use pam_base::{Code, ConvErr, NoMemory, Refuse};
 
 /// The module's code, which is CONV_ERR if the conversation gave no reply.

@@ -1,14 +1,18 @@
-//! More steps that modules are made of: asking for tokens, exchanging several messages, requesting
-//! delays, setting items and data. Each step takes the rest of the module as a continuation; its
-//! contract relates the state before the step to the state that the rest begins in. Begin at
-//! `asking.rt`.
+//! What modules are made of: account files and other files, each account file read once; and steps
+//! that ask for tokens, exchange several messages, request delays, set items and data. The
+//! definition of a module is written in the same steps. Each step takes the rest of the module as a
+//! continuation; its contract relates the state before the step to the state that the rest begins
+//! in. Begin at `asking.rt` and `accounts.rt`, and for the definitions at `specs/Act.antt`.
 #![tactic(auto)]
 
+mod accounts;
+mod arguments;
 mod asked;
 mod asking;
 mod changing;
 mod check;
 mod check_module;
+mod content;
 mod ending;
 pub mod laws;
 mod seen;
@@ -17,14 +21,17 @@ mod uncheck;
 mod work;
 mod work_module;
 
-pub use account_files;
-pub use account_files::{data_cleanup, pam_room};
+pub use accounts::{ACCOUNT_LIMIT, Account, Accounts, read_shells};
+pub use arguments::has_argument;
 pub use asked::Asked;
 pub use asking::{exchange, require_token, require_user};
 pub use changing::{answer_and_keep, request_delay, set_token};
 pub use check::Check;
 pub use check_module::CheckWork;
+pub use content::{Content, SMALL_FILE_LIMIT, hold_named, is_rooted, read_named, replace_named};
 pub use ending::ended;
+pub use pam_room;
+pub use pam_room::data_cleanup;
 pub use seen::{Seen, account_of};
 pub use speech::{show, user_of};
 pub use uncheck::code_unchecked;

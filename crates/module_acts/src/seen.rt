@@ -1,14 +1,14 @@
 ghost use Rattle.std.specs.Prelude.{◌≡◌, ◌≢◌, None, IsTrue, IfOk, OnOk};
-ghost use Rattle.account_files.specs.Accounts.{account_in, known_passwds};
-ghost use Rattle.account_files.specs.Act.{LooksTo, finds_account};
-ghost use Rattle.account_files.specs.Found.{plain_account};
+ghost use Rattle.module_acts.specs.Accounts.{account_in, known_passwds};
+ghost use Rattle.module_acts.specs.Act.{LooksTo, finds_account};
+ghost use Rattle.module_acts.specs.Found.{plain_account};
 ghost use Rattle.module_acts.specs.Seen.{user_seen};
 
+use crate::accounts::{Account, Accounts};
 use crate::speech::user_of;
-use account_files::pam_room::{Call, Process, Transaction};
-use account_files::{Account, Accounts};
 use pam_base::NoMemory;
 use pam_outside::Vault;
+use pam_room::{Call, Process, Transaction};
 use std::alloc::Global;
 
 /// What a module gets that only decides: its call, the transaction and the process.

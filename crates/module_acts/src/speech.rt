@@ -1,15 +1,15 @@
 ghost use Rattle.std.specs.Prelude.{◌≡◌, ◌≢◌, None, IsTrue, OnOk, OnErr, unwrap_or, []};
 ghost use Rattle.pam_outside.specs.Files.{VaultState};
 ghost use Rattle.pam_outside.specs.Time.{ClockState};
-ghost use Rattle.account_files.specs.pam_room.specs.Say.{signs};
-ghost use Rattle.account_files.specs.pam_room.specs.State.{PlainProcess};
-ghost use Rattle.account_files.specs.Act.{Reaches, shows};
+ghost use Rattle.pam_room.specs.Say.{signs};
+ghost use Rattle.pam_room.specs.State.{PlainProcess};
+ghost use Rattle.module_acts.specs.Act.{Reaches, shows};
 ghost use Rattle.module_acts.specs.Returns.{scene_of_parts};
 ghost use Rattle.module_acts.specs.OnlyTalks.{OnlyTalks};
 
-use account_files::pam_room::{Transaction, first_bytes, get_item, send};
 use conv_port::Conv;
 use pam_base::{ItemName, NoMemory, Refuse, Style, Text};
+use pam_room::{Transaction, first_bytes, get_item, send};
 use std::alloc::Global;
 
 /// The user; USER is set.

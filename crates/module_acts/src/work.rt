@@ -1,18 +1,18 @@
 ghost use Rattle.std.specs.Prelude.{◌≡◌, ℕ, List, Option, IsTrue, OnErr};
 ghost use Rattle.pam_base.specs.declared.code.Code.{Code};
-ghost use Rattle.account_files.specs.pam_room.specs.Call.{PlainCall};
-ghost use Rattle.account_files.specs.pam_room.specs.Module.{Plays, PlaysIn};
-ghost use Rattle.account_files.specs.pam_room.specs.Plain.{plain_call};
-ghost use Rattle.account_files.specs.pam_room.specs.State.{Scene};
-ghost use Rattle.account_files.specs.Act.{Act, scene_at, unless_answered};
+ghost use Rattle.pam_room.specs.Call.{PlainCall};
+ghost use Rattle.pam_room.specs.Module.{Plays, PlaysIn};
+ghost use Rattle.pam_room.specs.Plain.{plain_call};
+ghost use Rattle.pam_room.specs.State.{Scene};
+ghost use Rattle.module_acts.specs.Act.{Act, scene_at, unless_answered};
 ghost use Rattle.module_acts.specs.Returns.{Finishes, Follows};
 ghost use Rattle.module_acts.specs.SetsNoData.{SetsNoData};
 
 use crate::asked::Asked;
-use account_files::pam_room::{Call, Transaction};
 use conv_port::Conv;
 use pam_base::{Code, ConvErr, Refuse};
 use pam_outside::{Clock, Vault};
+use pam_room::{Call, Transaction};
 
 /// A module without state that sets no data: the code that it returns at once, or else what it
 /// does.

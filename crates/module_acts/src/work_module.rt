@@ -1,16 +1,16 @@
 ghost use Rattle.std.specs.Prelude.{◌≡◌, IsTrue, IfOk};
-ghost use Rattle.account_files.specs.pam_room.specs.Module.{keeps_files, length_note};
+ghost use Rattle.pam_room.specs.Module.{keeps_files, length_note};
 
 use crate::asked::Asked;
 use crate::ending::ended;
+use crate::laws;
 use crate::laws::no_data_are_set;
 use crate::work::Work;
-use account_files::data_cleanup::{Datum, Receipt};
-use account_files::laws;
-use account_files::pam_room::{Call, Module, Process, Transaction, spend_by_length};
 use conv_port::Conv;
 use pam_base::{Code, NoMemory};
 use pam_outside::{Clock, Vault};
+use pam_room::data_cleanup::{Datum, Receipt};
+use pam_room::{Call, Module, Process, Transaction, spend_by_length};
 use std::alloc::Global;
 use std::marker::PhantomData;
 
@@ -52,7 +52,7 @@ impl<T: Work> Module for WorkModule<T> {
     ) -> Result<Code, NoMemory> {
         laws::act_steps();
         no_data_are_set();
-        account_files::pam_room::laws::files_stay();
+        pam_room::laws::files_stay();
         T::plays_so();
         match T::at_once(call) {
             Some(code) => Ok(code),

@@ -1,6 +1,12 @@
 pub use Rattle.service_load.specs.conf_lex
 pub use Rattle.service_load.specs.control_words
+pub use Rattle.handler_chain
 pub use Rattle.script_lang
 pub use Rattle.service_load
-pub use Rattle.handler_chain
 pub mod Line
+pub mod Says
+pub mod Words
+pub mod Guess
+pub mod Guesses
+pub mod Form
+pub mod Unquote

@@ -3,8 +3,8 @@ use Rattle.std.proofs.Common.{◌≡◌, ℕ, ◌+◌, Bool, true, false, eqb, L
 use Rattle.std.specs.Option.{option_map}
 use Rattle.pam_base.specs.Bytes.{has_byte, IsFirstPlace}
 use Rattle.pam_base.specs.Lines.{Cut, onto, cut, cut-line, cut-part}
-use Rattle.report_reader.specs.Guess.{read_line}
-use Rattle.report_reader.specs.Says.{Says, bare}
+use Rattle.report_lines.specs.Guess.{read_line}
+use Rattle.report_lines.specs.Says.{Says, bare}
 use Rattle.session_audit.specs.Fits.{is_none}
 use Rattle.session_audit.specs.Whole.{formless}
 use Rattle.session_audit.specs.declared.verdict.Verdict.{Verdict}

@@ -7,7 +7,7 @@ use Rattle.std.proofs.lemmas.List.{map-set, set-set, length-set}
 use Rattle.std.proofs.lemmas.Option.{slice_get-map}
 use Rattle.service_load.specs.Stacks.{Stacks}
 use Rattle.report_lines.specs.Line.{Told, Result, Block, block_of, unread}
-use Rattle.report_reader.specs.Says.{Says, tells, results, lasts}
+use Rattle.report_lines.specs.Says.{Says, tells, results, lasts}
 use Rattle.session_audit.specs.declared.place.SlotLog as held
 use Rattle.session_audit.specs.Fits.{SlotLog, place_at, with_place, visits_told, is_none, is_bad_number, behind_result, with_behind, behind_at, behind_block}
 use Rattle.session_audit.specs.Differs.{Gathered, nothing_yet, gathered, may_follow, told_so_far, lines_before, visits_good, bad_line, behind_or, differs_from}

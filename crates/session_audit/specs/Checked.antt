@@ -9,9 +9,9 @@ use Rattle.pass_replay.specs.dispatch_core.specs.Calls.{Held}
 use Rattle.pass_replay.specs.Held.{held_of}
 use Rattle.handler_chain.specs.declared.seen.Seen.{Seen}
 use Rattle.report_lines.specs.Line.{Told, Command, runs, Shown, shows_code, shows_pending, Result, answered, closed_by_program, Block}
-use Rattle.report_reader.specs.Form.{told_of}
-use Rattle.report_reader.specs.Guess.{read_line}
-use Rattle.report_reader.specs.Says.{Says, bare}
+use Rattle.report_lines.specs.Form.{told_of}
+use Rattle.report_lines.specs.Guess.{read_line}
+use Rattle.report_lines.specs.Says.{Says, bare}
 use Rattle.session_audit.specs.declared.place.SlotLog as held
 use Rattle.session_audit.specs.declared.place.SlotLog.TheVariants as helds
 use Rattle.session_audit.specs.declared.checker.Begun.{Begun}

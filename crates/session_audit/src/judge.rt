@@ -3,7 +3,7 @@ ghost use Rattle.service_load.specs.Load.{AreBounded};
 ghost use Rattle.pass_replay.specs.Held.{held_of};
 ghost use Rattle.pass_replay.specs.Retold.{stacks_in};
 ghost use Rattle.report_lines.specs.Line.{answered, runs, shows_code};
-ghost use Rattle.report_reader.specs.Form.{result_of};
+ghost use Rattle.report_lines.specs.Form.{result_of};
 ghost use Rattle.session_audit.specs.Checked.{IsCall, IsJudged, Judges, behind_quiet, place_of, told_in};
 ghost use Rattle.session_audit.specs.Differs.{lines_before};
 ghost use Rattle.session_audit.specs.Fits.{is_refused_change, running, same_code, visits_told, without_visits};
@@ -12,7 +12,7 @@ use crate::place::{SlotLog, behind_quiet};
 use handler_chain::Seen;
 use pam_base::{CallName, Code, Func, NoMemory};
 use pass_replay::{Held, Retold, first_visit, retell};
-use report_reader::{ReportedAnswer, ReportedOutcome};
+use report_lines::{ReportedAnswer, ReportedOutcome};
 use service_load::Trees;
 use std::alloc::Global;
 

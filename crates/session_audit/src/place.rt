@@ -2,13 +2,13 @@ ghost use Rattle.std.specs.Prelude.{◌≡◌, ◌||◌};
 ghost use Rattle.std.specs.Option.{option_map};
 ghost use Rattle.report_lines.specs.Line.{shows_code};
 ghost use Rattle.pass_replay.specs.Held.{held_of};
-ghost use Rattle.report_reader.specs.Form.{command_of, result_of, shown_of};
+ghost use Rattle.report_lines.specs.Form.{command_of, result_of, shown_of};
 ghost use Rattle.session_audit.specs.Checked.{at_quiet, behind_quiet, place_of};
 ghost use Rattle.session_audit.specs.Fits.{aborted_by, at_running, at_shut, only_if, running, same_code};
 
 use pam_base::{CallName, Code, Func};
 use pass_replay::Held;
-use report_reader::{ReportedAnswer, ReportedOutcome};
+use report_lines::{ReportedAnswer, ReportedOutcome};
 
 /// What is known of a transaction between two blocks.
 #[derive(Debug, Drop)]

@@ -3,7 +3,7 @@ ghost use Rattle.service_load.specs.Stacks.{Stacks};
 ghost use Rattle.service_load.specs.Load.{AreBounded};
 ghost use Rattle.pass_replay.specs.Retold.{stacks_in};
 ghost use Rattle.report_lines.specs.Line.{block_of};
-ghost use Rattle.report_reader.specs.Form.{result_of};
+ghost use Rattle.report_lines.specs.Form.{result_of};
 ghost use Rattle.session_audit.specs.Checked.{IsPlaced, IsUnplaced, place_of, told_in};
 ghost use Rattle.session_audit.specs.Fits.{all_shut, is_bad_number};
 
@@ -12,7 +12,7 @@ use crate::place::SlotLog;
 use handler_chain::Seen;
 use pam_base::NoMemory;
 use pass_replay::first_visit;
-use report_reader::{ReportedAnswer, ReportedOutcome};
+use report_lines::{ReportedAnswer, ReportedOutcome};
 use service_load::Trees;
 use std::alloc::Global;
 

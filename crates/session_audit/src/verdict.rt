@@ -1,7 +1,7 @@
 ghost use Rattle.std.specs.Prelude.{◌≡◌, ◌≤◌, ◌<◌, ◌+◌, ◌^◌, ◌↔◌, IfOk, drop, length};
 ghost use Rattle.service_load.specs.Load.{AreBounded};
 ghost use Rattle.pass_replay.specs.Retold.{stacks_in};
-ghost use Rattle.report_reader.specs.Guess.{read_line};
+ghost use Rattle.report_lines.specs.Guess.{read_line};
 ghost use Rattle.session_audit.specs.Checked.{bare_lines, line_of};
 ghost use Rattle.session_audit.specs.Differs.{differs};
 ghost use Rattle.session_audit.specs.Fits.{Fits};

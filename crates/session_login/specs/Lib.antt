@@ -1,4 +1,4 @@
-pub use Rattle.session_run.specs.script_stream
+pub use Rattle.item_stream
 pub use Rattle.session_run
 pub mod Calls
 pub mod Login

@@ -1,7 +1,7 @@
 -- What is known of a run if only the source or only the sink is modelled, by its status.
 use Rattle.std.proofs.Common.{◌≡◌, ℕ, [], Result, Ok, Err, refl, sym, append-nil, arith}
 use Rattle.pam_outside.specs.Streams.{SourceState, SinkState}
-use Rattle.session_login.specs.script_stream.specs.Turns.{Ending}
+use Rattle.item_stream.specs.LineTurns.{Ending}
 use Rattle.item_stream.specs.declared.ending.Ending.TheVariants.{Done, ReadFault, Refused}
 use Rattle.item_stream.specs.declared.ending.Stop.{Stop}
 use Rattle.item_stream.specs.declared.ending.Stop.TheVariants.{NoMemory, WriteFault}

@@ -6,8 +6,8 @@ use Rattle.data_cleanup.specs.Stands.{StandFor}
 use Rattle.pam_room.specs.Module.{notes_of}
 use Rattle.session_check.specs.pam_library.specs.Slots.{lists_of}
 use Rattle.item_stream.specs.Run.{come_to}
-use Rattle.session_login.specs.script_stream.specs.Run.{Run}
-use Rattle.session_login.specs.script_stream.specs.Turns.{Ending}
+use Rattle.item_stream.specs.LineRun.{Run}
+use Rattle.item_stream.specs.LineTurns.{Ending}
 use Rattle.item_stream.specs.declared.ending.Ending.TheVariants.{Done, ReadFault, Refused}
 use Rattle.session_login.specs.session_run.specs.State.{Setting, RunState}
 use Rattle.session_login.specs.session_run.specs.Events.{AreDue, StandOn, run_events}

@@ -10,7 +10,7 @@ use Rattle.pam_room.specs.Module.{Player, notes_of}
 use Rattle.pam_room.specs.State.{PlainWorld}
 use Rattle.session_check.specs.pam_library.specs.Slots.{NoneIsOpen, PlainSlot, closed, lists_of}
 use Rattle.session_check.specs.pam_library.specs.Sound.{IsSound}
-use Rattle.session_login.specs.script_stream.specs.Turns.{Ending}
+use Rattle.item_stream.specs.LineTurns.{Ending}
 use Rattle.item_stream.specs.declared.ending.Ending.{Ending as StreamEnding}
 use Rattle.item_stream.specs.declared.ending.Ending.TheVariants.{Done, ReadFault, Refused}
 use Rattle.item_stream.specs.declared.ending.Stop.{Stop}

@@ -19,8 +19,8 @@ use Rattle.item_stream.specs.Cutting.{Keeps}
 use Rattle.item_stream.specs.Front.{IsItem}
 use Rattle.item_stream.specs.Run.{ItemStep, Looks, Refuses}
 use Rattle.item_stream.specs.Taking.{Finds}
-use Rattle.script_stream.specs.Looked.{looked as looked_lines}
-use Rattle.script_stream.specs.Turns.{Ending}
+use Rattle.item_stream.specs.Looked.{looked as looked_lines}
+use Rattle.item_stream.specs.LineTurns.{Ending}
 use Rattle.session_run.specs.Asked.{AreAccepted, Asking, FirstAsks, HasEndAmong, IsEnd, IsEndAmong, LeadsOn}
 use Rattle.session_run.specs.Ends.{HasEnd, IsStatusOf, IsEndOfRun}
 use Rattle.session_run.specs.Endings.{ending_status, stop_status}

@@ -10,8 +10,8 @@ use Rattle.script_lang.specs.declared.line.Line.{Line}
 use Rattle.script_lang.specs.declared.line.Line.TheVariants as lines
 use Rattle.script_lang.specs.Line.{parsed}
 use Rattle.item_stream.specs.Run.{after, run_items, run_of as run_of_items}
-use Rattle.script_stream.specs.Run.{Run, run_lines, run_of, step_at}
-use Rattle.script_stream.specs.Looked.{looked}
+use Rattle.item_stream.specs.LineRun.{Run, run_lines, run_of, step_at}
+use Rattle.item_stream.specs.Looked.{looked}
 use Rattle.session_report.specs.Step.{step_text}
 use Rattle.session_run.specs.State.{Setting, RunState}
 use Rattle.session_run.specs.Step.{applied_or_refused, line_step}

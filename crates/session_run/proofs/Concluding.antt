@@ -5,9 +5,9 @@ use Rattle.pam_base.specs.declared.fault.ScriptKind.{ScriptKind}
 use Rattle.pam_outside.specs.Counts.{RisesIf, Rose}
 use Rattle.pam_outside.specs.Streams.{SourceState, SinkState}
 use Rattle.session_report.specs.pam_library.specs.Slots.{lists_of}
-use Rattle.script_stream.specs.Looked.{looked}
-use Rattle.script_stream.specs.Run.{step_at}
-use Rattle.script_stream.specs.Turns.{Ending}
+use Rattle.item_stream.specs.Looked.{looked}
+use Rattle.item_stream.specs.LineRun.{step_at}
+use Rattle.item_stream.specs.LineTurns.{Ending}
 use Rattle.item_stream.specs.declared.ending.Ending.TheVariants.{Done, ReadFault, Refused}
 use Rattle.item_stream.specs.declared.ending.Stop.{Stop}
 use Rattle.item_stream.specs.declared.ending.Stop.TheVariants.{NoMemory, WriteFault}

@@ -16,9 +16,9 @@ use Rattle.session_report.specs.pam_library.specs.Calls.{MoveOn, Moved, events_o
 use Rattle.session_report.specs.pam_library.specs.Slots.{PlainSlot, closed, data_in, lists_of, opened}
 use Rattle.pam_outside.specs.Streams.{SinkState}
 use Rattle.item_stream.specs.Run.{come_to, run_items}
-use Rattle.script_stream.specs.Run.{run_lines}
+use Rattle.item_stream.specs.LineRun.{run_lines}
 use Rattle.session_run.specs.State.{Setting, RunState, state_of}
-use Rattle.script_stream.specs.Looked.{looked}
+use Rattle.item_stream.specs.Looked.{looked}
 use Rattle.session_run.specs.Script.{line_asked, script_step}
 use Rattle.session_run.specs.Step.{line_step}
 use Rattle.session_run.specs.Closings.{all_closed, closings_behind, last_state, world_behind}

@@ -26,7 +26,7 @@ use Rattle.script_lang.specs.declared.line.Line.{Line}
 use Rattle.script_lang.specs.declared.line.Line.TheVariants as lines
 use Rattle.script_lang.specs.Line.{parsed}
 use Rattle.item_stream.specs.Run.{after, run_items, with_text}
-use Rattle.script_stream.specs.Run.{Run, run_lines, step_at}
+use Rattle.item_stream.specs.LineRun.{Run, run_lines, step_at}
 use Rattle.session_report.specs.Answered.{answer_text}
 use Rattle.session_report.specs.Cleaned.{receipt_text}
 use Rattle.session_report.specs.Missing.{all_missing_text}

@@ -22,9 +22,9 @@ use Rattle.session_report.specs.service_load.specs.Tree.{nodes}
 use Rattle.session_report.specs.pam_library.specs.Slots.{PlainSlot, closed}
 use Rattle.session_report.specs.pam_library.specs.Step.{stepped}
 use Rattle.item_stream.specs.declared.ending.Ending.TheVariants.{ReadFault, Refused}
-use Rattle.script_stream.specs.Looked.{last_looked, looked}
+use Rattle.item_stream.specs.Looked.{last_looked, looked}
 use Rattle.item_stream.specs.Run.{come_to, run_items, run_of as run_of_items}
-use Rattle.script_stream.specs.Run.{step_at, run_of}
+use Rattle.item_stream.specs.LineRun.{step_at, run_of}
 use Rattle.session_run.specs.State.{Setting, RunState, state_of}
 use Rattle.session_run.specs.Ends.{HasEnd, IsEndOfRun}
 use Rattle.session_run.specs.Isolation.{LeaveFiles, alone, texts_among}

@@ -8,7 +8,7 @@ use Rattle.pam_base.specs.declared.call.Step.{Step as Asked}
 use Rattle.data_cleanup.specs.Due.{Event, birth, ends}
 use Rattle.script_lang.specs.declared.line.Line.TheVariants.{Step}
 use Rattle.script_lang.specs.Line.{parsed}
-use Rattle.script_stream.specs.Turns.{Ending}
+use Rattle.item_stream.specs.LineTurns.{Ending}
 use Rattle.item_stream.specs.declared.ending.Stop.{Stop}
 use Rattle.session_run.specs.Endings.{ending_status, stop_status}
 

@@ -22,7 +22,7 @@ use Rattle.item_stream.specs.declared.ending.Stop.{Stop}
 use Rattle.item_stream.specs.Run.{ItemStep, Looks, come_to}
 use Rattle.item_stream.specs.Turns.{Turns}
 use Rattle.item_stream.specs.Whole.{Runs}
-use Rattle.script_stream.specs.Run.{run_lines, step_at}
+use Rattle.item_stream.specs.LineRun.{run_lines, step_at}
 use Rattle.pam_outside.specs.Streams.{SinkState, SourceState}
 use Rattle.session_run.specs.AnyWorld.{ProceedsBy}
 use Rattle.session_run.specs.Asked.{Asking, FirstAsks}

@@ -8,7 +8,6 @@ pub use Rattle.session_report.specs.pam_library
 pub use Rattle.session_report.specs.pam_room
 pub use Rattle.session_report.specs.report_lines
 pub use Rattle.script_lang
-pub use Rattle.script_stream
 pub use Rattle.session_report.specs.service_load
 pub use Rattle.session_report
 pub mod Endings

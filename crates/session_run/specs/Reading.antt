@@ -12,8 +12,8 @@ use Rattle.item_stream.specs.Laws.{EndIsTurn, FaultIsTurn, ItemIsTurn, NoTurnYet
 use Rattle.item_stream.specs.Run.{ItemStep, Looks, Refuses}
 use Rattle.item_stream.specs.Turns.{ServesItem, Turns}
 use Rattle.item_stream.specs.Whole.{Runs}
-use Rattle.script_stream.specs.Run.{LineStep, run_of}
-use Rattle.script_stream.specs.Turns.{Ending}
+use Rattle.item_stream.specs.LineRun.{LineStep, run_of}
+use Rattle.item_stream.specs.LineTurns.{Ending}
 use Rattle.session_run.specs.State.{RunState, Setting}
 use Rattle.session_run.specs.Step.{line_step}
 

@@ -1,10 +1,9 @@
 ghost use Rattle.std.specs.Prelude.{◌≡◌, ◌≤◌, IfOk, IsTrue, OnErr, is_some};
 
 use crate::protocol::Protocol;
-use item_stream::{Ending, Front, Stepping};
+use item_stream::{Ending, Front, LineStepping, Lines, MAX_LINES, Stepping, front_of_lines};
 use pam_base::{NoMemory, Refuse, ScriptKind, Text};
 use script_lang::{Line, parse};
-use script_stream::{LineStepping, Lines, MAX_LINES, front_of_lines};
 use session_report::{read_fault_report, script_report};
 use std::alloc::Global;
 
@@ -43,8 +42,8 @@ impl LineStepping for Refusing {
 }
 
 impl Protocol for Script {
-    ghost use Rattle.script_stream.specs.Looked.{IsOver, looked};
-    ghost use Rattle.script_stream.specs.Run.{step_at};
+    ghost use Rattle.item_stream.specs.Looked.{IsOver, looked};
+    ghost use Rattle.item_stream.specs.LineRun.{step_at};
     ghost use Rattle.session_run.specs.Ends.{IsEndOfRun};
     ghost use Rattle.session_run.specs.Reading.{ReadsScript, line_read};
     ghost use Rattle.session_run.specs.Script.{as_it_is, line_asked, script_step};
@@ -95,7 +94,7 @@ impl Protocol for Script {
     fn ends() {
         session_report::pam_library::laws::calls_stand_for_their_events();
         data_cleanup::due_laws::end_stands();
-        script_stream::laws::whole_input_is_looked_at();
+        item_stream::laws::whole_input_is_looked_at();
     }
 
     fn read(alloc: Global, taken: u32, item: &[u8]) -> Result<Line, Refuse<ScriptKind>> {

@@ -12,7 +12,7 @@ use Rattle.session_audit.specs.service_load.specs.Loading.{texts_of}
 use Rattle.session_audit.specs.service_load.specs.Stacks.{Stacks, stacks_of}
 use Rattle.session_audit.specs.service_load.specs.Tree.{tree}
 use Rattle.session_audit.specs.report_lines.specs.Line.{refused_words}
-use Rattle.session_audit.specs.report_reader.specs.Guess.{read_line}
+use Rattle.session_audit.specs.report_lines.specs.Guess.{read_line}
 use Rattle.session_audit.specs.Differs.{differs}
 use Rattle.session_audit.specs.Whole.{lines_read}
 use Rattle.item_stream.specs.declared.ending.Stop.{Stop as Stopped}

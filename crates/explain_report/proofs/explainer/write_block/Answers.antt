@@ -1,7 +1,7 @@
 use Rattle.std.proofs.Common.{◌≡◌, ◌<◌, ◌-◌, ◌++◌, suc, length, Option, arith, subst}
 use Rattle.std.specs.Prelude.{OnOk, string_bytes}
 use Rattle.pass_replay.specs.Retold.{stacks_in}
-use Rattle.report_reader.specs.Form.{result_of}
+use Rattle.report_lines.specs.Form.{result_of}
 use Rattle.session_audit.specs.Checked.{told_in}
 use Rattle.session_audit.specs.Fits.{SlotLog, visits_told}
 use Rattle.explain_report.specs.Report.{block_text}

@@ -3,8 +3,8 @@ use Rattle.std.specs.Prelude.{string_bytes}
 use Rattle.std.specs.Option.{option_map}
 use Rattle.service_load.specs.Stacks.{Stacks}
 use Rattle.pass_replay.specs.Retold.{stacks_in}
-use Rattle.report_reader.specs.Guess.{read_line}
-use Rattle.report_reader.specs.Says.{Says, bare}
+use Rattle.report_lines.specs.Guess.{read_line}
+use Rattle.report_lines.specs.Says.{Says, bare}
 use Rattle.session_audit.specs.Checked.{bare_lines}
 use Rattle.session_audit.proofs.Cutting.{line_left, part_left}
 use Rattle.explain_report.specs.Report.{Takes, left_of}

@@ -1,6 +1,6 @@
 use Rattle.pam_base.specs.declared.code.Code.TheVariants.{Success}
 use Rattle.pam_outside.specs.Files.{VaultState}
-use Rattle.account_files.specs.Act.{answers}
+use Rattle.module_acts.specs.Act.{answers}
 use Rattle.mod_env.specs.Env.{by_fits}
 use Rattle.mod_env.specs.EnvFile.{assignments_of}
 use Rattle.mod_env.proofs.pam_env.set_by_conf.Goals as goal

@@ -2,8 +2,8 @@ use Rattle.std.proofs.Common.{◌≡◌, Bool, length, IsTrue}
 use Rattle.conv_port.specs.Conv.{ConvState}
 use Rattle.pam_base.specs.declared.code.Code.{Code}
 use Rattle.pam_outside.specs.Time.{ClockState}
-use Rattle.account_files.specs.pam_room.specs.State.{Scene}
-use Rattle.account_files.specs.Act.{Act, Acts, scene_at}
+use Rattle.module_acts.specs.pam_room.specs.State.{Scene}
+use Rattle.module_acts.specs.Act.{Act, Acts, scene_at}
 use Rattle.mod_env.specs.Env.{sets_all}
 use Rattle.mod_env.specs.Puts.{Puts}
 use Rattle.mod_env.proofs.setting.set_all.Given as goal

@@ -1,7 +1,7 @@
 use Rattle.std.proofs.Common.{◌≡◌, ◌∙◌, Ok, Err, rules}
 use Rattle.pam_base.specs.declared.code.Code.{Code}
-use Rattle.account_files.specs.Act.{Act}
-use Rattle.mod_unix.specs.module_acts.specs.Returns.{early, then}
+use Rattle.module_acts.specs.Act.{Act}
+use Rattle.module_acts.specs.Returns.{early, then}
 use Rattle.pam_room.specs.Plain.{plain_call, plain_process}
 use Rattle.mod_unix.specs.Change.{takes_token}
 use Rattle.mod_history.specs.Pwhistory.{remembers, renews}

@@ -1,4 +1,4 @@
-use Rattle.account_files.specs.Act.{shows}
+use Rattle.module_acts.specs.Act.{shows}
 use Rattle.std.proofs.Common.{codes}
 use Rattle.pam_base.specs.declared.code.Code.TheVariants.{AuthtokErr}
 use Rattle.pam_base.specs.declared.style.Style.TheVariants.{ErrorMsg}

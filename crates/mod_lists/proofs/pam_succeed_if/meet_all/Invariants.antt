@@ -3,8 +3,8 @@ use Rattle.conv_port.specs.Conv.{ConvState}
 use Rattle.pam_base.specs.declared.code.Code.{Code}
 use Rattle.pam_outside.specs.Time.{ClockState}
 use Rattle.pam_room.specs.State.{Scene}
-use Rattle.account_files.specs.Accounts.{nothing_known}
-use Rattle.account_files.specs.Act.{Acts}
+use Rattle.module_acts.specs.Accounts.{nothing_known}
+use Rattle.module_acts.specs.Act.{Acts}
 use Rattle.module_acts.specs.Seen.{scene_seen, user_seen}
 use Rattle.mod_lists.specs.SucceedIf.{meets_all}
 use Rattle.mod_lists.proofs.pam_succeed_if.meet_all.Given as goal

@@ -1,6 +1,6 @@
 use Rattle.std.proofs.Common.{ℕ, ◌<◌, ◌≤◌, List, [], ◌∷◌, length, arith}
-use Rattle.module_acts.specs.account_files.specs.Accounts.{Known}
-use Rattle.module_acts.specs.account_files.specs.Act.{Acts}
+use Rattle.module_acts.specs.Accounts.{Known}
+use Rattle.module_acts.specs.Act.{Acts}
 use Rattle.pam_base.specs.declared.code.Code.{Code}
 use Rattle.pam_base.specs.declared.code.Code.TheVariants.{Success}
 use Rattle.module_acts.specs.pam_room.specs.State.{Scene}

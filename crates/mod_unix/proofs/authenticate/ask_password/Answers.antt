@@ -1,7 +1,7 @@
 use Rattle.std.proofs.Common.{◌≡◌, Err, false, codes, rules}
 use Rattle.module_acts.specs.Returns.{early}
 use Rattle.module_acts.specs.Steps.{asks_token}
-use Rattle.account_files.specs.Act.{Act}
+use Rattle.module_acts.specs.Act.{Act}
 use Rattle.mod_unix.specs.declared.authenticate.Authenticated.{Authenticated}
 use Rattle.mod_unix.specs.declared.authenticate.Authenticated.TheVariants.{Kept}
 use Rattle.mod_unix.specs.Authenticate.{asks_password}

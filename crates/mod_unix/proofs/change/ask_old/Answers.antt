@@ -2,7 +2,7 @@ use Rattle.std.proofs.Common.{◌≡◌, Err, true, codes, rules}
 use Rattle.pam_base.specs.declared.code.Code.{Code}
 use Rattle.module_acts.specs.Returns.{early}
 use Rattle.module_acts.specs.Steps.{asks_token}
-use Rattle.account_files.specs.Act.{Act}
+use Rattle.module_acts.specs.Act.{Act}
 use Rattle.mod_unix.specs.Change.{asks_old}
 use Rattle.mod_unix.specs.Verify.{hash_verified}
 use Rattle.mod_unix.proofs.Changing.{verified_so}

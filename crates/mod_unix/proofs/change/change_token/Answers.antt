@@ -1,6 +1,6 @@
 use Rattle.std.proofs.Common.{◌≡◌, ◌∙◌, Err, rules}
 use Rattle.pam_base.specs.declared.code.Code.{Code}
-use Rattle.account_files.specs.Act.{Act, asks_user}
+use Rattle.module_acts.specs.Act.{Act, asks_user}
 use Rattle.module_acts.specs.Returns.{early, then}
 use Rattle.pam_room.specs.Plain.{plain_call, plain_process}
 use Rattle.pam_room.specs.State.{PlainRoom}

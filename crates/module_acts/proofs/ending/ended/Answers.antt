@@ -1,5 +1,5 @@
-use Rattle.account_files.specs.Accounts.{nothing_known}
-use Rattle.account_files.specs.Act.{answers}
+use Rattle.module_acts.specs.Accounts.{nothing_known}
+use Rattle.module_acts.specs.Act.{answers}
 use Rattle.module_acts.proofs.Refusing.{refused, unanswered}
 use Rattle.module_acts.proofs.ending.ended.Goals as goal
 

@@ -1,5 +1,5 @@
 use Rattle.std.proofs.Common.{Some, None}
-use Rattle.report_reader.specs.Form.{result_of}
+use Rattle.report_lines.specs.Form.{result_of}
 use Rattle.session_audit.specs.Checked.{behind_quiet, place_of, told_in}
 use Rattle.session_audit.specs.Fits.{visits_told}
 use Rattle.session_audit.proofs.Checking.{told_some, told_none, told_first, quiet_told, quiet_as}

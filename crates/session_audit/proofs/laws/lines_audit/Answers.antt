@@ -1,4 +1,4 @@
-use Rattle.report_reader.specs.Guess.{read_line}
+use Rattle.report_lines.specs.Guess.{read_line}
 use Rattle.session_audit.proofs.Auditing.{readers_audit}
 use Rattle.session_audit.proofs.laws.lines_audit.Goals as goal
 

@@ -1,6 +1,6 @@
 use Rattle.std.proofs.Common.{◌≡◌, true, false, ◌-◌, ◌&&◌, ltb, leb, ℕ, length, Some, arith, sym, ◌∙◌, ap}
 use Rattle.std.specs.Prelude.{slice_get}
-use Rattle.report_reader.specs.Form.{result_of}
+use Rattle.report_lines.specs.Form.{result_of}
 use Rattle.pass_replay.specs.Retold.{stacks_in}
 use Rattle.session_audit.specs.Checked.{told_in}
 use Rattle.session_audit.proofs.Taking.{index_of, a_place, no_place, get_some, placed_line, placed_none, fits_at, nowhere_is}

@@ -1,6 +1,6 @@
 use Rattle.std.proofs.Common.{◌≡◌, ◌∙◌, sym}
 use Rattle.pass_replay.specs.Retold.{stacks_in}
-use Rattle.report_reader.specs.Guess.{read_line}
+use Rattle.report_lines.specs.Guess.{read_line}
 use Rattle.session_audit.specs.Checked.{line_of}
 use Rattle.session_audit.specs.Differs.{differs}
 use Rattle.session_audit.specs.Whole.{lines_read}

@@ -1,8 +1,8 @@
 use Rattle.std.proofs.Common.{◌≡◌, ◌<◌, ◌+◌, ℕ, List, ◌∷◌, length, drop, take, arith, sym, ◌∙◌, ap, subst, length-drop}
 use Rattle.std.specs.Option.{option_map}
 use Rattle.pass_replay.specs.Retold.{stacks_in}
-use Rattle.report_reader.specs.Guess.{read_line}
-use Rattle.report_reader.specs.Says.{bare}
+use Rattle.report_lines.specs.Guess.{read_line}
+use Rattle.report_lines.specs.Says.{bare}
 use Rattle.session_audit.specs.Checked.{IsAfter, bare_lines, differs_at}
 use Rattle.session_audit.specs.Fits.{is_none}
 use Rattle.session_audit.proofs.Cutting.{line_left, part_left, end_is, none_is}

@@ -1,5 +1,5 @@
 use Rattle.std.proofs.Common.{Err, rules, ◌≡◌}
-use Rattle.account_files.specs.Act.{asks_user}
+use Rattle.module_acts.specs.Act.{asks_user}
 use Rattle.module_acts.specs.Returns.{finished_early}
 use Rattle.module_acts.proofs.check_module.CheckWorkWork.work.Goals as goal
 

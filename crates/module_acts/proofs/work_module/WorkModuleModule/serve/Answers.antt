@@ -1,5 +1,5 @@
-use Rattle.account_files.specs.pam_room.specs.Plain.{plain_call}
-use Rattle.account_files.specs.Tells.{clock_of, conv_of, vault_of}
+use Rattle.pam_room.specs.Plain.{plain_call}
+use Rattle.module_acts.specs.Tells.{clock_of, conv_of, vault_of}
 use Rattle.module_acts.proofs.Deciding.{decided}
 use Rattle.module_acts.proofs.work_module.WorkModuleModule.serve.Goals as goal
 

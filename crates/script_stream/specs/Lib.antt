@@ -1,3 +1,0 @@
-pub mod Looked
-pub mod Run
-pub mod Turns
