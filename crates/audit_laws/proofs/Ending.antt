@@ -5,10 +5,10 @@ use Rattle.std.specs.Option.{option_map}
 use Rattle.std.proofs.lemmas.Grind.{flat_map-append}
 use Rattle.pam_base.specs.declared.code.Code.{Code}
 use Rattle.pam_base.specs.declared.fault.ScriptKind.{ScriptKind}
-use Rattle.item_stream.specs.declared.ending.Ending.TheVariants.{Done, ReadFault, Refused}
-use Rattle.item_stream.specs.Run.{come_to, run_of}
-use Rattle.item_stream.specs.LineRun.{Run, run_lines}
-use Rattle.item_stream.specs.LineTurns.{Ending, Reports}
+use Rattle.record_reader.specs.declared.ending.Ending.TheVariants.{Done, ReadFault, Refused}
+use Rattle.record_reader.specs.Run.{come_to, run_of}
+use Rattle.record_reader.specs.LineRun.{Run, run_lines}
+use Rattle.record_reader.specs.LineTurns.{Ending, Reports}
 use Rattle.dispatch_core.specs.Lines.{names_of}
 use Rattle.pam_room.specs.Module.{Player}
 use Rattle.pam_room.specs.State.{PlainWorld}

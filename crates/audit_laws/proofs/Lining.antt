@@ -9,7 +9,7 @@ use Rattle.pam_outside.specs.Counts.{fails_next}
 use Rattle.control_words.specs.conf_lex.specs.declared.token.RawRule.{RawRule}
 use Rattle.control_words.specs.Stack as stack
 use Rattle.control_words.specs.Stack.{Stack, count, line, lines_in, none, sub}
-use Rattle.service_load.specs.Entry.{behind_type, entry_at, entry_of, entry_of_tokens, named_file, with_control, with_type}
+use Rattle.service_load.specs.Entry.{after_type, entry_at, entry_of, entry_of_tokens, named_file, with_control, with_type}
 use Rattle.control_words.specs.Bracket.{control_of}
 use Rattle.control_words.specs.declared.bracket.ControlFault.{ControlFault}
 use Rattle.control_words.specs.declared.control.Action.{Action}
@@ -149,7 +149,7 @@ module _ (texts : List ℕ → Option (List ℕ)) (fails : List ℕ) (type : Rul
   control_adds silent (Err fault) ts = tt
 
   behind_adds : (silent : Bool) (ts : List Token)
-      → OnGood (λ c. (name : List ℕ) (n : ℕ) → AddsAll texts fails (content_items deeper name n c) (lines_in (content_nodes stacks c))) (behind_type silent ts)
+      → OnGood (λ c. (name : List ℕ) (n : ℕ) → AddsAll texts fails (content_items deeper name n c) (lines_in (content_nodes stacks c))) (after_type silent ts)
   behind_adds silent [] = tt
   behind_adds silent (t ∷ []) =
       good_if (λ c. (name : List ℕ) (n : ℕ) → AddsAll texts fails (content_items deeper name n c) (lines_in (content_nodes stacks c))) (is_word (codes "include") t) _ _ tt
@@ -171,7 +171,7 @@ module _ (texts : List ℕ → Option (List ℕ)) (fails : List ℕ) (type : Rul
   typed_adds : (n : ℕ) (field : Option _) (ts : List Token)
       → OnGood (λ e. (name : List ℕ) → AddsAll texts fails (entry_items deeper type name e) (lines_in (entry_nodes stacks type e))) (with_type n field ts)
   typed_adds n None ts = tt
-  typed_adds n (Some field) ts = entry_adds n (Some field.rule_type) (behind_type field.silent ts) (behind_adds field.silent ts)
+  typed_adds n (Some field) ts = entry_adds n (Some field.rule_type) (after_type field.silent ts) (behind_adds field.silent ts)
 
   tokens_add : (n : ℕ) (in_folder : Bool) (ts : List Token)
       → OnGood (λ e. (name : List ℕ) → AddsAll texts fails (entry_items deeper type name e) (lines_in (entry_nodes stacks type e))) (entry_of_tokens n in_folder ts)

@@ -22,7 +22,7 @@ use Rattle.control_words.specs.Stack as stack
 use Rattle.control_words.specs.Stack.{Stack, count, none, line, sub}
 use Rattle.control_words.specs.declared.bracket.ControlFault.{ControlFault}
 use Rattle.control_words.specs.declared.control.Action.{Action}
-use Rattle.service_load.specs.Entry.{behind_type, entry_at, entry_of, entry_of_tokens, named_file, with_control, with_type}
+use Rattle.service_load.specs.Entry.{after_type, entry_at, entry_of, entry_of_tokens, named_file, with_control, with_type}
 use Rattle.service_load.specs.Files.{Held, absent, faulty, holds, entries_of, held, held_answer, held_for, held_in_conf, held_text, is_in_folder, own_rule, own_rules, plain_file, rule_without, rules_held}
 use Rattle.service_load.specs.RuleType.{is_word, type_field_of}
 use Rattle.service_load.specs.Tree.{content_nodes, entry_nodes, nodes, nodes_of, serves, tree_from, tree_of}
@@ -243,7 +243,7 @@ module _ (deeper : List ℕ → Stack) (named : (name : List ℕ) → AreNamed (
   control_named silent (Ok control) (t ∷ ts) a = (name_of_bytes t.text a.0, tt)
   control_named silent (Err fault) ts a = tt
 
-  behind_named : (silent : Bool) (ts : List Token) → AllByRecursion IsToken ts → OnGood (λ c. AreNamed (content_nodes deeper c)) (behind_type silent ts)
+  behind_named : (silent : Bool) (ts : List Token) → AllByRecursion IsToken ts → OnGood (λ c. AreNamed (content_nodes deeper c)) (after_type silent ts)
   behind_named silent [] a = tt
   behind_named silent (t ∷ []) a =
       good_if (λ c. AreNamed (content_nodes deeper c)) (is_word (codes "include") t) _ _ tt
@@ -260,7 +260,7 @@ module _ (deeper : List ℕ → Stack) (named : (name : List ℕ) → AreNamed (
 
   typed_named : (n : ℕ) (field : Option _) (ts : List Token) → AllByRecursion IsToken ts → OnGood (λ e. AreNamed (entry_nodes deeper type e)) (with_type n field ts)
   typed_named n None ts a = tt
-  typed_named n (Some field) ts a = entry_named n (Some field.rule_type) (behind_type field.silent ts) (behind_named field.silent ts a)
+  typed_named n (Some field) ts a = entry_named n (Some field.rule_type) (after_type field.silent ts) (behind_named field.silent ts a)
 
   tokens_named : (n : ℕ) (in_folder : Bool) (ts : List Token) → AllByRecursion IsToken ts → OnGood (λ e. AreNamed (entry_nodes deeper type e)) (entry_of_tokens n in_folder ts)
   tokens_named n in_folder [] a = tt

@@ -17,8 +17,8 @@ use Rattle.service_load.specs.declared.load_fault.LoadFault.{LoadFault}
 use Rattle.script_lang.specs.declared.line.Line.{Line}
 use Rattle.script_lang.specs.declared.line.Line.TheVariants as lines
 use Rattle.script_lang.specs.Line.{parsed}
-use Rattle.item_stream.specs.Run.{after, run_items}
-use Rattle.item_stream.specs.LineRun.{Run, step_at, run_lines}
+use Rattle.record_reader.specs.Run.{after, run_items}
+use Rattle.record_reader.specs.LineRun.{Run, step_at, run_lines}
 use Rattle.conv_port.specs.Conv.{ConvState}
 use Rattle.dispatch_core.specs.Lines.{names_of}
 use Rattle.pam_room.specs.Module.{Player}

@@ -12,7 +12,7 @@ use Rattle.pam_library.specs.Plays.{Asked, AskedLine, LineLeads, LinesLead, answ
 use Rattle.mod_tally.specs.Faillock.{faillock_plays, new_failure}
 use Rattle.mod_tally.specs.declared.tally.Failure.{Failure}
 use Rattle.mod_tally.specs.Tally.{IsFailure}
-use Rattle.mod_tally.specs.Recorded.{Deed, Does, Follow, IsWith, Served, cleared, deeds_of, left, recorded, standing_in, stands_by}
+use Rattle.mod_tally.specs.Recorded.{Deed, Does, Follow, IsWith, Served, cleared, deeds_of, left, recorded, failures_on_file, stands_by}
 use Rattle.audit_laws.specs.Tallied.{CanRecord, CanRecordIf, FaillockAloneWrites, IsTallied, IsText, LeavesFile, LeavesFileIf, TalliedLine, Tallies, calls_in, counted, line_in, passed_by}
 
 module _ (path : List ℕ) (players : List Player) (alone : FaillockAloneWrites path players)
@@ -95,7 +95,7 @@ module _ (path : List ℕ) (players : List Player) (alone : FaillockAloneWrites 
   lines_led (a ∷ rest) before last leads = by_module (module_of_path players a.visit.path) a rest before last refl leads (λ files more. lines_led rest files last more)
 
   pub tallies : ((path : List ℕ) (interval : ℕ) (calls : List Served) (before after : Option (List ℕ)) (failures : List Failure) → Follow path before calls after → AllByRecursion (IsWith interval) (deeds_of calls)
-      → standing_in before ≡ Some failures → standing_in after ≡ Some (stands_by interval (deeds_of calls) failures))
+      → failures_on_file before ≡ Some failures → failures_on_file after ≡ Some (stands_by interval (deeds_of calls) failures))
       → (before : List File) (asked : List AskedLine) (last : List File) → LinesLead players before asked last → Tallies path players before asked last
   tallies all before asked last leads =
       let l = lines_led asked before last leads in

@@ -8,10 +8,10 @@ use Rattle.pam_base.specs.declared.fault.ScriptKind.{ScriptKind}
 use Rattle.script_lang.specs.declared.line.Line.{Line}
 use Rattle.script_lang.specs.declared.line.Line.TheVariants as lines
 use Rattle.script_lang.specs.Line.{parsed}
-use Rattle.item_stream.specs.declared.ending.Ending.TheVariants.{Done, ReadFault, Refused}
-use Rattle.item_stream.specs.Looked.{held_limit, looked}
-use Rattle.item_stream.specs.LineRun.{step_at}
-use Rattle.item_stream.specs.LineTurns.{Ending}
+use Rattle.record_reader.specs.declared.ending.Ending.TheVariants.{Done, ReadFault, Refused}
+use Rattle.record_reader.specs.Looked.{held_limit, looked}
+use Rattle.record_reader.specs.LineRun.{step_at}
+use Rattle.record_reader.specs.LineTurns.{Ending}
 use Rattle.dispatch_core.specs.Lines.{names_of}
 use Rattle.pam_room.specs.Module.{Player}
 use Rattle.pam_room.specs.State.{PlainWorld}

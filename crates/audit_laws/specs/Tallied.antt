@@ -7,7 +7,7 @@ use Rattle.pam_room.specs.Module.{NamedData, Player, Plays, SeenRoom, Sight}
 use Rattle.pam_library.specs.Plays.{Asked, AskedLine, answer_of, module_of_path}
 use Rattle.mod_tally.specs.declared.tally.Failure.{Failure}
 use Rattle.mod_tally.specs.Faillock.{faillock_plays}
-use Rattle.mod_tally.specs.Recorded.{Follow, IsWith, Served, deeds_of, played, standing_in, stands_by}
+use Rattle.mod_tally.specs.Recorded.{Follow, IsWith, Served, deeds_of, played, failures_on_file, stands_by}
 use Rattle.mod_tally.specs.Settings.{settings_of}
 
 -- no call of the module changes the file with this path
@@ -92,11 +92,11 @@ pub record Tallies (path : List ℕ) (players : List Player) (before : List File
   pub follow : Follow path (file_at path before) (calls_in lines) (file_at path after)
   pub stands_by_deeds : (interval : ℕ) (failures : List Failure)
       → AllByRecursion (IsWith interval) (deeds_of (calls_in lines))
-      → standing_in (file_at path before) ≡ Some failures
-      → standing_in (file_at path after)
+      → failures_on_file (file_at path before) ≡ Some failures
+      → failures_on_file (file_at path after)
       ≡ Some (stands_by interval (deeds_of (calls_in lines)) failures)
   pub stands : (interval : ℕ) (failures : List Failure)
       → AllByRecursion (CanRecordIf interval players) asked
-      → standing_in (file_at path before) ≡ Some failures
-      → standing_in (file_at path after)
+      → failures_on_file (file_at path before) ≡ Some failures
+      → failures_on_file (file_at path after)
       ≡ Some (stands_by interval (deeds_of (calls_in lines)) failures)

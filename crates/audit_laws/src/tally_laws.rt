@@ -2,7 +2,7 @@ ghost use Rattle.std.specs.Prelude.{◌≡◌, ℕ, false, List, codes};
 ghost use Rattle.std.specs.List.{AllByRecursion};
 ghost use Rattle.pam_base.specs.declared.code.Code.{Code};
 ghost use Rattle.pam_library.specs.Plays.{AskedLine};
-ghost use Rattle.item_stream.specs.LineRun.{run_lines};
+ghost use Rattle.record_reader.specs.LineRun.{run_lines};
 ghost use Rattle.session_run.specs.Closings.{all_closed};
 ghost use Rattle.session_run.specs.State.{RunState, Setting};
 ghost use Rattle.session_run.specs.Step.{line_step};

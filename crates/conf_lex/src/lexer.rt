@@ -4,7 +4,7 @@ ghost use Rattle.conf_lex.specs.Reading.{run_of, rest_of_line, unit_at};
 ghost use Rattle.conf_lex.specs.Rules.{newlines, rule_at};
 ghost use Rattle.conf_lex.specs.Lexing.{before_nul, nul_line, Moves, is_bracket_end, is_escape, begins_white, TakesJoin, TakesUnit, TakesUnits, TakesPiece, TakesPieces, EndsLine, GivesLine, Gives, found_tokens, found_open, fault_at, answer_at};
 
-use crate::front::{
+use crate::prefix::{
     at_end, at_line_end, is_bracket_end, is_escape, join_length, line_length, run_length,
 };
 use crate::token::{LexFault, RawRule, RawRules, Token, Tokens};

@@ -3,9 +3,9 @@
 //! is decided elsewhere. Begin at `service_file.rt`.
 #![tactic(auto)]
 
-mod front;
 pub mod laws;
 mod lexer;
+mod prefix;
 mod service_file;
 mod token;
 

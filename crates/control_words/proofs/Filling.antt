@@ -17,7 +17,7 @@ use Rattle.control_words.specs.declared.table.Table.{Table}
 use Rattle.control_words.specs.declared.control.Action.{Action}
 use Rattle.control_words.specs.Bracket.{action_among, action_of_word, control_of_entries, control_unless, fault_of_entry, is_code, is_default, last_action, names}
 use Rattle.control_words.specs.Entries.{ControlPair}
-use Rattle.control_words.specs.Table.{filled, named_with, settled, table_of}
+use Rattle.control_words.specs.Table.{filled, named_with, all_actions, table_of}
 
 module _ (choose : Option Action → Action) (actions : List Action) (named : List (Option Action)) (i : ℕ) where
   -- one more code gets its action
@@ -144,12 +144,12 @@ pub filled-none : (whole left : List ControlPair) (table : Table) → whole ≡ 
 filled-none whole left table all same = record { seen = []; parts = all; fine = refl; same = same }
 
 module _ (whole left : List ControlPair) (table : Table) (so_far : Filled whole left table) where
-  pub filled-all : (control : List Action) → left ≡ [] → control ≡ settled table
+  pub filled-all : (control : List Action) → left ≡ [] → control ≡ all_actions table
       → ◌≡◌ {A = Result (List Action) ControlFault} (Ok control) (control_of_entries whole)
   filled-all control none is =
       let all : whole ≡ so_far.seen = so_far.parts ∙ ap (λ (l : List ControlPair). so_far.seen ++ l) none ∙ append-nil so_far.seen in
       let fine : filter_map fault_of_entry whole ≡ [] = ap (filter_map fault_of_entry) all ∙ so_far.fine in
-      let same : control ≡ map (action_among whole) all_codes = is ∙ ap settled so_far.same ∙ sym (ap (λ (es : List ControlPair). map (action_among es) all_codes) all) in
+      let same : control ≡ map (action_among whole) all_codes = is ∙ ap all_actions so_far.same ∙ sym (ap (λ (es : List ControlPair). map (action_among es) all_codes) all) in
       ap (λ (c : List Action). as_ok c) same ∙ sym (ap (λ (faults : List ControlFault). control_unless faults whole) fine)
 
   module _ (entry : ControlPair) (more : List ControlPair) (cut : left ≡ entry ∷ more) where

@@ -37,5 +37,5 @@ filled table entry =
     }
 
 -- the control that a table gives
-abbrev pub settled : Table → List Action
-settled table = map (λ action. unwrap_or (option_or action table.default) Bad) table.named
+abbrev pub all_actions : Table → List Action
+all_actions table = map (λ action. unwrap_or (option_or action table.default) Bad) table.named

@@ -1,7 +1,7 @@
 ghost use Rattle.std.specs.Prelude.{◌≡◌, ◌<◌, [], IfErr, OnOk};
 ghost use Rattle.pam_base.specs.Code.{number_of};
 ghost use Rattle.control_words.specs.Bracket.{fault_of_entry};
-ghost use Rattle.control_words.specs.Table.{filled, settled, table_of};
+ghost use Rattle.control_words.specs.Table.{filled, all_actions, table_of};
 
 use crate::action_words::action_named;
 use crate::bracket::ControlFault;
@@ -51,7 +51,7 @@ impl Table {
 
     /// The control that the entries give.
     pub(crate) fn control(&self) -> Control
-        ensures { result ≡ settled self.now }
+        ensures { result ≡ all_actions self.now }
     {
         let mut actions = [Action::Bad; 32];
         for (place, named) in self.named.iter().enumerate() {

@@ -15,7 +15,7 @@ use Rattle.pam_room.specs.Serve as room
 use Rattle.handler_chain.specs.Pass.{AnswersAs}
 use Rattle.dispatch_core.specs.Failing.{BreaksAt, IsAtWork, visited_at}
 use Rattle.dispatch_core.specs.Lines.{answers_by, names_of}
-use Rattle.dispatch_core.proofs.Standing.{standing, at_line-stands}
+use Rattle.dispatch_core.proofs.Standing.{stands_at, at_line-stands}
 
 -- the names of modules are those of their definitions
 names_are : {M : Type 0} (label : M → List ℕ) (plays : M → Plays) (note : M → Note) (breaks : M → Breaks) (mods : List M)
@@ -35,7 +35,7 @@ found_within wanted i limit (name ∷ names) within =
 
 module_is : (stack : Stack) (names : List (List ℕ)) (i : ℕ) → i < lines_in stack → module_at stack names i ≡ module_of names (rule_at stack i)
 module_is stack names i within =
-    let at = standing stack i within in
+    let at = stands_at stack i within in
     at_line-stands None (λ (l : FlatLine). module_of names l.rule) stack i at.line _ at.stands
     ∙ ap (module_of names) (sym (at_line-stands no_rule (λ (l : FlatLine). l.rule) stack i at.line _ at.stands))
 

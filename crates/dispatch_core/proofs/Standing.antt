@@ -21,8 +21,8 @@ read_same [] i d e within = absurd (omega (arith, within))
 read_same (x ∷ xs) zero d e within = refl
 read_same (x ∷ xs) (suc i) d e within = read_same xs i d e (omega arith)
 
-pub standing : (stack : Stack) (i : ℕ) → i < lines_in stack → StandsAt stack i
-standing stack i within =
+pub stands_at : (stack : Stack) (i : ℕ) → i < lines_in stack → StandsAt stack i
+stands_at stack i within =
     let lines : List FlatLine = flat_lines 0 0 stack in
     let there : i < length lines = omega (arith, within, flat_lines-count stack 0 0) in
     let other : FlatLine = flat_line no_rule 0 0 none in

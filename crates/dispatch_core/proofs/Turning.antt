@@ -12,11 +12,11 @@ use Rattle.handler_chain.specs.FlatLines.{FlatLine, flat_lines, lines_in_first, 
 use Rattle.handler_chain.specs.declared.opinion.Opinion.{Opinion}
 use Rattle.handler_chain.specs.declared.pass_kind.PassKind.{PassKind}
 use Rattle.handler_chain.specs.Opinion.{acted, overrun, opening}
-use Rattle.handler_chain.specs.Walk.{Serving, Served, ServedAs, Walked, walked, halted, pass, ends, after, stop, next_of, settled}
+use Rattle.handler_chain.specs.Walk.{Serving, Served, ServedAs, Walked, walked, halted, pass, ends, after, stop, next_of, new_or_overrun}
 use Rattle.dispatch_core.specs.declared.walker.Walker.{Walker}
 use Rattle.dispatch_core.specs.EntryStates.{Entries, entry_at, entered}
 use Rattle.dispatch_core.specs.Index.{passed, run, run_from, walk_on, LeadsTo, GoesOn, Stands}
-use Rattle.dispatch_core.proofs.Standing.{standing, at_line-stands, flat_lines-count, all_nodes}
+use Rattle.dispatch_core.proofs.Standing.{stands_at, at_line-stands, flat_lines-count, all_nodes}
 use Rattle.dispatch_core.proofs.Walking.{skip_to, run_is_pass}
 
 -- a jump within its list
@@ -70,7 +70,7 @@ ended_at stack a i next new s is end stands = rw (end ∙ at_line-stands 0 (λ s
 -- a list always goes on at a later line
 pub goes_ahead : (stack : Stack) (a : Action) (i next : ℕ) (new opinion : Opinion) → i < lines_in stack
     → ((s : FlatLine) → Stands stack i s → LeadsTo a s.rest new i opinion next) → i < next
-goes_ahead stack a i next new opinion within goes = let at = standing stack i within in omega (arith, (goes at.line at.stands).next_is)
+goes_ahead stack a i next new opinion within goes = let at = stands_at stack i within in omega (arith, (goes at.line at.stands).next_is)
 
 module _ {State : Type 0} (kind : PassKind) (serve : Serving State) where
   -- the first line is incomplete
@@ -85,7 +85,7 @@ module _ {State : Type 0} (kind : PassKind) (serve : Serving State) where
       let g : Entries = entered sp.level sp.opens o f in
       let left : ℕ = count sp.rest in
       let new : Opinion = acted kind a v.answer v.deciding (g sp.level) o in
-      run_from kind serve stack i f o s ≡ run_from kind serve stack (i + 1 + lines_in_first (passed (next_of a left new) left) sp.rest) g (settled a left new) v.state
+      run_from kind serve stack i f o s ≡ run_from kind serve stack (i + 1 + lines_in_first (passed (next_of a left new) left) sp.rest) g (new_or_overrun a left new) v.state
   goes stack i sp f o s stands is =
       let v : Served State = serve sp.rule (i + 1) s in
       let a : Action = action_at sp.rule.control v.deciding in
@@ -95,10 +95,10 @@ module _ {State : Type 0} (kind : PassKind) (serve : Serving State) where
       let k : ℕ = lines_in_first (passed (next_of a left new) left) sp.rest in
       let past : List FlatLine = drop (i + 1) (flat_lines 0 0 stack) in
       ap (λ (xs : List FlatLine). run kind serve xs 0 (i + 1) f o s) stands
-      ∙ ap (λ (b : Bool). if b then halted o v.state else run kind serve past k (i + 1 + 1) g (settled a left new) v.state) is
-      ∙ skip_to kind serve past k (i + 1 + 1) g (settled a left new) v.state
-      ∙ ap (λ (xs : List FlatLine). run kind serve xs 0 (i + 1 + 1 + k) g (settled a left new) v.state) (drop-drop k (i + 1) (flat_lines 0 0 stack))
-      ∙ ap (λ n. run kind serve (drop (i + 1 + k) (flat_lines 0 0 stack)) 0 n g (settled a left new) v.state) (let e : i + 1 + 1 + k ≡ i + 1 + k + 1 = omega arith in e)
+      ∙ ap (λ (b : Bool). if b then halted o v.state else run kind serve past k (i + 1 + 1) g (new_or_overrun a left new) v.state) is
+      ∙ skip_to kind serve past k (i + 1 + 1) g (new_or_overrun a left new) v.state
+      ∙ ap (λ (xs : List FlatLine). run kind serve xs 0 (i + 1 + 1 + k) g (new_or_overrun a left new) v.state) (drop-drop k (i + 1) (flat_lines 0 0 stack))
+      ∙ ap (λ n. run kind serve (drop (i + 1 + k) (flat_lines 0 0 stack)) 0 n g (new_or_overrun a left new) v.state) (let e : i + 1 + 1 + k ≡ i + 1 + k + 1 = omega arith in e)
 
   -- the line where a walker is, run
   served_line : (stack : Stack) (i : ℕ) (l : FlatLine) (s s' : State) (answer deciding : Code) (stopped : Bool)
@@ -111,7 +111,7 @@ module _ {State : Type 0} (kind : PassKind) (serve : Serving State) where
       → w.at < lines_in stack → ServedAs (serve (rule_at stack w.at) (w.at + 1) s) answer deciding stopped s' → stopped ≡ true
       → walk_on kind serve stack w s ≡ halted w.opinion s'
   halted_there stack w s s' answer deciding stopped within served is =
-      let at = standing stack w.at within in
+      let at = stands_at stack w.at within in
       let here = served_line stack w.at at.line s s' answer deciding stopped at.stands served in
       halts stack w.at at.line (entry_at w.entries) w.opinion s at.stands (sym here.stopped_is ∙ is) ∙ ap (halted w.opinion) (sym here.state_is)
 
@@ -121,7 +121,7 @@ module _ {State : Type 0} (kind : PassKind) (serve : Serving State) where
       → ((l : FlatLine) → Stands stack old.at l → GoesOn kind l answer deciding old new)
       → walk_on kind serve stack old s ≡ walk_on kind serve stack new s'
   gone_on stack old new s s' answer deciding stopped within served is each =
-      let at = standing stack old.at within in
+      let at = stands_at stack old.at within in
       let l : FlatLine = at.line in
       let here = served_line stack old.at l s s' answer deciding stopped at.stands served in
       let v : Served State = serve l.rule (old.at + 1) s in

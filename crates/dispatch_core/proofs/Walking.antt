@@ -10,7 +10,7 @@ use Rattle.dispatch_core.proofs.Standing.{flat_lines-count}
 use Rattle.handler_chain.specs.declared.opinion.Opinion.{Opinion}
 use Rattle.handler_chain.specs.declared.pass_kind.PassKind.{PassKind}
 use Rattle.handler_chain.specs.Opinion.{acted, opening}
-use Rattle.handler_chain.specs.Walk.{Serving, Served, Walked, walked, halted, ends, Next, after, stop, next_of, settled, onward, walk, pass}
+use Rattle.handler_chain.specs.Walk.{Serving, Served, Walked, walked, halted, ends, Next, after, stop, next_of, new_or_overrun, onward, walk, pass}
 use Rattle.dispatch_core.specs.EntryStates.{Entries, entered}
 use Rattle.dispatch_core.specs.Index.{passed, run, run_from}
 use Rattle.dispatch_core.proofs.Entering.{entered_none, entered_under, entered_first, entered_closed, pending_none, pending_line, pending_sum}
@@ -136,9 +136,9 @@ module _ {State : Type 0} (kind : PassKind) (serve : Serving State) where
       let left : ℕ = count rest in
       let new : Opinion → Opinion = λ e. acted kind a v.answer v.deciding e o in
       let next : Next = next_of a left (new entry) in
-      let last : Opinion = settled a left (new entry) in
+      let last : Opinion = new_or_overrun a left (new entry) in
       let w : Walked State = onward next (λ n. walk kind serve n rest (at + 1) entry last v.state) (walked last v.state) in
-      let goes : Opinion → Walked State = λ e. run kind serve (flat_lines level 0 rest ++ more) (lines_in_first (passed (next_of a left (new e)) left) rest) (at + 1) g (settled a left (new e)) v.state in
+      let goes : Opinion → Walked State = λ e. run kind serve (flat_lines level 0 rest ++ more) (lines_in_first (passed (next_of a left (new e)) left) rest) (at + 1) g (new_or_overrun a left (new e)) v.state in
       let ahead : Lands (goes entry) (walk kind serve (passed next left) rest (at + 1) entry last v.state) (lines_in rest) level 0 (at + 1 + lines_in rest) last g more =
       walks rest (passed next left) level 0 (at + 1) g entry last v.state more (next_fits a left (new entry)) (entered_none level last g level ∙ ready) (λ some. refl) in
       let on : Lands (goes entry) w (lines_in rest + 1) level opens (at + (lines_in rest + 1)) o f more =

@@ -22,10 +22,10 @@ answers_held None place = None
 answers_held (Some kept) place = kept place
 
 -- what is cached after a pass: its own codes, what was cached before, or nothing
-abbrev pub kept_behind : PassKind → List Visit → Option KeptAnswers → Option KeptAnswers
-kept_behind kinds.Keep visits kept = Some (kept_in visits)
-kept_behind kinds.Follow visits kept = kept
-kept_behind kinds.Loose visits kept = None
+abbrev pub cached_after : PassKind → List Visit → Option KeptAnswers → Option KeptAnswers
+cached_after kinds.Keep visits kept = Some (kept_in visits)
+cached_after kinds.Follow visits kept = kept
+cached_after kinds.Loose visits kept = None
 
 -- a pass by cached codes, if any are held
 abbrev pub following : Option KeptAnswers → PassKind
@@ -60,7 +60,7 @@ abbrev pub passed_by : {State : Type 0} → PassKind → Option KeptAnswers → 
     → Passed State
 passed_by kind kept w = record {
   code = code_of w;
-  kept = kept_behind kind w.state.visits kept;
+  kept = cached_after kind w.state.visits kept;
   paused = paused_after w;
   state = w.state.state;
 }

@@ -8,7 +8,7 @@ use Rattle.handler_chain.specs.FlatLines.{FlatLine, flat_lines, lines_in_first}
 use Rattle.handler_chain.specs.declared.opinion.Opinion.{Opinion}
 use Rattle.handler_chain.specs.declared.pass_kind.PassKind.{PassKind}
 use Rattle.handler_chain.specs.Opinion.{acted}
-use Rattle.handler_chain.specs.Walk.{Serving, Walked, walked, halted, Next, after, stop, next_of, settled}
+use Rattle.handler_chain.specs.Walk.{Serving, Walked, walked, halted, Next, after, stop, next_of, new_or_overrun}
 use Rattle.dispatch_core.specs.declared.walker.Walker.{Walker}
 use Rattle.dispatch_core.specs.EntryStates.{Entries, entry_at, entered}
 
@@ -31,7 +31,7 @@ run kind serve (line ∷ lines) zero at entries opinion state =
     let new = acted kind action served.answer served.deciding (now line.level) opinion in
     if served.stopped then halted opinion served.state
     else run kind serve lines (lines_in_first (passed (next_of action left new) left) line.rest) (at
-    + 1) now (settled action left new) served.state
+    + 1) now (new_or_overrun action left new) served.state
 
 -- the walk from an index on
 abbrev pub run_from : {State : Type 0} → PassKind → Serving State → Stack → ℕ → Entries → Opinion
@@ -52,7 +52,7 @@ Stands stack i line = drop i (flat_lines 0 0 stack) ≡ line ∷ drop (i + 1) (f
 -- where a list goes on after its line of index i, of which `rest` is left
 pub record LeadsTo (action : Action) (rest : Stack) (new : Opinion) (i : ℕ) (opinion : Opinion)
     (next : ℕ) : Type 0 where
-  pub opinion_is : opinion ≡ settled action (count rest) new
+  pub opinion_is : opinion ≡ new_or_overrun action (count rest) new
   pub next_is : next ≡ i + 1
       + lines_in_first (passed (next_of action (count rest) new) (count rest)) rest
 

@@ -10,7 +10,7 @@ use Rattle.control_words.specs.Stack.{Stack, none, line, sub, count, lines_in, n
 use Rattle.handler_chain.specs.declared.opinion.Opinion.{Opinion}
 use Rattle.handler_chain.specs.declared.pass_kind.PassKind.{PassKind}
 use Rattle.handler_chain.specs.Opinion.{acted}
-use Rattle.handler_chain.specs.Walk.{Serving, Served, ServedAs, Walked, walk, walked, next_of, settled}
+use Rattle.handler_chain.specs.Walk.{Serving, Served, ServedAs, Walked, walk, walked, next_of, new_or_overrun}
 use Rattle.pass_replay.specs.Walk.{skip_of, WalkEnds}
 use Rattle.explain_lines.specs.declared.row.Fate.{Fate}
 use Rattle.explain_lines.specs.declared.row.Fate.TheVariants.{Ran, Waits, Unreached}
@@ -118,15 +118,15 @@ module _ {State : Type 0} (kind : PassKind) (serve : Serving State) where
       let action : Action = action_at rule.control served.deciding in
       let new : Opinion = acted kind action served.answer served.deciding entry opinion in
       rows kind serve 0 why (line rule rest) at entry opinion old
-      ≡ row_of at rule (Ran served.answer served.deciding action (settled action (count rest) new))
-      ∷ rows kind serve (skip_of (next_of action (count rest) new) (count rest)) (why_by (next_of action (count rest) new) at) rest (at + 1) entry (settled action (count rest) new) served.state
+      ≡ row_of at rule (Ran served.answer served.deciding action (new_or_overrun action (count rest) new))
+      ∷ rows kind serve (skip_of (next_of action (count rest) new) (count rest)) (why_by (next_of action (count rest) new) at) rest (at + 1) entry (new_or_overrun action (count rest) new) served.state
   line_runs rule rest at entry opinion old why is = rw is refl
 
   line_is : (rule : Rule) (rest : Stack) (at : ℕ) (entry opinion : Opinion) (old new : State) (why : Fate) (answer deciding : Code)
       (action : Action) (left : ℕ) (acts : Opinion) (turn : Turn)
       → ServedAs (serve rule at old) answer deciding false new → action ≡ action_at rule.control deciding
       → acts ≡ acted kind action answer deciding entry opinion → count rest ≡ left
-      → turn.opinion ≡ settled action left acts → turn.skip ≡ skip_of (next_of action left acts) left → turn.why ≡ why_by (next_of action left acts) at
+      → turn.opinion ≡ new_or_overrun action left acts → turn.skip ≡ skip_of (next_of action left acts) left → turn.why ≡ why_by (next_of action left acts) at
       → rows kind serve 0 why (line rule rest) at entry opinion old
       ≡ row_of at rule (Ran answer deciding action turn.opinion) ∷ rows kind serve turn.skip turn.why rest (at + 1) entry turn.opinion new
   line_is rule rest at entry opinion old new why answer deciding action left acts turn served action_is acts_is counted opinion_is skip_is why_is =
@@ -138,7 +138,7 @@ module _ {State : Type 0} (kind : PassKind) (serve : Serving State) where
       (action : Action) (left : ℕ) (acts : Opinion) (turn : Turn) (row : Row) (shown after : List Row)
       → ServedAs (serve rule at old) answer deciding false new → action ≡ action_at rule.control deciding
       → acts ≡ acted kind action answer deciding entry opinion → count rest ≡ left
-      → turn.opinion ≡ settled action left acts → turn.skip ≡ skip_of (next_of action left acts) left → turn.why ≡ why_by (next_of action left acts) at
+      → turn.opinion ≡ new_or_overrun action left acts → turn.skip ≡ skip_of (next_of action left acts) left → turn.why ≡ why_by (next_of action left acts) at
       → row ≡ row_of at rule (Ran answer deciding action turn.opinion) → after ≡ shown ++ row ∷ []
       → shown ++ rows kind serve 0 why (line rule rest) at entry opinion old
       ≡ after ++ rows kind serve turn.skip turn.why rest (at + 1) entry turn.opinion new

@@ -6,7 +6,7 @@ use Rattle.control_words.specs.Stack.{Stack, none, line, sub, count, lines_in}
 use Rattle.handler_chain.specs.declared.opinion.Opinion.{Opinion}
 use Rattle.handler_chain.specs.declared.pass_kind.PassKind.{PassKind}
 use Rattle.handler_chain.specs.Opinion.{acted, opening}
-use Rattle.handler_chain.specs.Walk.{Next, after, stop, next_of, settled, Serving, walk}
+use Rattle.handler_chain.specs.Walk.{Next, after, stop, next_of, new_or_overrun, Serving, walk}
 use Rattle.handler_chain.specs.Pass.{pass_state, serving}
 use Rattle.handler_chain.specs.Retell.{Telling, replaying}
 use Rattle.handler_chain.specs.Route.{KeptAnswers}
@@ -45,7 +45,7 @@ module _ {State : Type 0} (kind : PassKind) (serve : Serving State) where
       let served = serve rule at state in
       let action = action_at rule.control served.deciding in
       let new = acted kind action served.answer served.deciding entry opinion in
-      let last = settled action (count rest) new in
+      let last = new_or_overrun action (count rest) new in
       let next = next_of action (count rest) new in
       if served.stopped then row_of at rule Waits ∷ rows_over Unreached (at + 1) rest
       else row_of at rule (Ran served.answer served.deciding action last)

@@ -13,7 +13,7 @@ use Rattle.service_load.specs.declared.rule_type.RuleType.{RuleType}
 use Rattle.service_load.specs.declared.type_field.TypeField.{TypeField}
 use Rattle.service_load.specs.Answers.{result_map}
 use Rattle.service_load.specs.Checking.{GivesFields}
-use Rattle.service_load.specs.Entry.{entry_at, with_type, behind_type, entry_of, entry_of_tokens, file_field}
+use Rattle.service_load.specs.Entry.{entry_at, with_type, after_type, entry_of, entry_of_tokens, file_field}
 use Rattle.service_load.specs.RuleType.{same_type, is_word, type_field_of}
 
 -- ---- a rule that names a file
@@ -56,19 +56,19 @@ own_type true line (Err kind) type own is = refl
 own_type false line (Err kind) type own is = refl
 
 pub of_type : (line : ℕ) (type : RuleType) (field : Option TypeField) (ts : List Token) (step : Step) → is_type type field ≡ true
-    → ((silent : Bool) → step ≡ step_from line (behind_type silent ts)) → step ≡ step_by type (with_type line field ts)
-of_type line type (Some field) ts step is made = made field.silent ∙ sym (own_type true line (behind_type field.silent ts) type field.rule_type is)
+    → ((silent : Bool) → step ≡ step_from line (after_type silent ts)) → step ≡ step_by type (with_type line field ts)
+of_type line type (Some field) ts step is made = made field.silent ∙ sym (own_type true line (after_type field.silent ts) type field.rule_type is)
 of_type line type None ts step is made = absurd cc
 
 pub of_type_ok : {E : Type 0} (r : Result Step E) (line : ℕ) (type : RuleType) (in_folder : Bool) (t : Token) (ts : List Token) → (in_folder && is_word (codes "@include") t) ≡ false
-    → is_type type (type_field_of t) ≡ true → IfOk r (λ s. (silent : Bool) → s ≡ step_from line (behind_type silent ts))
+    → is_type type (type_field_of t) ≡ true → IfOk r (λ s. (silent : Bool) → s ≡ step_from line (after_type silent ts))
     → IfOk r (λ s. s ≡ step_by type (entry_of_tokens line in_folder (t ∷ ts)))
 of_type_ok (Ok s) line type in_folder t ts isnt is made = rw (at_type line in_folder t ts isnt) (of_type line type (type_field_of t) ts s is made)
 of_type_ok (Err x) line type in_folder t ts isnt is made = tt
 
 pub of_none : (line : ℕ) (type : RuleType) (field : Option TypeField) (ts : List Token) → is_type type field ≡ false
     → Nothing ≡ step_by type (with_type line field ts)
-of_none line type (Some field) ts is = sym (own_type false line (behind_type field.silent ts) type field.rule_type is)
+of_none line type (Some field) ts is = sym (own_type false line (after_type field.silent ts) type field.rule_type is)
 of_none line type None ts is = refl
 
 -- ---- whether a rule is one of those that are meant

@@ -1,6 +1,6 @@
 ghost use Rattle.std.specs.Prelude.{◌≡◌, ◌∷◌, ◌&&◌, Bool, IfOk, codes};
 ghost use Rattle.explain_origins.specs.Reading.{is_type, step_by, step_from, step_to};
-ghost use Rattle.service_load.specs.Entry.{behind_type, entry_of_tokens, file_field};
+ghost use Rattle.service_load.specs.Entry.{after_type, entry_of_tokens, file_field};
 ghost use Rattle.service_load.specs.RuleType.{is_word, type_field_of, type_field_of_word};
 
 use control_words::conf_lex::Token;
@@ -53,7 +53,7 @@ fn step_by_type(
         return step_to(alloc, rest, false);
     }
     if is_field_of(rule_type, first) {
-        return step_behind_type(alloc, line, rest);
+        return step_after_type(alloc, line, rest);
     }
     Ok(Step::Nothing)
 }
@@ -65,9 +65,9 @@ fn is_include(in_folder: bool, token: &Token) -> bool
 }
 
 // What follows the type.
-fn step_behind_type(alloc: Global, line: u32, tokens: &[Token]) -> Result<Step, NoMemory>
+fn step_after_type(alloc: Global, line: u32, tokens: &[Token]) -> Result<Step, NoMemory>
     ensures { IfOk result (λ step. (silent : Bool) →
-        step ≡ step_from line (behind_type silent tokens.now)) }
+        step ≡ step_from line (after_type silent tokens.now)) }
 {
     let [first, rest @ ..] = tokens else {
         return Ok(Step::Nothing);

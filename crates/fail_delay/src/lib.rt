@@ -11,5 +11,5 @@ mod waiting;
 
 pub use delay::{Delay, LONGEST_REQUEST};
 pub use delay_fn::{DelayFn, DelayRule, DelayTold, LONGEST_ASKED};
-pub use spread::asked;
+pub use spread::compute_delay;
 pub use waiting::wait_after;

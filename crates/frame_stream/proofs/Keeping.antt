@@ -2,13 +2,13 @@
 use Rattle.std.proofs.Common.{◌≡◌, ℕ, zero, suc, ◌+◌, ◌≤◌, ◌<◌, inl, inr, Bool, true, false, cond, List, [], ◌∷◌, ◌++◌, length, take, drop, Option, Some, None, Result, Ok, Err, nat_le, refl, sym, ap, subst, ◌∙◌, arith, length-drop}
 use Rattle.std.proofs.lemmas.Bool.{le-leb, lt-leb, cases_lt}
 use Rattle.std.proofs.lemmas.List.{take-append-le, drop-append-le, nil_from_length}
-use Rattle.pam_wire.specs.declared.front.FirstFrame.{FirstFrame}
-use Rattle.pam_wire.specs.declared.front.FirstFrame.TheVariants.{Open, OutOfRange, Whole}
-use Rattle.pam_wire.specs.Laws.{Settles, FrontSettles}
-use Rattle.pam_wire.specs.Read.{front_of, step_by, step_of}
-use Rattle.item_stream.specs.Cutting.{Cuts, Keeps}
-use Rattle.item_stream.specs.Front.{IsItem}
-use Rattle.item_stream.specs.Run.{Run, come_to, with_text, after, run_items, run_of}
+use Rattle.pam_wire.specs.declared.prefix.FirstFrame.{FirstFrame}
+use Rattle.pam_wire.specs.declared.prefix.FirstFrame.TheVariants.{Open, OutOfRange, Whole}
+use Rattle.pam_wire.specs.Laws.{Settles, FirstFrameSettles}
+use Rattle.pam_wire.specs.Read.{first_frame_of, step_by, step_of}
+use Rattle.record_reader.specs.Cutting.{Cuts, Keeps}
+use Rattle.record_reader.specs.FirstItem.{IsItem}
+use Rattle.record_reader.specs.Run.{Run, come_to, with_text, after, run_items, run_of}
 use Rattle.frame_stream.specs.declared.fault.FrameFault.{FrameFault}
 use Rattle.frame_stream.specs.declared.fault.FrameFault.TheVariants.{BadFrame, TooManyFrames}
 use Rattle.frame_stream.specs.Looked.{looked_by, looked_most, looked, refuses}
@@ -21,12 +21,12 @@ unfolding looked looked_most
 looked-many n [] ended ge some = absurd (omega (arith, some))
 looked-many n (b ∷ bs) ended ge some = rw (le-leb 65536 n ge) refl
 
-pub looked-out : (n : ℕ) (bytes : List ℕ) (ended : Bool) → n < 65536 → front_of bytes ≡ OutOfRange → looked n bytes ended ≡ bytes ∷ []
+pub looked-out : (n : ℕ) (bytes : List ℕ) (ended : Bool) → n < 65536 → first_frame_of bytes ≡ OutOfRange → looked n bytes ended ≡ bytes ∷ []
 unfolding looked looked_most
 looked-out n [] ended lt e = absurd cc
 looked-out n (b ∷ bs) ended lt e = rw (lt-leb 65536 n lt) (ap (λ (f : FirstFrame). looked_by f (b ∷ bs) ended (λ size. looked_most (length bs) (n + 1) (drop size (b ∷ bs)) ended)) e)
 
-pub looked-open : (n : ℕ) (bytes : List ℕ) (ended : Bool) → n < 65536 → front_of bytes ≡ Open → 0 < length bytes → looked n bytes ended ≡ cond ended (bytes ∷ []) []
+pub looked-open : (n : ℕ) (bytes : List ℕ) (ended : Bool) → n < 65536 → first_frame_of bytes ≡ Open → 0 < length bytes → looked n bytes ended ≡ cond ended (bytes ∷ []) []
 unfolding looked looked_most
 looked-open n [] ended lt e some = absurd (omega (arith, some))
 looked-open n (b ∷ bs) ended lt e some = rw (lt-leb 65536 n lt) (ap (λ (f : FirstFrame). looked_by f (b ∷ bs) ended (λ size. looked_most (length bs) (n + 1) (drop size (b ∷ bs)) ended)) e)
@@ -35,25 +35,25 @@ pub looked-none : (n : ℕ) (ended : Bool) → looked n [] ended ≡ []
 unfolding looked looked_most
 looked-none n ended = refl
 
-module _ (settles : FrontSettles) where
+module _ (settles : FirstFrameSettles) where
   pub record IsWhole (bytes : List ℕ) (size : ℕ) : Type 0 where
     pub some : 4 ≤ size
     pub within : size ≤ length bytes
-    pub stays : (more : List ℕ) → front_of (bytes ++ more) ≡ Whole size
+    pub stays : (more : List ℕ) → first_frame_of (bytes ++ more) ≡ Whole size
 
-  pub whole_of : (bytes : List ℕ) (size : ℕ) → front_of bytes ≡ Whole size → IsWhole bytes size
+  pub whole_of : (bytes : List ℕ) (size : ℕ) → first_frame_of bytes ≡ Whole size → IsWhole bytes size
   whole_of bytes size e =
       let s : (more : List ℕ) → Settles (Whole size) bytes more = λ more. subst (λ f. Settles f bytes more) e (settles bytes more) in
       record { some = (s []).0; within = (s []).1; stays = λ more. (s more).2 }
 
-  out_of : (bytes more : List ℕ) → front_of bytes ≡ OutOfRange → (0 < length bytes) × (front_of (bytes ++ more) ≡ OutOfRange)
+  out_of : (bytes more : List ℕ) → first_frame_of bytes ≡ OutOfRange → (0 < length bytes) × (first_frame_of (bytes ++ more) ≡ OutOfRange)
   out_of bytes more e = subst (λ f. Settles f bytes more) e (settles bytes more)
 
-  pub open_of : (bytes : List ℕ) → front_of bytes ≡ Open → length bytes ≤ 581
+  pub open_of : (bytes : List ℕ) → first_frame_of bytes ≡ Open → length bytes ≤ 581
   open_of bytes e = subst (λ f. Settles f bytes []) e (settles bytes [])
 
   -- no more frames than bytes have to be considered
-  same_by : (f g n : ℕ) (bytes : List ℕ) (ended : Bool) (front : FirstFrame) → front_of bytes ≡ front → ((size : ℕ) → 4 ≤ size → looked_most f (n + 1) (drop size bytes) ended ≡ looked_most g (n + 1) (drop size bytes) ended)
+  same_by : (f g n : ℕ) (bytes : List ℕ) (ended : Bool) (front : FirstFrame) → first_frame_of bytes ≡ front → ((size : ℕ) → 4 ≤ size → looked_most f (n + 1) (drop size bytes) ended ≡ looked_most g (n + 1) (drop size bytes) ended)
       → looked_by front bytes ended (λ size. looked_most f (n + 1) (drop size bytes) ended) ≡ looked_by front bytes ended (λ size. looked_most g (n + 1) (drop size bytes) ended)
   same_by f g n bytes ended Open e same = refl
   same_by f g n bytes ended OutOfRange e same = refl
@@ -66,10 +66,10 @@ module _ (settles : FrontSettles) where
   same_most (suc f) zero n (b ∷ bs) ended le ge = absurd (omega arith)
   same_most (suc f) (suc g) n (b ∷ bs) ended le ge =
       ap (λ (z : List (List ℕ)). cond (nat_le 65536 n) ((b ∷ bs) ∷ []) z)
-      (same_by f g n (b ∷ bs) ended (front_of (b ∷ bs)) refl
+      (same_by f g n (b ∷ bs) ended (first_frame_of (b ∷ bs)) refl
       (λ size some. same_most f g (n + 1) (drop size (b ∷ bs)) ended (omega (arith, length-drop size (b ∷ bs), le, some)) (omega (arith, length-drop size (b ∷ bs), ge, some))))
 
-  pub looked-whole : (n : ℕ) (bytes : List ℕ) (size : ℕ) (ended : Bool) → n < 65536 → front_of bytes ≡ Whole size → looked n bytes ended ≡ take size bytes ∷ looked (n + 1) (drop size bytes) ended
+  pub looked-whole : (n : ℕ) (bytes : List ℕ) (size : ℕ) (ended : Bool) → n < 65536 → first_frame_of bytes ≡ Whole size → looked n bytes ended ≡ take size bytes ∷ looked (n + 1) (drop size bytes) ended
   unfolding looked looked_most
   looked-whole n [] size ended lt e = absurd cc
   looked-whole n (b ∷ bs) size ended lt e =
@@ -79,7 +79,7 @@ module _ (settles : FrontSettles) where
       (same_most (length bs) (length (drop size (b ∷ bs))) (n + 1) (drop size (b ∷ bs)) ended (omega (arith, length-drop size (b ∷ bs), (whole_of (b ∷ bs) size e).some)) (omega arith)))
 
   -- a frame at the beginning, whatever follows
-  pub frame_front : (n : ℕ) (held : List ℕ) (size : ℕ) → n < 65536 → front_of held ≡ Whole size → IsItem looked n size size held
+  pub frame_front : (n : ℕ) (held : List ℕ) (size : ℕ) → n < 65536 → first_frame_of held ≡ Whole size → IsItem looked n size size held
   frame_front n held size lt e =
       let w = whole_of held size e in
       record {
@@ -98,7 +98,7 @@ module _ (settles : FrontSettles) where
       let no : ◌≡◌ {A = List (List ℕ)} (item ∷ items) [] = sym e ∙ f in
       absurd cc
 
-  rest_front : (n : ℕ) (held : List ℕ) (f : FirstFrame) → n < 65536 → front_of held ≡ f → looked n held false ≡ [] → 0 < length held → looked n held true ≡ held ∷ []
+  rest_front : (n : ℕ) (held : List ℕ) (f : FirstFrame) → n < 65536 → first_frame_of held ≡ f → looked n held false ≡ [] → 0 < length held → looked n held true ≡ held ∷ []
   rest_front n held Open lt e none some = looked-open n held true lt e some
   rest_front n held OutOfRange lt e none some = absurd (no_item _ _ _ (looked-out n held false lt e) none)
   rest_front n held (Whole size) lt e none some = absurd (no_item _ _ _ (looked-whole n held size false lt e) none)
@@ -107,7 +107,7 @@ module _ (settles : FrontSettles) where
   frames_cut = record {
     none = looked-none;
     rest = λ n held none some. elim (cases_lt n 65536) [
-      | inl lt ↦ rest_front n held (front_of held) lt refl none some
+      | inl lt ↦ rest_front n held (first_frame_of held) lt refl none some
       | inr ge ↦ looked-many n held true ge some
     ];
   }
@@ -157,7 +157,7 @@ module _ (settles : FrontSettles) where
     after_refused n c (Err j) f g k h e = refl
 
     -- depending on what the bytes begin with, if fewer frames than the maximum come before it
-    stay_front : (n : ℕ) (c : State) (taken more : List ℕ) (ended : Bool) (kind : FrameFault) (f : FirstFrame) → n < 65536 → 0 < length taken → front_of taken ≡ f
+    stay_front : (n : ℕ) (c : State) (taken more : List ℕ) (ended : Bool) (kind : FrameFault) (f : FirstFrame) → n < 65536 → 0 < length taken → first_frame_of taken ≡ f
         → (run_of looked (step_at answers) n c taken false).refused ≡ Some kind
         → ((size : ℕ) (d : State) → 4 ≤ size → (run_of looked (step_at answers) (n + 1) d (drop size taken) false).refused ≡ Some kind
         → run_of looked (step_at answers) (n + 1) d (drop size taken ++ more) ended ≡ run_of looked (step_at answers) (n + 1) d (drop size taken) false)
@@ -179,7 +179,7 @@ module _ (settles : FrontSettles) where
     stay most n c [] more ended kind le r = absurd (none_run n c [] kind (looked-none n false) r)
     stay zero n c (b ∷ bs) more ended kind le r = absurd (omega (arith, le))
     stay (suc most) n c (b ∷ bs) more ended kind le r = elim (cases_lt n 65536) [
-      | inl lt ↦ stay_front n c (b ∷ bs) more ended kind (front_of (b ∷ bs)) lt (omega arith) refl r
+      | inl lt ↦ stay_front n c (b ∷ bs) more ended kind (first_frame_of (b ∷ bs)) lt (omega arith) refl r
           (λ size d some q. stay most (n + 1) d (drop size (b ∷ bs)) more ended kind (omega (arith, length-drop size (b ∷ bs), le, some)) q)
       | inr ge ↦ refused_run n c ((b ∷ bs) ++ more) _ ended TooManyFrames (looked-many n ((b ∷ bs) ++ more) ended ge (omega arith)) (step-many n c _ ge)
           ∙ sym (refused_run n c (b ∷ bs) _ false TooManyFrames (looked-many n (b ∷ bs) false ge (omega arith)) (step-many n c _ ge))
@@ -199,8 +199,8 @@ module _ (settles : FrontSettles) where
   pub many_front : (n : ℕ) (held : List ℕ) → 65536 ≤ n → 0 < length held → (0 < length held) × (looked n held false ≡ held ∷ []) × refuses n held
   many_front n held ge some = (some, looked-many n held false ge some, inl ge)
 
-  pub open_front : (n : ℕ) (held : List ℕ) → n < 65536 → 0 < length held → front_of held ≡ Open → (looked n held false ≡ []) × (length held ≤ 581)
+  pub open_front : (n : ℕ) (held : List ℕ) → n < 65536 → 0 < length held → first_frame_of held ≡ Open → (looked n held false ≡ []) × (length held ≤ 581)
   open_front n held lt some e = (looked-open n held false lt e some, open_of held e)
 
-  pub out_front : (n : ℕ) (held : List ℕ) → n < 65536 → front_of held ≡ OutOfRange → (0 < length held) × (looked n held false ≡ held ∷ []) × refuses n held
+  pub out_front : (n : ℕ) (held : List ℕ) → n < 65536 → first_frame_of held ≡ OutOfRange → (0 < length held) × (looked n held false ≡ held ∷ []) × refuses n held
   out_front n held lt e = ((out_of held [] e).0, looked-out n held false lt e, inr (ap (λ (f : FirstFrame). step_by f held) e))

@@ -3,11 +3,11 @@ use Rattle.std.proofs.Common.{◌≡◌, ℕ, ◌+◌, ◌≤◌, ◌<◌, Bool,
 use Rattle.std.proofs.Math.Seq.{take-append_seam, drop-append_seam}
 use Rattle.std.proofs.lemmas.Bool.{eqb-true}
 use Rattle.pam_base.specs.declared.call.Step.{Step}
-use Rattle.pam_wire.specs.declared.front.FirstFrame.{FirstFrame}
-use Rattle.pam_wire.specs.declared.front.FirstFrame.TheVariants.{Open, OutOfRange, Whole}
+use Rattle.pam_wire.specs.declared.prefix.FirstFrame.{FirstFrame}
+use Rattle.pam_wire.specs.declared.prefix.FirstFrame.TheVariants.{Open, OutOfRange, Whole}
 use Rattle.pam_wire.specs.Frame.{has_frame, frame_of, frames_of}
-use Rattle.pam_wire.specs.Laws.{FrontSettles, ReadsTable, Settles}
-use Rattle.pam_wire.specs.Read.{front_of, step_in, step_by, step_of}
+use Rattle.pam_wire.specs.Laws.{FirstFrameSettles, ReadsTable, Settles}
+use Rattle.pam_wire.specs.Read.{first_frame_of, step_in, step_by, step_of}
 use Rattle.pam_wire.specs.Stream.{AreFramesOf}
 use Rattle.frame_stream.specs.Laws.{StepsAreLookedAt}
 use Rattle.frame_stream.specs.Looked.{looked}
@@ -23,17 +23,17 @@ whole_by bytes step Open e = absurd cc
 whole_by bytes step OutOfRange e = absurd cc
 whole_by bytes step (Whole size) e = ap (λ n. Whole n) (size_by bytes step size _ refl e)
 
-module _ (settles : FrontSettles) (reads : ReadsTable) where
-  pub front_of-frame : (step : Step) (more : List ℕ) → has_frame step ≡ true → front_of (frame_of step ++ more) ≡ Whole (length (frame_of step))
-  front_of-frame step more has =
+module _ (settles : FirstFrameSettles) (reads : ReadsTable) where
+  pub first_frame_of-frame : (step : Step) (more : List ℕ) → has_frame step ≡ true → first_frame_of (frame_of step ++ more) ≡ Whole (length (frame_of step))
+  first_frame_of-frame step more has =
       let read : step_of (frame_of step) ≡ Some step = (reads (frame_of step) step).0 (record { within = has; bytes_are = refl }) in
-      let whole : front_of (frame_of step) ≡ Whole (length (frame_of step)) = whole_by (frame_of step) step (front_of (frame_of step)) read in
+      let whole : first_frame_of (frame_of step) ≡ Whole (length (frame_of step)) = whole_by (frame_of step) step (first_frame_of (frame_of step)) read in
       let s : Settles (Whole (length (frame_of step))) (frame_of step) more = subst (λ f. Settles f (frame_of step) more) whole (settles (frame_of step) more) in
       s.2
 
   pub first : (n : ℕ) (step : Step) (more : List ℕ) (ended : Bool) → n < 65536 → has_frame step ≡ true → looked n (frame_of step ++ more) ended ≡ frame_of step ∷ looked (n + 1) more ended
   first n step more ended lt has =
-      looked-whole settles n (frame_of step ++ more) (length (frame_of step)) ended lt (front_of-frame step more has)
+      looked-whole settles n (frame_of step ++ more) (length (frame_of step)) ended lt (first_frame_of-frame step more has)
       ∙ ap (λ (z : List ℕ). z ∷ looked (n + 1) (drop (length (frame_of step)) (frame_of step ++ more)) ended) (take-append_seam (frame_of step) more)
       ∙ ap (λ (z : List ℕ). frame_of step ∷ looked (n + 1) z ended) (drop-append_seam (frame_of step) more)
 

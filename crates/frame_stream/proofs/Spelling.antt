@@ -6,21 +6,21 @@ use Rattle.std.proofs.lemmas.Bool.{cases_lt, le-leb, lt-leb}
 use Rattle.std.proofs.lemmas.List.{append-nil, take-append-drop}
 use Rattle.std.proofs.lemmas.List.Elements.{All-drop, All-same, All-take}
 use Rattle.pam_base.specs.declared.call.Step.{Step}
-use Rattle.pam_wire.specs.declared.front.FirstFrame.{FirstFrame}
-use Rattle.pam_wire.specs.declared.front.FirstFrame.TheVariants.{Open, OutOfRange, Whole}
+use Rattle.pam_wire.specs.declared.prefix.FirstFrame.{FirstFrame}
+use Rattle.pam_wire.specs.declared.prefix.FirstFrame.TheVariants.{Open, OutOfRange, Whole}
 use Rattle.pam_wire.specs.Frame.{AreBytes, IsFrame, has_frame, frame_of, frames_of}
-use Rattle.pam_wire.specs.Laws.{FrontSettles, OpensByTable, ReadsTable}
-use Rattle.pam_wire.specs.Read.{front_of, step_by, step_of}
+use Rattle.pam_wire.specs.Laws.{FirstFrameSettles, OpensByTable, ReadsTable}
+use Rattle.pam_wire.specs.Read.{first_frame_of, step_by, step_of}
 use Rattle.pam_wire.specs.Stream.{AreFramesOf, HasNoFrame, IsOpen}
-use Rattle.item_stream.specs.Run.{Run, after, come_to, run_items, run_of, with_text}
+use Rattle.record_reader.specs.Run.{Run, after, come_to, run_items, run_of, with_text}
 use Rattle.frame_stream.specs.declared.fault.FrameFault.{FrameFault}
 use Rattle.frame_stream.specs.declared.fault.FrameFault.TheVariants.{BadFrame, TooManyFrames}
-use Rattle.frame_stream.specs.Laws.{AllAreLookedAt, BytesSpell, FrontIsOfSteps, RunIsOfSteps, ServedAreSteps}
+use Rattle.frame_stream.specs.Laws.{AllAreLookedAt, BytesSpell, PrefixIsOfSteps, RunIsOfSteps, ServedAreSteps}
 use Rattle.frame_stream.specs.Looked.{looked}
 use Rattle.frame_stream.specs.Run.{CallStep, called, step_at}
 use Rattle.frame_stream.specs.Spelled.{IsBehind, SpellsFrom, answers_to, state_behind}
 use Rattle.frame_stream.proofs.Keeping.{looked-many, looked-none, looked-open, looked-out, looked-whole, refused_run, step-bad, step-many, whole_of, whole_run}
-use Rattle.frame_stream.proofs.Seeing.{first, front_of-frame}
+use Rattle.frame_stream.proofs.Seeing.{first, first_frame_of-frame}
 
 not_both : (f : FirstFrame) (size : ℕ) → f ≡ Open → f ≡ Whole size → ⊥
 not_both f size e w =
@@ -47,10 +47,10 @@ not_none o step e n =
     let no : ◌≡◌ {A = Option Step} (Some step) None = sym e ∙ n in
     absurd cc
 
-module _ (settles : FrontSettles) where
+module _ (settles : FirstFrameSettles) where
   -- ---- all bytes are processed
 
-  all_front : (n : ℕ) (bytes : List ℕ) (f : FirstFrame) → n < 65536 → 0 < length bytes → front_of bytes ≡ f
+  all_front : (n : ℕ) (bytes : List ℕ) (f : FirstFrame) → n < 65536 → 0 < length bytes → first_frame_of bytes ≡ f
       → ((size : ℕ) → 4 ≤ size → concat (looked (n + 1) (drop size bytes) true) ≡ drop size bytes) → concat (looked n bytes true) ≡ bytes
   all_front n bytes Open lt some e next = ap concat (looked-open n bytes true lt e some) ∙ append-nil bytes
   all_front n bytes OutOfRange lt some e next = ap concat (looked-out n bytes true lt e) ∙ append-nil bytes
@@ -61,32 +61,32 @@ module _ (settles : FrontSettles) where
   all_most most n [] le = ap concat (looked-none n true)
   all_most zero n (b ∷ bs) le = absurd (omega arith)
   all_most (suc most) n (b ∷ bs) le = elim (cases_lt n 65536) [
-    | inl lt ↦ all_front n (b ∷ bs) (front_of (b ∷ bs)) lt (omega arith) refl (λ size some. all_most most (n + 1) (drop size (b ∷ bs)) (omega (arith, length-drop size (b ∷ bs), le, some)))
+    | inl lt ↦ all_front n (b ∷ bs) (first_frame_of (b ∷ bs)) lt (omega arith) refl (λ size some. all_most most (n + 1) (drop size (b ∷ bs)) (omega (arith, length-drop size (b ∷ bs), le, some)))
     | inr ge ↦ ap concat (looked-many n (b ∷ bs) true ge (omega arith)) ∙ append-nil (b ∷ bs)
   ]
 
   pub all_looked : AllAreLookedAt
   all_looked = λ n bytes. all_most (length bytes) n bytes (omega arith)
 
-module _ (settles : FrontSettles) (reads : ReadsTable) (opens : OpensByTable) where
+module _ (settles : FirstFrameSettles) (reads : ReadsTable) (opens : OpensByTable) where
   -- ---- what the bytes begin with
 
   one_parts : (rest : List ℕ) (step : Step) (more : List ℕ) → AreFramesOf rest (step ∷ []) more → rest ≡ frame_of step ++ more
   one_parts rest step more is = is.parts ∙ append_assoc (frame_of step) [] more
 
-  framed_front : (rest : List ℕ) (step : Step) (more : List ℕ) → has_frame step ≡ true → AreFramesOf rest (step ∷ []) more → front_of rest ≡ Whole (length (frame_of step))
-  framed_front rest step more has is = ap front_of (one_parts rest step more is) ∙ front_of-frame settles reads step more has
+  framed_front : (rest : List ℕ) (step : Step) (more : List ℕ) → has_frame step ≡ true → AreFramesOf rest (step ∷ []) more → first_frame_of rest ≡ Whole (length (frame_of step))
+  framed_front rest step more has is = ap first_frame_of (one_parts rest step more is) ∙ first_frame_of-frame settles reads step more has
 
-  open_none : (rest : List ℕ) → front_of rest ≡ Open → HasNoFrame rest
-  open_none rest e = λ step more has is. not_both (front_of rest) _ e (framed_front rest step more has is)
+  open_none : (rest : List ℕ) → first_frame_of rest ≡ Open → HasNoFrame rest
+  open_none rest e = λ step more has is. not_both (first_frame_of rest) _ e (framed_front rest step more has is)
 
-  out_none : (rest : List ℕ) → front_of rest ≡ OutOfRange → HasNoFrame rest
-  out_none rest e = λ step more has is. out_whole (front_of rest) _ e (framed_front rest step more has is)
+  out_none : (rest : List ℕ) → first_frame_of rest ≡ OutOfRange → HasNoFrame rest
+  out_none rest e = λ step more has is. out_whole (first_frame_of rest) _ e (framed_front rest step more has is)
 
   -- a complete one that isn't a call
-  call_none : (rest : List ℕ) (size : ℕ) → front_of rest ≡ Whole size → step_of (take size rest) ≡ None → HasNoFrame rest
+  call_none : (rest : List ℕ) (size : ℕ) → first_frame_of rest ≡ Whole size → step_of (take size rest) ≡ None → HasNoFrame rest
   call_none rest size w none = λ step more has is.
-      let same : size ≡ length (frame_of step) = same_size (front_of rest) _ _ w (framed_front rest step more has is) in
+      let same : size ≡ length (frame_of step) = same_size (first_frame_of rest) _ _ w (framed_front rest step more has is) in
       let taken : take size rest ≡ frame_of step =
       ap (λ (n : ℕ). take n rest) same ∙ ap (take (length (frame_of step))) (one_parts rest step more is) ∙ take-append_seam (frame_of step) more in
       let read : step_of (take size rest) ≡ Some step = ap step_of taken ∙ (reads (frame_of step) step).0 (record { within = has; bytes_are = refl }) in
@@ -149,27 +149,27 @@ module _ (settles : FrontSettles) (reads : ReadsTable) (opens : OpensByTable) wh
   never : false ≡ true → ⊥
   never e = (cc)
 
-  spell_open : (n : ℕ) (bytes : List ℕ) (ended : Bool) → n < 65536 → 0 < length bytes → AreBytes bytes → front_of bytes ≡ Open → Spelled n bytes ended
+  spell_open : (n : ℕ) (bytes : List ℕ) (ended : Bool) → n < 65536 → 0 < length bytes → AreBytes bytes → first_frame_of bytes ≡ Open → Spelled n bytes ended
   spell_open n bytes true lt some all e = nothing n bytes true (Some BadFrame) (omega (arith, lt)) (lt, open_none bytes e, inl (refl, some))
   spell_open n bytes false lt some all e = nothing n bytes false None (omega (arith, lt)) ((opens bytes).0 all e, λ h. absurd (never h), λ ge. absurd (omega (arith, lt, ge)))
 
-  spell_call : (n : ℕ) (bytes : List ℕ) (ended : Bool) (size : ℕ) (o : Option Step) → n < 65536 → AreBytes bytes → front_of bytes ≡ Whole size → step_of (take size bytes) ≡ o
+  spell_call : (n : ℕ) (bytes : List ℕ) (ended : Bool) (size : ℕ) (o : Option Step) → n < 65536 → AreBytes bytes → first_frame_of bytes ≡ Whole size → step_of (take size bytes) ≡ o
       → (AreBytes (drop size bytes) → Spelled (n + 1) (drop size bytes) ended) → Spelled n bytes ended
-  spell_call n bytes ended size None lt all e s next = nothing n bytes ended (Some BadFrame) (omega (arith, lt)) (lt, call_none bytes size e s, inr (λ o. not_both (front_of bytes) size ((opens bytes).1 o) e))
+  spell_call n bytes ended size None lt all e s next = nothing n bytes ended (Some BadFrame) (omega (arith, lt)) (lt, call_none bytes size e s, inr (λ o. not_both (first_frame_of bytes) size ((opens bytes).1 o) e))
   spell_call n bytes ended size (Some step) lt all e s next = one_more n bytes (drop size bytes) ended step (cut_of bytes size step all s) (next (All-drop (λ b. b < 256) size bytes all))
 
-  spell_front : (n : ℕ) (bytes : List ℕ) (ended : Bool) (f : FirstFrame) → n < 65536 → 0 < length bytes → AreBytes bytes → front_of bytes ≡ f
+  spell_front : (n : ℕ) (bytes : List ℕ) (ended : Bool) (f : FirstFrame) → n < 65536 → 0 < length bytes → AreBytes bytes → first_frame_of bytes ≡ f
       → ((size : ℕ) → 4 ≤ size → AreBytes (drop size bytes) → Spelled (n + 1) (drop size bytes) ended) → Spelled n bytes ended
   spell_front n bytes ended Open lt some all e next = spell_open n bytes ended lt some all e
   spell_front n bytes ended OutOfRange lt some all e next =
-      nothing n bytes ended (Some BadFrame) (omega (arith, lt)) (lt, out_none bytes e, inr (λ o. not_out (front_of bytes) ((opens bytes).1 o) e))
+      nothing n bytes ended (Some BadFrame) (omega (arith, lt)) (lt, out_none bytes e, inr (λ o. not_out (first_frame_of bytes) ((opens bytes).1 o) e))
   spell_front n bytes ended (Whole size) lt some all e next = spell_call n bytes ended size (step_of (take size bytes)) lt all e refl (next size (whole_of settles bytes size e).some)
 
   spell : (most n : ℕ) (bytes : List ℕ) (ended : Bool) → length bytes ≤ most → n ≤ 65536 → AreBytes bytes → Spelled n bytes ended
   spell most n [] ended le few all = nothing n [] ended None few ((opens []).0 all refl, λ h. refl, λ h. refl)
   spell zero n (b ∷ bs) ended le few all = absurd (omega arith)
   spell (suc most) n (b ∷ bs) ended le few all = elim (cases_lt n 65536) [
-    | inl lt ↦ spell_front n (b ∷ bs) ended (front_of (b ∷ bs)) lt (omega arith) all refl
+    | inl lt ↦ spell_front n (b ∷ bs) ended (first_frame_of (b ∷ bs)) lt (omega arith) all refl
         (λ size some bytes. spell most (n + 1) (drop size (b ∷ bs)) ended (omega (arith, length-drop size (b ∷ bs), le, some)) (omega (arith, lt)) bytes)
     | inr ge ↦ nothing n (b ∷ bs) ended (Some TooManyFrames) few (ge, omega arith)
   ]
@@ -188,27 +188,27 @@ module _ (settles : FrontSettles) (reads : ReadsTable) (opens : OpensByTable) wh
     unfolding step_at
     step-ok n s frame step lt e = rw (lt-leb 65536 n lt) (ap (called answers s) e)
 
-    bad_run : (n : ℕ) (s : State) (rest : List ℕ) (ended : Bool) (size : ℕ) → n < 65536 → front_of rest ≡ Whole size → step_of (take size rest) ≡ None
+    bad_run : (n : ℕ) (s : State) (rest : List ℕ) (ended : Bool) (size : ℕ) → n < 65536 → first_frame_of rest ≡ Whole size → step_of (take size rest) ≡ None
         → run_of looked (step_at answers) n s rest ended ≡ come_to [] s n (Some BadFrame)
     bad_run n s rest ended size lt e none =
         whole_run settles answers n s rest (take size rest) (drop size rest) ended (looked-whole settles n rest size ended lt e)
         ∙ ap (λ (r : Result (State × List ℕ) FrameFault). after n s r (λ d. run_of looked (step_at answers) (n + 1) d (drop size rest) ended)) (step-bad settles answers n s (take size rest) lt none)
 
-    bad_call : (n : ℕ) (s : State) (rest : List ℕ) (ended : Bool) (size : ℕ) (o : Option Step) → n < 65536 → AreBytes rest → HasNoFrame rest → front_of rest ≡ Whole size → step_of (take size rest) ≡ o
+    bad_call : (n : ℕ) (s : State) (rest : List ℕ) (ended : Bool) (size : ℕ) (o : Option Step) → n < 65536 → AreBytes rest → HasNoFrame rest → first_frame_of rest ≡ Whole size → step_of (take size rest) ≡ o
         → run_of looked (step_at answers) n s rest ended ≡ come_to [] s n (Some BadFrame)
     bad_call n s rest ended size None lt all none e o = bad_run n s rest ended size lt e o
     bad_call n s rest ended size (Some step) lt all none e o =
         let c = cut_of rest size step all o in
         absurd (none step (drop size rest) c.within (one_framed rest step (drop size rest) c))
 
-    bad_open : (n : ℕ) (s : State) (rest : List ℕ) (ended : Bool) → n < 65536 → AreBytes rest → front_of rest ≡ Open → ((ended ≡ true) × (0 < length rest)) ⊎ (IsOpen rest → ⊥)
+    bad_open : (n : ℕ) (s : State) (rest : List ℕ) (ended : Bool) → n < 65536 → AreBytes rest → first_frame_of rest ≡ Open → ((ended ≡ true) × (0 < length rest)) ⊎ (IsOpen rest → ⊥)
         → run_of looked (step_at answers) n s rest ended ≡ come_to [] s n (Some BadFrame)
     bad_open n s rest ended lt all e (inl h) =
         let seen : looked n rest ended ≡ rest ∷ [] = ap (looked n rest) h.0 ∙ looked-open n rest true lt e h.1 in
         refused_run settles answers n s rest rest ended BadFrame seen (step-bad settles answers n s rest lt (ap (λ (f : FirstFrame). step_by f rest) e))
     bad_open n s rest ended lt all e (inr not_open) = absurd (not_open ((opens rest).0 all e))
 
-    bad_front : (n : ℕ) (s : State) (rest : List ℕ) (ended : Bool) (f : FirstFrame) → n < 65536 → AreBytes rest → HasNoFrame rest → front_of rest ≡ f → ((ended ≡ true) × (0 < length rest)) ⊎ (IsOpen rest → ⊥)
+    bad_front : (n : ℕ) (s : State) (rest : List ℕ) (ended : Bool) (f : FirstFrame) → n < 65536 → AreBytes rest → HasNoFrame rest → first_frame_of rest ≡ f → ((ended ≡ true) × (0 < length rest)) ⊎ (IsOpen rest → ⊥)
         → run_of looked (step_at answers) n s rest ended ≡ come_to [] s n (Some BadFrame)
     bad_front n s rest ended Open lt all none e how = bad_open n s rest ended lt all e how
     bad_front n s rest ended OutOfRange lt all none e how =
@@ -231,7 +231,7 @@ module _ (settles : FrontSettles) (reads : ReadsTable) (opens : OpensByTable) wh
     behind_run : (n : ℕ) (s : State) (rest : List ℕ) (ended : Bool) (fault : Option FrameFault) → AreBytes rest → IsBehind n rest ended fault
         → run_of looked (step_at answers) n s rest ended ≡ come_to [] s n fault
     behind_run n s rest ended None all h = open_run n s rest ended h
-    behind_run n s rest ended (Some BadFrame) all h = bad_front n s rest ended (front_of rest) h.0 all h.1 refl h.2
+    behind_run n s rest ended (Some BadFrame) all h = bad_front n s rest ended (first_frame_of rest) h.0 all h.1 refl h.2
     behind_run n s rest ended (Some TooManyFrames) all h = refused_run settles answers n s rest rest ended TooManyFrames (looked-many n rest ended h.0 h.1) (step-many settles answers n s rest h.0)
 
     last_run : (n k : ℕ) (s : State) (rest : List ℕ) (ended : Bool) (fault : Option FrameFault) → k ≡ n → AreBytes rest → IsBehind k rest ended fault
@@ -286,7 +286,7 @@ module _ (settles : FrontSettles) (reads : ReadsTable) (opens : OpensByTable) wh
         refused_ok e = absurd cc
 
     -- it is at the beginning
-    record IsFront (n : ℕ) (bytes item : List ℕ) (ended : Bool) (step : Step) (others : List (List ℕ)) : Type 0 where
+    record IsFirstItem (n : ℕ) (bytes item : List ℕ) (ended : Bool) (step : Step) (others : List (List ℕ)) : Type 0 where
       item_is : item ≡ frame_of step
       more : List ℕ
       cut : IsCut bytes step more
@@ -298,15 +298,15 @@ module _ (settles : FrontSettles) (reads : ReadsTable) (opens : OpensByTable) wh
     not_empty : (ys : List (List ℕ)) (y : List ℕ) → [] ≡ y ∷ ys → ⊥
     not_empty ys y e = (cc)
 
-    whole_item : (n : ℕ) (bytes item : List ℕ) (ended : Bool) (step : Step) (others : List (List ℕ)) → step_of bytes ≡ None → (bytes ≡ item) → step_of item ≡ Some step → IsFront n bytes item ended step others
+    whole_item : (n : ℕ) (bytes item : List ℕ) (ended : Bool) (step : Step) (others : List (List ℕ)) → step_of bytes ≡ None → (bytes ≡ item) → step_of item ≡ Some step → IsFirstItem n bytes item ended step others
     whole_item n bytes item ended step others none e read = absurd (not_none (step_of bytes) step (ap step_of e ∙ read) none)
 
-    open_item : (n : ℕ) (bytes item : List ℕ) (ended : Bool) (step : Step) (others : List (List ℕ)) → step_of bytes ≡ None → cond ended (bytes ∷ []) [] ≡ item ∷ others → step_of item ≡ Some step → IsFront n bytes item ended step others
+    open_item : (n : ℕ) (bytes item : List ℕ) (ended : Bool) (step : Step) (others : List (List ℕ)) → step_of bytes ≡ None → cond ended (bytes ∷ []) [] ≡ item ∷ others → step_of item ≡ Some step → IsFirstItem n bytes item ended step others
     open_item n bytes item true step others none e read = whole_item n bytes item true step others none (head_is [] others bytes item e).0 read
     open_item n bytes item false step others none e read = absurd (not_empty others item e)
 
-    item_front : (n : ℕ) (bytes item : List ℕ) (ended : Bool) (step : Step) (others : List (List ℕ)) (f : FirstFrame) → n < 65536 → 0 < length bytes → AreBytes bytes → front_of bytes ≡ f
-        → looked n bytes ended ≡ item ∷ others → step_of item ≡ Some step → IsFront n bytes item ended step others
+    item_front : (n : ℕ) (bytes item : List ℕ) (ended : Bool) (step : Step) (others : List (List ℕ)) (f : FirstFrame) → n < 65536 → 0 < length bytes → AreBytes bytes → first_frame_of bytes ≡ f
+        → looked n bytes ended ≡ item ∷ others → step_of item ≡ Some step → IsFirstItem n bytes item ended step others
     item_front n bytes item ended step others Open lt some all e seen read =
         open_item n bytes item ended step others (ap (λ (f : FirstFrame). step_by f bytes) e) (sym (looked-open n bytes ended lt e some) ∙ seen) read
     item_front n bytes item ended step others OutOfRange lt some all e seen read =
@@ -315,9 +315,9 @@ module _ (settles : FrontSettles) (reads : ReadsTable) (opens : OpensByTable) wh
         let h = head_is _ others _ item (sym (looked-whole settles n bytes size ended lt e) ∙ seen) in
         record { item_is = sym h.0 ∙ (frame_in bytes size step all (ap step_of h.0 ∙ read)).bytes_are; more = drop size bytes; cut = cut_of bytes size step all (ap step_of h.0 ∙ read); seen = h.1 }
 
-    item_in : (n : ℕ) (bytes item : List ℕ) (ended : Bool) (step : Step) (others : List (List ℕ)) → n < 65536 → AreBytes bytes → looked n bytes ended ≡ item ∷ others → step_of item ≡ Some step → IsFront n bytes item ended step others
+    item_in : (n : ℕ) (bytes item : List ℕ) (ended : Bool) (step : Step) (others : List (List ℕ)) → n < 65536 → AreBytes bytes → looked n bytes ended ≡ item ∷ others → step_of item ≡ Some step → IsFirstItem n bytes item ended step others
     item_in n [] item ended step others lt all seen read = absurd (not_empty others item (sym (looked-none n ended) ∙ seen))
-    item_in n (b ∷ bs) item ended step others lt all seen read = item_front n (b ∷ bs) item ended step others (front_of (b ∷ bs)) lt (omega arith) all refl seen read
+    item_in n (b ∷ bs) item ended step others lt all seen read = item_front n (b ∷ bs) item ended step others (first_frame_of (b ∷ bs)) lt (omega arith) all refl seen read
 
     rebuilt : (r : Run State FrameFault) (t : State) (m : ℕ) → r.last ≡ t → r.items ≡ m → r.refused ≡ None → r ≡ come_to r.text t m None
     rebuilt r t m a b c =
@@ -325,7 +325,7 @@ module _ (settles : FrontSettles) (reads : ReadsTable) (opens : OpensByTable) wh
 
     -- the first one, and those after it
     front_more : (n m : ℕ) (s t : State) (bytes item : List ℕ) (ended : Bool) (step : Step) (more : List ℕ) (items behind : List (List ℕ)) (text others : List ℕ) → item ≡ frame_of step → IsCut bytes step more → text ≡ (answers s step).1 ++ others
-        → FrontIsOfSteps answers (n + 1) m (answers s step).0 t more ended items behind others → FrontIsOfSteps answers n m s t bytes ended (item ∷ items) behind text
+        → PrefixIsOfSteps answers (n + 1) m (answers s step).0 t more ended items behind others → PrefixIsOfSteps answers n m s t bytes ended (item ∷ items) behind text
     front_more n m s t bytes item ended step more items behind text others i c e f = record {
       steps = step ∷ f.steps;
       rest = f.rest;
@@ -343,11 +343,11 @@ module _ (settles : FrontSettles) (reads : ReadsTable) (opens : OpensByTable) wh
 
     abbrev Served : List (List ℕ) → Type 0
     Served items = (n m : ℕ) (s t : State) (bytes : List ℕ) (ended : Bool) (behind : List (List ℕ)) (text : List ℕ) → n ≤ 65536 → AreBytes bytes → looked n bytes ended ≡ items ++ behind
-        → run_items (step_at answers) n s items ≡ come_to text t m None → FrontIsOfSteps answers n m s t bytes ended items behind text
+        → run_items (step_at answers) n s items ≡ come_to text t m None → PrefixIsOfSteps answers n m s t bytes ended items behind text
 
     served_by : (items : List (List ℕ)) → Served items → (n m : ℕ) (s t : State) (bytes item : List ℕ) (ended : Bool) (behind : List (List ℕ)) (text : List ℕ) (r : Result (State × List ℕ) FrameFault)
         → AreBytes bytes → looked n bytes ended ≡ item ∷ (items ++ behind) → step_at answers n s item ≡ r → after n s r (λ d. run_items (step_at answers) (n + 1) d items) ≡ come_to text t m None
-        → FrontIsOfSteps answers n m s t bytes ended (item ∷ items) behind text
+        → PrefixIsOfSteps answers n m s t bytes ended (item ∷ items) behind text
     served_by items next n m s t bytes item ended behind text (Err kind) all seen is e =
         let no : ◌≡◌ {A = Option FrameFault} (Some kind) None = ap (λ (z : Run State FrameFault). z.refused) e in
         absurd cc

@@ -4,7 +4,7 @@ use Rattle.std.specs.List.{concat}
 use Rattle.pam_base.specs.declared.call.Step.{Step}
 use Rattle.pam_wire.specs.Frame.{AreBytes, frame_of}
 use Rattle.pam_wire.specs.Stream.{AreFramesOf}
-use Rattle.item_stream.specs.Run.{come_to, run_items, run_of}
+use Rattle.record_reader.specs.Run.{come_to, run_items, run_of}
 use Rattle.frame_stream.specs.declared.fault.FrameFault.{FrameFault}
 use Rattle.frame_stream.specs.Looked.{looked}
 use Rattle.frame_stream.specs.Run.{CallStep, step_at}
@@ -36,7 +36,7 @@ module _ {State : Type 0} (answers : CallStep State) where
       ≡ come_to (answers_to answers s steps) (state_behind answers s steps) (n + length steps) fault
 
   -- some bytes begin with some frames; they are those of steps, which have this result
-  pub record FrontIsOfSteps (n m : ℕ) (s t : State) (bytes : List ℕ) (ended : Bool)
+  pub record PrefixIsOfSteps (n m : ℕ) (s t : State) (bytes : List ℕ) (ended : Bool)
       (served behind : List (List ℕ)) (text : List ℕ) : Type 0 where
     pub steps : List Step
     pub rest : List ℕ
@@ -54,4 +54,4 @@ module _ {State : Type 0} (answers : CallStep State) where
       (served behind : List (List ℕ)) (text : List ℕ) → n ≤ 65536 → AreBytes bytes
       → looked n bytes ended ≡ served ++ behind
       → run_items (step_at answers) n s served ≡ come_to text t m None
-      → FrontIsOfSteps n m s t bytes ended served behind text
+      → PrefixIsOfSteps n m s t bytes ended served behind text

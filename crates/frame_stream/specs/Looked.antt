@@ -1,8 +1,8 @@
 -- Which frames of a stream are processed, of the bytes read so far.
 use Rattle.std.specs.Prelude.{◌≡◌, ◌⊎◌, ℕ, zero, suc, ◌+◌, ◌≤◌, Bool, List, [], ◌∷◌, length, take, drop, None, nat_le, if◌then◌else◌}
-use Rattle.pam_wire.specs.declared.front.FirstFrame.{FirstFrame}
-use Rattle.pam_wire.specs.declared.front.FirstFrame.TheVariants.{Open, OutOfRange, Whole}
-use Rattle.pam_wire.specs.Read.{front_of, step_of}
+use Rattle.pam_wire.specs.declared.prefix.FirstFrame.{FirstFrame}
+use Rattle.pam_wire.specs.declared.prefix.FirstFrame.TheVariants.{Open, OutOfRange, Whole}
+use Rattle.pam_wire.specs.Read.{first_frame_of, step_of}
 
 -- A complete frame is read, and then what follows it. A length that no frame has is read with everything after it, and
 -- so is the beginning of a frame when the input has ended.
@@ -17,7 +17,7 @@ looked_most most n [] ended = []
 looked_most zero n (b ∷ bs) ended = []
 looked_most (suc most) n (b ∷ bs) ended =
     if nat_le 65536 n then (b ∷ bs) ∷ []
-    else looked_by (front_of (b ∷ bs)) (b ∷ bs) ended
+    else looked_by (first_frame_of (b ∷ bs)) (b ∷ bs) ended
     (λ size. looked_most most (n + 1) (drop size (b ∷ bs)) ended)
 
 -- a frame has at least one byte, so there are at most as many frames as bytes

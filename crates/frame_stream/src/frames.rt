@@ -2,9 +2,9 @@ ghost use Rattle.std.specs.Prelude.{List, ℕ};
 ghost use Rattle.pam_base.specs.declared.call.Step.{Step};
 
 use crate::fault::FrameFault;
-use crate::front::front_of_frames;
-use item_stream::{Front, Stepping};
+use crate::prefix::first_frame;
 use pam_wire::laws;
+use record_reader::{FirstItem, Stepping};
 use std::marker::PhantomData;
 
 /// What the calls of a front end do, for those who state the result of a run over them. It has only
@@ -46,15 +46,15 @@ impl<R: CallStepping> Stepping for FramesOf<R> {
 
     ghost fails = { R.fails };
 
-    fn front(before: u32, held: &[u8]) -> Front {
-        front_of_frames(before, held)
+    fn first_item(before: u32, held: &[u8]) -> FirstItem {
+        first_frame(before, held)
     }
 
     fn cuts() {
-        laws::front_settles();
+        laws::first_frame_settles();
     }
 
     fn keeps() {
-        laws::front_settles();
+        laws::first_frame_settles();
     }
 }

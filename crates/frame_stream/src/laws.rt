@@ -9,7 +9,7 @@ use crate::frames::CallStepping;
 pub fn steps_are_looked_at()
     ensures { StepsAreLookedAt }
 {
-    pam_wire::laws::front_settles();
+    pam_wire::laws::first_frame_settles();
     pam_wire::laws::frame_is_read();
 }
 
@@ -17,7 +17,7 @@ pub fn steps_are_looked_at()
 pub fn all_are_looked_at()
     ensures { AllAreLookedAt }
 {
-    pam_wire::laws::front_settles();
+    pam_wire::laws::first_frame_settles();
 }
 
 /// Some bytes are the frames of steps, at most 65,536, and a rest, which is the beginning of a
@@ -25,9 +25,9 @@ pub fn all_are_looked_at()
 pub fn bytes_spell_steps()
     ensures { BytesSpell }
 {
-    pam_wire::laws::front_settles();
+    pam_wire::laws::first_frame_settles();
     pam_wire::laws::frame_is_read();
-    pam_wire::laws::front_opens_by_the_table();
+    pam_wire::laws::frame_opens_by_the_table();
 }
 
 /// A run over some bytes is one over the steps that they spell: its text is their answers, one
@@ -36,7 +36,7 @@ pub fn runs_are_of_steps<R: CallStepping>()
     ensures run { (setting : R.Setting) → RunIsOfSteps (R.answers setting) }
     ensures served { (setting : R.Setting) → ServedAreSteps (R.answers setting) }
 {
-    pam_wire::laws::front_settles();
+    pam_wire::laws::first_frame_settles();
     pam_wire::laws::frame_is_read();
-    pam_wire::laws::front_opens_by_the_table();
+    pam_wire::laws::frame_opens_by_the_table();
 }

@@ -4,11 +4,11 @@
 
 mod fault;
 mod frames;
-mod front;
 pub mod laws;
 mod limit;
+mod prefix;
 
 pub use fault::FrameFault;
 pub use frames::{CallStepping, FramesOf};
-pub use front::front_of_frames;
 pub use limit::MAX_FRAMES;
+pub use prefix::first_frame;

@@ -8,7 +8,7 @@ use Rattle.control_words.specs.Stack.{Stack, none, line, sub, count, lines_in}
 use Rattle.handler_chain.specs.declared.opinion.Opinion.{Opinion}
 use Rattle.handler_chain.specs.declared.pass_kind.PassKind.{PassKind}
 use Rattle.handler_chain.specs.Opinion.{acted}
-use Rattle.handler_chain.specs.Walk.{Serving, Served, Walked, walked, halted, Next, after, stop, next_of, settled, onward, walk}
+use Rattle.handler_chain.specs.Walk.{Serving, Served, Walked, walked, halted, Next, after, stop, next_of, new_or_overrun, onward, walk}
 use Rattle.handler_chain.specs.Route.{KeptAnswers, negative_after, next_by, negative_behind, Met, met, behind, onto, met_at, route_from}
 use Rattle.handler_chain.proofs.Negativity.{negative_opinion, acted_negative, next_of-is, settled_negative}
 
@@ -176,7 +176,7 @@ module _ (State : Type 0) (kind : PassKind) (serve : Serving State) (kept : Kept
       let v : Served State = serve rule at s in
       let left : ℕ = count rest in
       let new : Code → Opinion = λ k. acted kind (action_at rule.control k) v.answer k entry o in
-      let last : Code → Opinion = λ k. settled (action_at rule.control k) left (new k) in
+      let last : Code → Opinion = λ k. new_or_overrun (action_at rule.control k) left (new k) in
       let w : Code → Walked State = λ k. onward (next_of (action_at rule.control k) left (new k)) (λ n. walk kind serve n rest (at + 1) entry (last k) v.state) (walked (last k) v.state) in
       let on : Code → Met = λ k.
       onto (next_by (action_at rule.control k) left now) (λ n. route_from kept n rest (at + 1) en (negative_behind (action_at rule.control k) left en now)) (met (negative_behind (action_at rule.control k) left en now)) in

@@ -8,7 +8,7 @@ use Rattle.control_words.specs.Stack.{Stack, none, line, sub, count, lines_in}
 use Rattle.handler_chain.specs.declared.opinion.Opinion.{Opinion}
 use Rattle.handler_chain.specs.declared.pass_kind.PassKind.{PassKind}
 use Rattle.handler_chain.specs.Opinion.{acted, opening}
-use Rattle.handler_chain.specs.Walk.{Served, Walked, walked, halted, Next, after, stop, next_of, settled, onward, walk}
+use Rattle.handler_chain.specs.Walk.{Served, Walked, walked, halted, Next, after, stop, next_of, new_or_overrun, onward, walk}
 use Rattle.handler_chain.specs.Route.{KeptAnswers}
 use Rattle.handler_chain.specs.Pass.{Visit, Answering, visit, PassState, pass_state, answers_of, decides, served_past, serving, pass_after}
 use Rattle.handler_chain.specs.PathLaw.{GoesOn}
@@ -94,7 +94,7 @@ module _ (State : Type 0) (kind : PassKind) (kept : KeptAnswers) where
       let v : Served (PassState State) = serving kind kept answering rule at g in
       let left : ℕ = count t in
       let new : Code → Opinion = λ k. acted kind (action_at rule.control k) v.answer k entry o in
-      let last : Code → Opinion = λ k. settled (action_at rule.control k) left (new k) in
+      let last : Code → Opinion = λ k. new_or_overrun (action_at rule.control k) left (new k) in
       let behind : Answering State → Code → PassState State → Walked (PassState State) = λ r k x.
       onward (next_of (action_at rule.control k) left (new k)) (λ n. walk_by r n t (at + 1) entry (last k) x) (walked (last k) x) in
       again_if v.stopped o v.state (behind answering v.deciding v.state) (walk_by later zero (line rule t) at entry o (pass_state (answers_of news ++ rest) g.visits s)) (g.visits ++ news) rest s

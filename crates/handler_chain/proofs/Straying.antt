@@ -7,7 +7,7 @@ use Rattle.control_words.specs.Stack.{Stack, none, line, sub, count, lines_in}
 use Rattle.handler_chain.specs.declared.opinion.Opinion.{Opinion}
 use Rattle.handler_chain.specs.declared.pass_kind.PassKind.{PassKind}
 use Rattle.handler_chain.specs.Opinion.{acted, opening}
-use Rattle.handler_chain.specs.Walk.{Served, Walked, walked, halted, Next, after, stop, next_of, settled, onward, walk}
+use Rattle.handler_chain.specs.Walk.{Served, Walked, walked, halted, Next, after, stop, next_of, new_or_overrun, onward, walk}
 use Rattle.handler_chain.specs.Route.{KeptAnswers}
 use Rattle.handler_chain.specs.Pass.{Visit, visit, Answering, PassState, pass_state, answers_of, decides, is_incomplete, served_past, serving, pass_after}
 use Rattle.handler_chain.specs.Retell.{Telling, telling, replaying, ResumesAsking}
@@ -122,11 +122,11 @@ module _ (State : Type 0) where
         let left : ℕ = count t in
         let v : Served (PassState State) = serving kind kept answering rule at g in
         let new : Opinion = acted kind (action_at rule.control v.deciding) v.answer v.deciding entry o in
-        let last : Opinion = settled (action_at rule.control v.deciding) left new in
+        let last : Opinion = new_or_overrun (action_at rule.control v.deciding) left new in
         let next : Next = next_of (action_at rule.control v.deciding) left new in
         let on : Served (PassState Telling) → Walked (PassState Telling) = λ x.
         let new' : Opinion = acted kind (action_at rule.control x.deciding) x.answer x.deciding entry o in
-        let last' : Opinion = settled (action_at rule.control x.deciding) left new' in
+        let last' : Opinion = new_or_overrun (action_at rule.control x.deciding) left new' in
         if x.stopped then halted o x.state
         else onward (next_of (action_at rule.control x.deciding) left new') (λ n. walk kind (serving kind later replaying) n t (at + 1) entry last' x.state) (walked last' x.state) in
         walks_by_line v.stopped rule at v g.visits o _ on refl (line_resumes rule at g.past g.visits g.state) (refl, refl)

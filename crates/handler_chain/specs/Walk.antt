@@ -59,9 +59,9 @@ next_of (actions.Jump n) left new = if nat_le n left then after n else stop
 next_of action left new = if ends action new then stop else after 0
 
 -- the state after a line; a jump over more nodes than are left fails
-abbrev pub settled : Action → ℕ → Opinion → Opinion
-settled (actions.Jump n) left new = if nat_le n left then new else overrun
-settled action left new = new
+abbrev pub new_or_overrun : Action → ℕ → Opinion → Opinion
+new_or_overrun (actions.Jump n) left new = if nat_le n left then new else overrun
+new_or_overrun action left new = new
 
 -- the walk of what is left, by where the list goes on
 abbrev pub onward : {State : Type 0} → Next → (ℕ → Walked State) → Walked State → Walked State
@@ -82,7 +82,7 @@ walk kind serve zero (line rule rest) at entry opinion state =
     let served = serve rule at state in
     let action = action_at rule.control served.deciding in
     let new = acted kind action served.answer served.deciding entry opinion in
-    let last = settled action (count rest) new in
+    let last = new_or_overrun action (count rest) new in
     if served.stopped then halted opinion served.state
     else onward (next_of action (count rest) new) (λ n.
     walk kind serve n rest (at + 1) entry last served.state) (walked last served.state)

@@ -6,8 +6,8 @@ use Rattle.mod_env.specs.declared.conf.Key.{Key}
 use Rattle.mod_env.specs.declared.conf.Values.{Values}
 use Rattle.mod_env.specs.declared.marks.Mark.{Mark}
 use Rattle.mod_env.specs.declared.value.Piece.{Piece}
-use Rattle.mod_env.specs.Marks.{behind_white}
-use Rattle.mod_env.specs.Conf.{counts, entries_of, entry_at, next_setting, values_within, with_value, without_front}
+use Rattle.mod_env.specs.Marks.{after_white}
+use Rattle.mod_env.specs.Conf.{counts, entries_of, entry_at, next_setting, values_within, with_value, without_leading_white}
 use Rattle.mod_env.specs.Conf.{broken as no_setting, ended as last_setting, one as one_setting, in_front as entry_in_front}
 use Rattle.mod_env.specs.Value.{broken, ended, in_front, next_piece, one, pieces_of, pieces_within}
 
@@ -66,7 +66,7 @@ pub settings_break : (left : ℕ) (values : Values) (marks : List Mark) (total :
 settings_break zero values marks total some e h = absurd (omega (arith, some))
 settings_break (suc n) values marks total some e h = rw e at h
 
-pub settings_out : (left : ℕ) (values : Values) (marks : List Mark) (total : Option Values) (empty : Bool) → left ≡ 0 → empty ≡ (length (behind_white marks) == 0) → values_within left values marks ≡ total
+pub settings_out : (left : ℕ) (values : Values) (marks : List Mark) (total : Option Values) (empty : Bool) → left ≡ 0 → empty ≡ (length (after_white marks) == 0) → values_within left values marks ≡ total
     → cond empty (Some values) None ≡ total
 settings_out left values marks total true is e h = rw (is, ← e) at h
 settings_out left values marks total false is e h = rw (is, ← e) at h
@@ -86,17 +86,17 @@ no_entries (Some more) = refl
 no_entries None = refl
 
 module _ (front : List EnvLine) (line : List ℕ) (lines rest : List (List ℕ)) (total : Option (List EnvLine)) (is : lines ≡ line ∷ rest) (h : behind_entries front (entries_of lines) ≡ total) where
-  pub line_passed : false ≡ counts (without_front line) → behind_entries front (entries_of rest) ≡ total
+  pub line_passed : false ≡ counts (without_leading_white line) → behind_entries front (entries_of rest) ≡ total
   line_passed e = rw (is, ← e) at h
 
-  pub line_taken : (entry : EnvLine) → true ≡ counts (without_front line) → Some entry ≡ entry_at (without_front line) → behind_entries (front ++ entry ∷ []) (entries_of rest) ≡ total
+  pub line_taken : (entry : EnvLine) → true ≡ counts (without_leading_white line) → Some entry ≡ entry_at (without_leading_white line) → behind_entries (front ++ entry ∷ []) (entries_of rest) ≡ total
   line_taken entry e f = one_more_entry front entry (entries_of rest) ∙ (rw (is, ← e, ← f) at h)
 
   no_front : (more : Option (List EnvLine)) → behind_entries front (entry_in_front None more) ≡ None
   no_front (Some more) = refl
   no_front None = refl
 
-  pub line_broken : true ≡ counts (without_front line) → None ≡ entry_at (without_front line) → None ≡ total
+  pub line_broken : true ≡ counts (without_leading_white line) → None ≡ entry_at (without_leading_white line) → None ≡ total
   line_broken e f = sym (no_front (entries_of rest)) ∙ (rw (is, ← e, ← f) at h)
 
 pub lines_out : (front : List EnvLine) (lines : List (List ℕ)) (total : Option (List EnvLine)) → lines ≡ [] → behind_entries front (entries_of lines) ≡ total → Some front ≡ total

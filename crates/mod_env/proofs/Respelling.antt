@@ -16,11 +16,11 @@ use Rattle.mod_env.specs.declared.conf.Key.{Key}
 use Rattle.mod_env.specs.declared.conf.Key.TheVariants.{Default, Override}
 use Rattle.mod_env.specs.declared.conf.Values.{Values}
 use Rattle.mod_env.specs.declared.conf.EnvLine.{EnvLine}
-use Rattle.mod_env.specs.Marks.{begins_with, behind_white, is_byte, is_white_mark, marks_of, text_of}
+use Rattle.mod_env.specs.Marks.{begins_with, after_white, is_byte, is_white_mark, marks_of, text_of}
 use Rattle.mod_env.specs.Value.{is_sigil, next_piece, one, pieces_of, pieces_within, place}
 use Rattle.mod_env.specs.Conf as conf
 use Rattle.mod_env.specs.Conf.{values_of}
-use Rattle.mod_env.specs.Spelling.{Follows, Given, IsPassedOver, SpellsConf, SpellsEntry, SpellsLines, SpellsPiece, SpellsPlace, SpellsQuoted, SpellsSetting, SpellsSettings, SpellsValue, SpellsWord, is_end, opens, quotes, settled, word_of}
+use Rattle.mod_env.specs.Spelling.{Follows, Given, IsPassedOver, SpellsConf, SpellsEntry, SpellsLines, SpellsPiece, SpellsPlace, SpellsQuoted, SpellsSetting, SpellsSettings, SpellsValue, SpellsWord, is_end, opens, quotes, values_after, word_of}
 
 -- ---- the first place
 
@@ -112,11 +112,11 @@ pub both : (a b : Bool) → (a && b) ≡ true → (a ≡ true) × (b ≡ true)
 both true b e = (refl, e)
 both false b e = absurd cc
 
-white_skipped : (white rest : List Mark) → list_all is_white_mark white ≡ true → behind_white (white ++ rest) ≡ behind_white rest
+white_skipped : (white rest : List Mark) → list_all is_white_mark white ≡ true → after_white (white ++ rest) ≡ after_white rest
 white_skipped [] rest blank = refl
 white_skipped (m ∷ ms) rest blank = let parts = both (is_white_mark m) (list_all is_white_mark ms) blank in rw parts.0 (white_skipped ms rest parts.1)
 
-all_white : (text : List Mark) → list_all is_white_mark text ≡ true → behind_white text ≡ []
+all_white : (text : List Mark) → list_all is_white_mark text ≡ true → after_white text ≡ []
 all_white [] blank = refl
 all_white (m ∷ ms) blank = let parts = both (is_white_mark m) (list_all is_white_mark ms) blank in rw parts.0 (all_white ms parts.1)
 
@@ -198,7 +198,7 @@ setting_is_longer key value text behind s =
     omega (arith, ap length s.text_is, white, word, word_is_some key, no_longer value s.at behind s.spelled)
 
 settings_within : (n : ℕ) (given : List Given) (values : Values) (text : List Mark) → length text ≤ n → SpellsSettings given text
-    → conf.values_within n values text ≡ Some (settled given values)
+    → conf.values_within n values text ≡ Some (values_after given values)
 settings_within zero [] values text few s = rw (all_white text s) refl
 settings_within zero (given ∷ more) values text few s = let longer = setting_is_longer given.key given.value text s.0 s.1 in absurd (omega arith)
 settings_within (suc n) [] values text few s = rw (all_white text s) refl
@@ -208,13 +208,13 @@ settings_within (suc n) (given ∷ more) values text few s =
     rw (setting_is_read given.key given.value text s.0 s.1, value_is_read given.value found.inner found.spelled)
     (settings_within n more (conf.with_value given.key given.value values) s.0 (omega arith) s.2)
 
-pub settings_are_read : (given : List Given) (text : List Mark) → SpellsSettings given text → values_of text ≡ Some (settled given conf.no_values)
+pub settings_are_read : (given : List Given) (text : List Mark) → SpellsSettings given text → values_of text ≡ Some (values_after given conf.no_values)
 unfolding values_of
 settings_are_read given text s = settings_within (length text) given conf.no_values text (omega arith) s
 
 -- ---- lines
 
-front_skipped : (white rest : List ℕ) → list_all is_white white ≡ true → conf.without_front (white ++ rest) ≡ conf.without_front rest
+front_skipped : (white rest : List ℕ) → list_all is_white white ≡ true → conf.without_leading_white (white ++ rest) ≡ conf.without_leading_white rest
 front_skipped [] rest blank = refl
 front_skipped (b ∷ bs) rest blank = let parts = both (is_white b) (list_all is_white bs) blank in rw parts.0 (front_skipped bs rest parts.1)
 
@@ -225,7 +225,7 @@ name_is_read name tail settings none (inl e) =
 name_is_read name tail settings none (inr f) =
     rw (f.1, first_behind is_white name f.0 settings none f.2) (take-append_seam name (f.0 ∷ settings), behind_seam name f.0 settings)
 
-stops : (b : ℕ) (bs : List ℕ) → is_white b ≡ false → conf.without_front (b ∷ bs) ≡ b ∷ bs
+stops : (b : ℕ) (bs : List ℕ) → is_white b ≡ false → conf.without_leading_white (b ∷ bs) ≡ b ∷ bs
 stops b bs e = rw e refl
 
 counted : (b : ℕ) (bs : List ℕ) → (b == 35) ≡ false → conf.counts (b ∷ bs) ≡ true
@@ -241,28 +241,28 @@ module _ (entry : EnvLine) (line : List ℕ) (s : SpellsEntry entry line) where
       × (after_first is_white (s.first ∷ s.others ++ s.tail) ≡ s.settings)
   named = name_is_read (s.first ∷ s.others) s.tail s.settings s.unbroken s.follows
 
-  front : conf.without_front line ≡ s.first ∷ s.others ++ s.tail
+  front : conf.without_leading_white line ≡ s.first ∷ s.others ++ s.tail
   front =
-      ap conf.without_front s.line_is ∙ front_skipped s.white (s.first ∷ s.others ++ s.tail) s.is_blank
+      ap conf.without_leading_white s.line_is ∙ front_skipped s.white (s.first ∷ s.others ++ s.tail) s.is_blank
       ∙ stops s.first (s.others ++ s.tail) (or_false is_white (is_white s.first) (list_any is_white s.others) s.unbroken).0
 
-  it_counts : conf.counts (conf.without_front line) ≡ true
+  it_counts : conf.counts (conf.without_leading_white line) ≡ true
   it_counts = ap conf.counts front ∙ counted s.first (s.others ++ s.tail) s.uncommented
 
-  entry_is_read : conf.entry_at (conf.without_front line) ≡ Some entry
+  entry_is_read : conf.entry_at (conf.without_leading_white line) ≡ Some entry
   entry_is_read =
       ap conf.entry_at front
-      ∙ entry_by (s.first ∷ s.others ++ s.tail) (s.first ∷ s.others) s.settings (settled s.given conf.no_values) named.0 named.1 s.unassigned
+      ∙ entry_by (s.first ∷ s.others ++ s.tail) (s.first ∷ s.others) s.settings (values_after s.given conf.no_values) named.0 named.1 s.unassigned
       (settings_are_read s.given (marks_of s.settings) s.spelled)
       ∙ ap (λ (e : EnvLine). Some e) (sym s.entry_is)
 
-by_comment : (comment : List ℕ) → (comment ≡ []) ⊎ ((more : List ℕ) × (comment ≡ 35 ∷ more)) → conf.counts (conf.without_front comment) ≡ false
+by_comment : (comment : List ℕ) → (comment ≡ []) ⊎ ((more : List ℕ) × (comment ≡ 35 ∷ more)) → conf.counts (conf.without_leading_white comment) ≡ false
 by_comment comment (inl e) = rw e refl
 by_comment comment (inr e) = rw e.1 refl
 
-is_passed : (line : List ℕ) → IsPassedOver line → conf.counts (conf.without_front line) ≡ false
+is_passed : (line : List ℕ) → IsPassedOver line → conf.counts (conf.without_leading_white line) ≡ false
 is_passed line s =
-    ap (λ (l : List ℕ). conf.counts (conf.without_front l)) s.line_is ∙ ap conf.counts (front_skipped s.white s.comment s.is_blank)
+    ap (λ (l : List ℕ). conf.counts (conf.without_leading_white l)) s.line_is ∙ ap conf.counts (front_skipped s.white s.comment s.is_blank)
     ∙ by_comment s.comment s.is_comment
 
 pub lines_are_read : (entries : List EnvLine) (lines : List (List ℕ)) → SpellsLines entries lines → conf.entries_of lines ≡ Some entries

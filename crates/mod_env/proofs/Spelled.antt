@@ -16,11 +16,11 @@ use Rattle.mod_env.specs.declared.conf.Key.{Key}
 use Rattle.mod_env.specs.declared.conf.Key.TheVariants.{Default, Override}
 use Rattle.mod_env.specs.declared.conf.Values.{Values}
 use Rattle.mod_env.specs.declared.conf.EnvLine.{EnvLine}
-use Rattle.mod_env.specs.Marks.{begins_with, behind_white, is_byte, is_white_mark, marks_of, text_of}
+use Rattle.mod_env.specs.Marks.{begins_with, after_white, is_byte, is_white_mark, marks_of, text_of}
 use Rattle.mod_env.specs.Value.{Next, broken, by_next, closed, ended, in_front, is_sigil, next_piece, one, pieces_of, pieces_within}
 use Rattle.mod_env.specs.Conf as conf
 use Rattle.mod_env.specs.Conf.{values_of}
-use Rattle.mod_env.specs.Spelling.{Follows, Given, IsPassedOver, SpellsConf, SpellsEntry, SpellsLines, SpellsPiece, SpellsPlace, SpellsQuoted, SpellsSetting, SpellsSettings, SpellsValue, SpellsWord, is_end, opens, quotes, settled, word_of}
+use Rattle.mod_env.specs.Spelling.{Follows, Given, IsPassedOver, SpellsConf, SpellsEntry, SpellsLines, SpellsPiece, SpellsPlace, SpellsQuoted, SpellsSetting, SpellsSettings, SpellsValue, SpellsWord, is_end, opens, quotes, values_after, word_of}
 use Rattle.mod_env.proofs.Respelling.{both, none_before, opened, quoted, some_marks}
 
 -- ---- the first place
@@ -240,7 +240,7 @@ module _ (key : Key) (white at text : List Mark) (is : text ≡ white ++ (word_o
 
 pub record Skipped (text : List Mark) : Type 0 where
   pub white : List Mark
-  pub is : text ≡ white ++ behind_white text
+  pub is : text ≡ white ++ after_white text
   pub is_blank : list_all is_white_mark white ≡ true
 
 skip_one : (m : Mark) (ms : List Mark) → Skipped ms → (white : Bool) → is_white_mark m ≡ white → Skipped (m ∷ ms)
@@ -259,7 +259,7 @@ is_empty : {A : Type 0} (xs : List A) → (length xs == 0) ≡ true → xs ≡ [
 is_empty [] e = refl
 is_empty (x ∷ xs) e = absurd (grind (arith, nat_tests))
 
-only_white : (text : List Mark) (s : Skipped text) → behind_white text ≡ [] → list_all is_white_mark text ≡ true
+only_white : (text : List Mark) (s : Skipped text) → after_white text ≡ [] → list_all is_white_mark text ≡ true
 only_white text s none =
     let is : text ≡ s.white = s.is ∙ ap (λ (t : List Mark). s.white ++ t) none ∙ append-nil s.white in
     ap (list_all is_white_mark) is ∙ s.is_blank
@@ -272,34 +272,34 @@ begun (c ∷ cs) (m ∷ ms) e =
     ap (λ (n : Mark). n ∷ ms) (is_that c m parts.0) ∙ ap (λ (t : List Mark). marks.Byte c ∷ t) (begun cs ms parts.1)
 
 module _ (text : List Mark) (s : Skipped text) where
-  word_at : (key : Key) (rest : List Mark) → behind_white text ≡ word_of key ++ rest → SetsNext (conf.at_value key rest) text
+  word_at : (key : Key) (rest : List Mark) → after_white text ≡ word_of key ++ rest → SetsNext (conf.at_value key rest) text
   word_at key rest is = value_set key s.white rest text (s.is ∙ ap (λ (t : List Mark). s.white ++ t) is) s.is_blank
 
-  by_override : (is : Bool) → begins_with (codes "OVERRIDE=") (behind_white text) ≡ is
-      → SetsNext (cond is (conf.at_value Override (drop 9 (behind_white text))) conf.broken) text
-  by_override true e = word_at Override (drop 9 (behind_white text)) (begun (codes "OVERRIDE=") (behind_white text) e)
+  by_override : (is : Bool) → begins_with (codes "OVERRIDE=") (after_white text) ≡ is
+      → SetsNext (cond is (conf.at_value Override (drop 9 (after_white text))) conf.broken) text
+  by_override true e = word_at Override (drop 9 (after_white text)) (begun (codes "OVERRIDE=") (after_white text) e)
   by_override false e = tt
 
-  by_default : (is : Bool) → begins_with (codes "DEFAULT=") (behind_white text) ≡ is
-      → SetsNext (cond is (conf.at_value Default (drop 8 (behind_white text)))
-      (cond (begins_with (codes "OVERRIDE=") (behind_white text)) (conf.at_value Override (drop 9 (behind_white text))) conf.broken)) text
-  by_default true e = word_at Default (drop 8 (behind_white text)) (begun (codes "DEFAULT=") (behind_white text) e)
-  by_default false e = by_override (begins_with (codes "OVERRIDE=") (behind_white text)) refl
+  by_default : (is : Bool) → begins_with (codes "DEFAULT=") (after_white text) ≡ is
+      → SetsNext (cond is (conf.at_value Default (drop 8 (after_white text)))
+      (cond (begins_with (codes "OVERRIDE=") (after_white text)) (conf.at_value Override (drop 9 (after_white text))) conf.broken)) text
+  by_default true e = word_at Default (drop 8 (after_white text)) (begun (codes "DEFAULT=") (after_white text) e)
+  by_default false e = by_override (begins_with (codes "OVERRIDE=") (after_white text)) refl
 
-  by_end : (is : Bool) → (length (behind_white text) == 0) ≡ is
-      → SetsNext (cond is conf.ended (cond (begins_with (codes "DEFAULT=") (behind_white text)) (conf.at_value Default (drop 8 (behind_white text)))
-      (cond (begins_with (codes "OVERRIDE=") (behind_white text)) (conf.at_value Override (drop 9 (behind_white text))) conf.broken))) text
-  by_end true e = only_white text s (is_empty (behind_white text) e)
-  by_end false e = by_default (begins_with (codes "DEFAULT=") (behind_white text)) refl
+  by_end : (is : Bool) → (length (after_white text) == 0) ≡ is
+      → SetsNext (cond is conf.ended (cond (begins_with (codes "DEFAULT=") (after_white text)) (conf.at_value Default (drop 8 (after_white text)))
+      (cond (begins_with (codes "OVERRIDE=") (after_white text)) (conf.at_value Override (drop 9 (after_white text))) conf.broken))) text
+  by_end true e = only_white text s (is_empty (after_white text) e)
+  by_end false e = by_default (begins_with (codes "DEFAULT=") (after_white text)) refl
 
 setting_spelled : (text : List Mark) → SetsNext (conf.next_setting text) text
-setting_spelled text = by_end text (skipped text) (length (behind_white text) == 0) refl
+setting_spelled text = by_end text (skipped text) (length (after_white text) == 0) refl
 
 -- ---- the settings of a line
 
 abbrev pub SettlesTo : Values → Option Values → List Mark → Type 0
 SettlesTo values None text = Unit {0}
-SettlesTo values (Some all) text = (given : List Given) × SpellsSettings given text × (settled given values ≡ all)
+SettlesTo values (Some all) text = (given : List Given) × SpellsSettings given text × (values_after given values ≡ all)
 
 whole_setting : (key : Key) (inner text behind : List Mark) (value : List Piece) → Sets key inner text behind → SpellsValue value inner
     → SpellsSetting key value text behind
@@ -330,12 +330,12 @@ module _ (more : Values → List Mark → Option Values) (spelled : (values : Va
   by_setting_spelled conf.broken s = tt
   by_setting_spelled (conf.one key inner behind) s = by_value key inner behind s (pieces_of inner) (value_is_spelled inner)
 
-none_left : (values : Values) (text : List Mark) (is : Bool) → (length (behind_white text) == 0) ≡ is → SettlesTo values (cond is (Some values) None) text
-none_left values text true e = ([], only_white text (skipped text) (is_empty (behind_white text) e), refl)
+none_left : (values : Values) (text : List Mark) (is : Bool) → (length (after_white text) == 0) ≡ is → SettlesTo values (cond is (Some values) None) text
+none_left values text true e = ([], only_white text (skipped text) (is_empty (after_white text) e), refl)
 none_left values text false e = tt
 
 settings_spelled : (n : ℕ) (values : Values) (text : List Mark) → SettlesTo values (conf.values_within n values text) text
-settings_spelled zero values text = none_left values text (length (behind_white text) == 0) refl
+settings_spelled zero values text = none_left values text (length (after_white text) == 0) refl
 settings_spelled (suc n) values text = by_setting_spelled (conf.values_within n) (settings_spelled n) values text (conf.next_setting text) (setting_spelled text)
 
 values_spelled : (text : List Mark) → SettlesTo conf.no_values (values_of text) text
@@ -346,9 +346,9 @@ values_spelled text = settings_spelled (length text) conf.no_values text
 
 pub record Fronted (line : List ℕ) : Type 0 where
   pub white : List ℕ
-  pub is : line ≡ white ++ conf.without_front line
+  pub is : line ≡ white ++ conf.without_leading_white line
   pub is_blank : list_all is_white white ≡ true
-  pub head : (conf.without_front line ≡ []) ⊎ ((b : ℕ) × (bs : List ℕ) × (conf.without_front line ≡ b ∷ bs) × (is_white b ≡ false))
+  pub head : (conf.without_leading_white line ≡ []) ⊎ ((b : ℕ) × (bs : List ℕ) × (conf.without_leading_white line ≡ b ∷ bs) × (is_white b ≡ false))
 
 front_one : (b : ℕ) (bs : List ℕ) → Fronted bs → (white : Bool) → is_white b ≡ white → Fronted (b ∷ bs)
 front_one b bs f true e = record {
@@ -368,10 +368,10 @@ is_comment : (text : List ℕ) → conf.counts text ≡ false → (text ≡ []) 
 is_comment [] e = inl refl
 is_comment (b ∷ bs) e = let same : b ≡ 35 = grind (arith, nat_tests) in inr (bs, ap (λ (n : ℕ). n ∷ bs) same)
 
-passed : (line : List ℕ) → conf.counts (conf.without_front line) ≡ false → IsPassedOver line
+passed : (line : List ℕ) → conf.counts (conf.without_leading_white line) ≡ false → IsPassedOver line
 passed line e =
     let f = fronted line in
-    record { white = f.white; comment = conf.without_front line; line_is = f.is; is_blank = f.is_blank; is_comment = is_comment (conf.without_front line) e }
+    record { white = f.white; comment = conf.without_leading_white line; line_is = f.is; is_blank = f.is_blank; is_comment = is_comment (conf.without_leading_white line) e }
 
 not_comment : (b : ℕ) (bs : List ℕ) → conf.counts (b ∷ bs) ≡ true → (b == 35) ≡ false
 not_comment b bs e = grind (arith, nat_tests)
@@ -442,8 +442,8 @@ module _ (line white : List ℕ) (b : ℕ) (bs : List ℕ) (is : line ≡ white 
   by_name false at entry e =
       by_values at (values_of (marks_of (after_first is_white (b ∷ bs)))) (values_spelled (marks_of (after_first is_white (b ∷ bs)))) entry e
 
-by_head : (line : List ℕ) (entry : EnvLine) (f : Fronted line) → (conf.without_front line ≡ []) ⊎ ((b : ℕ) × (bs : List ℕ) × (conf.without_front line ≡ b ∷ bs) × (is_white b ≡ false))
-    → conf.counts (conf.without_front line) ≡ true → conf.entry_at (conf.without_front line) ≡ Some entry → SpellsEntry entry line
+by_head : (line : List ℕ) (entry : EnvLine) (f : Fronted line) → (conf.without_leading_white line ≡ []) ⊎ ((b : ℕ) × (bs : List ℕ) × (conf.without_leading_white line ≡ b ∷ bs) × (is_white b ≡ false))
+    → conf.counts (conf.without_leading_white line) ≡ true → conf.entry_at (conf.without_leading_white line) ≡ Some entry → SpellsEntry entry line
 by_head line entry f (inl none) e found = let not : false ≡ true = rw none at e in absurd cc
 by_head line entry f (inr h) e found =
     let counted : conf.counts (h.0 ∷ h.1) ≡ true = rw h.2 at e in
@@ -451,7 +451,7 @@ by_head line entry f (inr h) e found =
     by_name line f.white h.0 h.1 (f.is ∙ ap (λ (t : List ℕ). f.white ++ t) h.2) f.is_blank h.3 (not_comment h.0 h.1 counted)
     (has_byte 61 (before_first is_white (h.0 ∷ h.1))) refl entry read
 
-entry_spelled : (line : List ℕ) (entry : EnvLine) → conf.counts (conf.without_front line) ≡ true → conf.entry_at (conf.without_front line) ≡ Some entry
+entry_spelled : (line : List ℕ) (entry : EnvLine) → conf.counts (conf.without_leading_white line) ≡ true → conf.entry_at (conf.without_leading_white line) ≡ Some entry
     → SpellsEntry entry line
 entry_spelled line entry e found = by_head line entry (fronted line) (fronted line).head e found
 
@@ -469,15 +469,15 @@ line_entry line lines more t None spelled = tt
 line_entry line lines None t (Some entry) spelled = tt
 line_entry line lines (Some entries) t (Some entry) spelled = inr (entry, entries, refl, spelled entry refl, t)
 
-line_spelled : (line : List ℕ) (lines : List (List ℕ)) (more : Option (List EnvLine)) → LinesRead more lines → (is : Bool) → conf.counts (conf.without_front line) ≡ is
-    → LinesRead (cond is (conf.in_front (conf.entry_at (conf.without_front line)) more) more) (line ∷ lines)
+line_spelled : (line : List ℕ) (lines : List (List ℕ)) (more : Option (List EnvLine)) → LinesRead more lines → (is : Bool) → conf.counts (conf.without_leading_white line) ≡ is
+    → LinesRead (cond is (conf.in_front (conf.entry_at (conf.without_leading_white line)) more) more) (line ∷ lines)
 line_spelled line lines more t true e =
-    line_entry line lines more t (conf.entry_at (conf.without_front line)) (λ entry f. entry_spelled line entry e f)
+    line_entry line lines more t (conf.entry_at (conf.without_leading_white line)) (λ entry f. entry_spelled line entry e f)
 line_spelled line lines more t false e = line_passed line lines (passed line e) more t
 
 lines_spelled : (lines : List (List ℕ)) → LinesRead (conf.entries_of lines) lines
 lines_spelled [] = refl
-lines_spelled (line ∷ lines) = line_spelled line lines (conf.entries_of lines) (lines_spelled lines) (conf.counts (conf.without_front line)) refl
+lines_spelled (line ∷ lines) = line_spelled line lines (conf.entries_of lines) (lines_spelled lines) (conf.counts (conf.without_leading_white line)) refl
 
 pub conf_is_spelled : (entries : List EnvLine) (text : List ℕ) → conf.conf_of text ≡ Some entries → SpellsConf entries text
 conf_is_spelled entries text e = subst (λ (o : Option (List EnvLine)). LinesRead o (lines_of text)) e (lines_spelled (lines_of text))

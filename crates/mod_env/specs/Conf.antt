@@ -11,8 +11,8 @@ use Rattle.mod_env.specs.declared.conf.Key.TheVariants.{Default, Override}
 use Rattle.mod_env.specs.declared.conf.Values.{Values}
 use Rattle.mod_env.specs.declared.conf.EnvLine.{EnvLine}
 use Rattle.mod_env.specs.declared.conf.Setting.{Setting as LentSetting}
-use Rattle.mod_env.specs.declared.conf.Setting.TheVariants as lent
-use Rattle.mod_env.specs.Marks.{begins_with, behind, behind_white, is_byte, is_white_mark, marks_of}
+use Rattle.mod_env.specs.declared.conf.Setting.TheVariants as borrowed
+use Rattle.mod_env.specs.Marks.{begins_with, behind, after_white, is_byte, is_white_mark, marks_of}
 use Rattle.mod_env.specs.Value.{pieces_of}
 
 -- ---- the settings of a line
@@ -54,7 +54,7 @@ at_key marks =
     else broken
 
 abbrev pub next_setting : List Mark → Setting
-next_setting marks = at_key (behind_white marks)
+next_setting marks = at_key (after_white marks)
 
 -- no value is given
 abbrev pub no_values : Values
@@ -78,7 +78,7 @@ by_setting more values (one key value rest) = by_pieces more values key rest (pi
 
 -- the values of at most n settings, and those that were found before
 abbrev pub values_within : ℕ → Values → List Mark → Option Values
-values_within zero values marks = if length (behind_white marks) == 0 then Some values else None
+values_within zero values marks = if length (after_white marks) == 0 then Some values else None
 values_within (suc n) values marks = by_setting (values_within n) values (next_setting marks)
 
 -- the values in what follows a name, if it is well formed; there are at most as many settings as bytes
@@ -88,8 +88,8 @@ values_of marks = values_within (length marks) no_values marks
 -- ---- lines
 
 -- a line without leading white space
-abbrev pub without_front : List ℕ → List ℕ
-without_front line = behind is_white line
+abbrev pub without_leading_white : List ℕ → List ℕ
+without_leading_white line = behind is_white line
 
 -- a line counts unless it is all white space, or a comment
 abbrev pub counts : List ℕ → Bool
@@ -114,8 +114,8 @@ in_front None entries = None
 -- the variables of lines, if each line that counts is well formed
 abbrev pub entries_of : List (List ℕ) → Option (List EnvLine)
 entries_of [] = Some []
-entries_of (line ∷ lines) = if counts (without_front line)
-    then in_front (entry_at (without_front line)) (entries_of lines) else entries_of lines
+entries_of (line ∷ lines) = if counts (without_leading_white line)
+    then in_front (entry_at (without_leading_white line)) (entries_of lines) else entries_of lines
 
 -- the variables of a text
 abbrev pub conf_of : List ℕ → Option (List EnvLine)
@@ -123,6 +123,6 @@ conf_of text = entries_of (lines_of text)
 
 -- the plain value of the code's type
 abbrev pub plain_setting : LentSetting → Setting
-plain_setting lent.Ended = ended
-plain_setting lent.Broken = broken
-plain_setting (lent.One key value rest) = one key value.now rest.now
+plain_setting borrowed.Ended = ended
+plain_setting borrowed.Broken = broken
+plain_setting (borrowed.One key value rest) = one key value.now rest.now

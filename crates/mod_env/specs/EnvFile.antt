@@ -5,7 +5,7 @@ use Rattle.std.specs.List.{ends_with, filter_map, list_all, starts_with}
 use Rattle.pam_base.specs.Bytes.{has_byte}
 use Rattle.pam_base.specs.Lines.{lines_of}
 use Rattle.env_list.specs.Environment.{name_in, value_in}
-use Rattle.mod_env.specs.Conf.{without_front}
+use Rattle.mod_env.specs.Conf.{without_leading_white}
 
 abbrev pub is_name_byte : ℕ → Bool
 is_name_byte b = is_ascii_alphanumeric b || b == 95
@@ -39,7 +39,7 @@ assignment_at text =
 
 -- what a line sets, as an argument of pam_putenv(3); other lines, comments too, are skipped
 abbrev pub assignment_in : List ℕ → Option (List ℕ)
-assignment_in line = assignment_at (without_export (without_front line))
+assignment_in line = assignment_at (without_export (without_leading_white line))
 
 -- what the lines of a text set, in order
 unfoldable pub assignments_of : List ℕ → List (List ℕ)

@@ -37,8 +37,8 @@ abbrev pub behind : {X : Type 0} → (X → Bool) → List X → List X
 behind white [] = []
 behind white (x ∷ xs) = if white x then behind white xs else x ∷ xs
 
-abbrev pub behind_white : List Mark → List Mark
-behind_white marks = behind is_white_mark marks
+abbrev pub after_white : List Mark → List Mark
+after_white marks = behind is_white_mark marks
 
 -- the bytes themselves
 abbrev pub byte_of : Mark → Option ℕ

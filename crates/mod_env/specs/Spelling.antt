@@ -103,9 +103,9 @@ SpellsSettings (given ∷ more) text =
     × SpellsSettings more behind
 
 -- the values that settings give: for each key the last one, or these values if there is none
-abbrev pub settled : List Given → Values → Values
-settled [] values = values
-settled (given ∷ more) values = settled more (with_value given.key given.value values)
+abbrev pub values_after : List Given → Values → Values
+values_after [] values = values
+values_after (given ∷ more) values = values_after more (with_value given.key given.value values)
 
 -- ---- lines
 
@@ -129,7 +129,7 @@ pub record SpellsEntry (entry : EnvLine) (line : List ℕ) : Type 0 where
   pub unassigned : has_byte 61 (first ∷ others) ≡ false
   pub follows : Follows tail settings
   pub spelled : SpellsSettings given (marks_of settings)
-  pub entry_is : entry ≡ record { name = first ∷ others; values = settled given no_values }
+  pub entry_is : entry ≡ record { name = first ∷ others; values = values_after given no_values }
 
 -- A line that is skipped: all white space, or a comment after white space.
 pub record IsPassedOver (line : List ℕ) : Type 0 where

@@ -5,7 +5,7 @@ use Rattle.mod_env.specs.declared.marks.Mark.TheVariants as marks
 use Rattle.mod_env.specs.declared.value.Piece.{Piece}
 use Rattle.mod_env.specs.declared.value.Piece.TheVariants.{Byte, Variable, Item}
 use Rattle.mod_env.specs.declared.value.Next.{Next as LentNext}
-use Rattle.mod_env.specs.declared.value.Next.TheVariants as lent
+use Rattle.mod_env.specs.declared.value.Next.TheVariants as borrowed
 use Rattle.mod_env.specs.Marks.{begins_with, is_byte, text_of}
 
 -- how a value begins: it ends, there is a piece with what follows it, or it is malformed
@@ -60,6 +60,6 @@ pieces_of value = pieces_within (length value) value
 
 -- the plain value of the code's type
 abbrev pub plain_next : LentNext → Next
-plain_next lent.Ended = ended
-plain_next lent.Broken = broken
-plain_next (lent.One piece rest) = one piece rest.now
+plain_next borrowed.Ended = ended
+plain_next borrowed.Broken = broken
+plain_next (borrowed.One piece rest) = one piece rest.now

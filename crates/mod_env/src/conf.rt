@@ -4,7 +4,7 @@ ghost use Rattle.pam_base.specs.White.{is_white};
 ghost use Rattle.mod_env.specs.Conf.{at_key, at_value, conf_of, counts, ends_word, entry_at, next_setting, no_values, plain_setting, quoted, unquoted, values_of, with_value};
 ghost use Rattle.mod_env.specs.Marks.{is_byte, is_white_mark};
 
-use crate::marks::{Mark, begins_with, behind_white, is_byte, is_white_mark, marks_of};
+use crate::marks::{Mark, after_white, begins_with, is_byte, is_white_mark, marks_of};
 use crate::value::{Pieces, pieces_of};
 use pam_base::{Lines, NoMemory, Sequence, Text, first_place, is_white};
 use std::alloc::Global;
@@ -50,7 +50,7 @@ pub fn conf_of(alloc: Global, text: &[u8]) -> Result<Option<Entries>, NoMemory>
     let mut entries = Entries::new(alloc);
     let mut lines = Lines::new(text);
     while let Some(line) = lines.next_line() {
-        let line = behind_white(line);
+        let line = after_white(line);
         if counts(line) {
             match entry_at(alloc, line)? {
                 Some(entry) => entries.push(entry)?,
@@ -78,7 +78,7 @@ fn entry_at(alloc: Global, text: &[u8]) -> Result<Option<EnvLine>, NoMemory>
     if first_place(b'=', name).is_some() {
         return Ok(None);
     }
-    let marks = marks_of(alloc, behind_name(text))?;
+    let marks = marks_of(alloc, after_name(text))?;
     match values_of(alloc, &marks)? {
         Some(values) => Ok(Some(EnvLine {
             name: Text::from_bytes(alloc, name)?,
@@ -97,7 +97,7 @@ fn name_at(text: &[u8]) -> &[u8]
     }
 }
 
-fn behind_name(text: &[u8]) -> &[u8]
+fn after_name(text: &[u8]) -> &[u8]
     ensures { result.now ≡ after_first is_white text.now }
 {
     match white_place(text) {
@@ -136,7 +136,7 @@ fn values_of(alloc: Global, marks: &[Mark]) -> Result<Option<Values>, NoMemory>
             },
         }
     }
-    if behind_white(rest).is_empty() {
+    if after_white(rest).is_empty() {
         Ok(Some(values))
     } else {
         Ok(None)
@@ -161,7 +161,7 @@ fn with_value(key: Key, pieces: Pieces, values: Values) -> Values
 fn next_setting(marks: &[Mark]) -> Setting<'_>
     ensures { plain_setting result ≡ next_setting marks.now }
 {
-    at_key(behind_white(marks))
+    at_key(after_white(marks))
 }
 
 fn at_key(marks: &[Mark]) -> Setting<'_>

@@ -5,7 +5,7 @@ ghost use Rattle.env_list.specs.Environment.{name_in, value_in};
 ghost use Rattle.mod_env.specs.EnvFile.{assignment_at, assignment_in, assignments_of, is_name, is_name_byte, unquoted, without_export, without_last, without_quotes};
 
 use crate::expand::assignment;
-use crate::marks::behind_white;
+use crate::marks::after_white;
 use pam_base::{Lines, NoMemory, Text, Texts, first_place};
 use std::alloc::Global;
 
@@ -28,7 +28,7 @@ pub fn assignments_of(alloc: Global, text: &[u8]) -> Result<Texts, NoMemory>
 fn assignment_in(alloc: Global, line: &[u8]) -> Result<Option<Text>, NoMemory>
     ensures { IfOk result (λ text. text ≡ assignment_in line.now) }
 {
-    assignment_at(alloc, without_export(behind_white(line)))
+    assignment_at(alloc, without_export(after_white(line)))
 }
 
 fn without_export(text: &[u8]) -> &[u8]

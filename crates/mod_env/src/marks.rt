@@ -109,7 +109,7 @@ pub fn begins_with(word: &[u8], marks: &[Mark]) -> bool
 }
 
 /// What follows leading white space.
-pub(crate) fn behind_white<T: MaybeWhite>(text: &[T]) -> &[T]
+pub(crate) fn after_white<T: MaybeWhite>(text: &[T]) -> &[T]
     ensures { result.now ≡ behind T.white text.now }
 {
     let mut rest = text;

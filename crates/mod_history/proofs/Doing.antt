@@ -29,7 +29,7 @@ use Rattle.mod_history.specs.declared.history.Remembered.{Remembered}
 use Rattle.mod_history.specs.History.{history_of, history_text}
 use Rattle.mod_history.specs.Pwhistory.{at_once, remember_in_history, by_length, renew_if_known, by_remember, by_use, checks_token, history_in, history_limit, history_name, is_refused, pwhistory_plays, refuses_token, remember_of, remembers, renews, stores_text, unsets_item}
 use Rattle.mod_history.specs.Renewal.{hashes_of, renewed}
-use Rattle.mod_history.specs.Standing.{Deed, left, replaced, Does, account_text, entry_hash, hash_by, hash_in, passwd_hash, present_hash, standing_in}
+use Rattle.mod_history.specs.Standing.{Deed, left, replaced, Does, account_text, entry_hash, hash_by, hash_in, passwd_hash, present_hash, history_on_file}
 use Rattle.mod_history.proofs.Renewed.{same}
 
 -- ---- a file that is set
@@ -71,61 +71,61 @@ module _ (path : List ℕ) (call : PlainCall) (room : SeenRoom) where
       Knows stage = present_hash stage.sight.root stage.sight.files user ≡ Some hash
 
       -- a file is set, if nothing fails
-      put : (stage : Stage) (standing : List Remembered) (fails : Bool) → Knows stage → standing_in (file_at (path_of stage.sight.root history_name) stage.sight.files) ≡ Some standing
-          → DoesOne stage.sight (called (answers (write_result (not fails)) (record stage { sight = seen_after fails (path_of stage.sight.root history_name) (history_text (renewed (remember_of call.args) user hash standing)) stage.sight })))
+      put : (stage : Stage) (on_file : List Remembered) (fails : Bool) → Knows stage → history_on_file (file_at (path_of stage.sight.root history_name) stage.sight.files) ≡ Some on_file
+          → DoesOne stage.sight (called (answers (write_result (not fails)) (record stage { sight = seen_after fails (path_of stage.sight.root history_name) (history_text (renewed (remember_of call.args) user hash on_file)) stage.sight })))
       unfolding answers
-      put stage standing true knows stood = (left, refl)
-      put stage standing false knows stood = by (bytes_eq (path_of stage.sight.root history_name) path) refl
+      put stage on_file true knows stood = (left, refl)
+      put stage on_file false knows stood = by (bytes_eq (path_of stage.sight.root history_name) path) refl
         where
           text : List ℕ
-          text = history_text (renewed (remember_of call.args) user hash standing)
+          text = history_text (renewed (remember_of call.args) user hash on_file)
 
           by : (t : Bool) → bytes_eq (path_of stage.sight.root history_name) path ≡ t
-              → DoesOne stage.sight (called (answers (write_result true) (record stage { sight = seen_after false (path_of stage.sight.root history_name) (history_text (renewed (remember_of call.args) user hash standing)) stage.sight })))
+              → DoesOne stage.sight (called (answers (write_result true) (record stage { sight = seen_after false (path_of stage.sight.root history_name) (history_text (renewed (remember_of call.args) user hash on_file)) stage.sight })))
           by true e =
               let is : path_of stage.sight.root history_name ≡ path = (bytes_eq-Decides (path_of stage.sight.root history_name) path).0 e in
-              let new = history_text (renewed (remember_of call.args) user hash standing) in (
+              let new = history_text (renewed (remember_of call.args) user hash on_file) in (
                 replaced user hash,
                 record {
                   code_is = refl;
                   user_is = asked;
                   hash_is = knows;
-                  standing = standing;
-                  stood = ap (λ (p : List ℕ). standing_in (file_at p stage.sight.files)) (sym is) ∙ stood;
+                  on_file = on_file;
+                  stood = ap (λ (p : List ℕ). history_on_file (file_at p stage.sight.files)) (sym is) ∙ stood;
                   stands = ap (λ (p : List ℕ). file_at p (file_put (path_of stage.sight.root history_name) new stage.sight.files)) (sym is) ∙ put_there (path_of stage.sight.root history_name) new stage.sight.files;
                 },
               )
-          by false e = (left, put_past (path_of stage.sight.root history_name) (history_text (renewed (remember_of call.args) user hash standing)) path e stage.sight.files)
+          by false e = (left, put_past (path_of stage.sight.root history_name) (history_text (renewed (remember_of call.args) user hash on_file)) path e stage.sight.files)
 
-      stored : (stage : Stage) (standing : List Remembered) (short : Bool) → Knows stage → standing_in (file_at (path_of stage.sight.root history_name) stage.sight.files) ≡ Some standing
-          → DoesOne stage.sight (by_length short (history_text (renewed (remember_of call.args) user hash standing)) answers stage)
+      stored : (stage : Stage) (on_file : List Remembered) (short : Bool) → Knows stage → history_on_file (file_at (path_of stage.sight.root history_name) stage.sight.files) ≡ Some on_file
+          → DoesOne stage.sight (by_length short (history_text (renewed (remember_of call.args) user hash on_file)) answers stage)
       unfolding answers replaces_file
-      stored stage standing true knows stood = put stage standing (stage.sight.failing 0) knows stood
-      stored stage standing false knows stood = (left, refl)
+      stored stage on_file true knows stood = put stage on_file (stage.sight.failing 0) knows stood
+      stored stage on_file false knows stood = (left, refl)
 
-      used : (stage : Stage) (standing : List Remembered) (refused : Bool) → Knows stage → standing_in (file_at (path_of stage.sight.root history_name) stage.sight.files) ≡ Some standing
-          → DoesOne stage.sight (by_use refused (remember_of call.args) user hash standing answers stage)
+      used : (stage : Stage) (on_file : List Remembered) (refused : Bool) → Knows stage → history_on_file (file_at (path_of stage.sight.root history_name) stage.sight.files) ≡ Some on_file
+          → DoesOne stage.sight (by_use refused (remember_of call.args) user hash on_file answers stage)
       unfolding answers refuses_token unsets_item shows stores_text
-      used stage standing true knows stood = (left, refl)
-      used stage standing false knows stood = stored stage standing (nat_le (length (history_text (renewed (remember_of call.args) user hash standing))) history_limit) knows stood
+      used stage on_file true knows stood = (left, refl)
+      used stage on_file false knows stood = stored stage on_file (nat_le (length (history_text (renewed (remember_of call.args) user hash on_file))) history_limit) knows stood
 
       module _ (token : List ℕ) where
-        by_found : (stage : Stage) (found : Option (List Remembered)) → Knows stage → ((standing : List Remembered) → found ≡ Some standing → standing_in (file_at (path_of stage.sight.root history_name) stage.sight.files) ≡ Some standing)
+        by_found : (stage : Stage) (found : Option (List Remembered)) → Knows stage → ((on_file : List Remembered) → found ≡ Some on_file → history_on_file (file_at (path_of stage.sight.root history_name) stage.sight.files) ≡ Some on_file)
             → DoesOne stage.sight (remember_in_history call (remember_of call.args) user hash token found answers stage)
         unfolding answers sees_caller
         by_found stage None knows stood = (left, refl)
-        by_found stage (Some standing) knows stood = used stage standing (is_refused call.args stage.sight.caller token hash (hashes_of user standing)) knows (stood standing refl)
+        by_found stage (Some on_file) knows stood = used stage on_file (is_refused call.args stage.sight.caller token hash (hashes_of user on_file)) knows (stood on_file refl)
 
         by_long : (stage : Stage) (long : Bool) (text : List ℕ) → Knows stage → file_at (path_of stage.sight.root history_name) stage.sight.files ≡ Some text
             → DoesOne stage.sight (remember_in_history call (remember_of call.args) user hash token (history_in (cond long content.Unreadable (content.Holds text))) answers stage)
-        by_long stage true text knows at = by_found stage None knows (λ standing e. absurd cc)
-        by_long stage false text knows at = by_found stage (history_of text) knows (λ standing e. ap standing_in at ∙ e)
+        by_long stage true text knows at = by_found stage None knows (λ on_file e. absurd cc)
+        by_long stage false text knows at = by_found stage (history_of text) knows (λ on_file e. ap history_on_file at ∙ e)
 
         by_file : (stage : Stage) (o : Option (List ℕ)) (fails : Bool) → Knows stage → file_at (path_of stage.sight.root history_name) stage.sight.files ≡ o
             → DoesOne stage.sight (remember_in_history call (remember_of call.args) user hash token (history_in (content_of fails history_limit o)) answers stage)
         unfolding content_of
-        by_file stage o true knows at = by_found stage None knows (λ standing e. absurd cc)
-        by_file stage None false knows at = by_found stage (Some []) knows (λ standing e. ap standing_in at ∙ e)
+        by_file stage o true knows at = by_found stage None knows (λ on_file e. absurd cc)
+        by_file stage None false knows at = by_found stage (Some []) knows (λ on_file e. ap history_on_file at ∙ e)
         by_file stage (Some text) false knows at = by_long stage (nat_lt history_limit (length text)) text knows at
 
         by_zero : (stage : Stage) (none : Bool) → Knows stage → DoesOne stage.sight (by_remember none call (remember_of call.args) user hash token answers stage)

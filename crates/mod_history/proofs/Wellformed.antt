@@ -7,7 +7,7 @@ use Rattle.pam_base.specs.Parts.{parts_of}
 use Rattle.pam_base.proofs.Cutting.{either}
 use Rattle.mod_history.specs.declared.history.Remembered.{Remembered}
 use Rattle.mod_history.specs.History.{IsHistory, IsLine, IsPart, all_in, are_distinct, history_of, if_distinct, in_front, part_in, remembered_in, with_hashes, with_parts}
-use Rattle.mod_history.specs.Standing.{standing_in}
+use Rattle.mod_history.specs.Standing.{history_on_file}
 
 pub some_same : {A : Type 0} (x y : A) → ◌≡◌ {A = Option A} (Some x) (Some y) → x ≡ y
 some_same x y e = cc
@@ -120,6 +120,6 @@ pub read_fits : (text : List ℕ) (history : List Remembered) → history_of tex
 unfolding history_of
 read_fits text history e = whole_fits (all_in remembered_in (lines_of text)) history (λ rs. lines_fit (lines_of text) rs (lines_lack text)) e
 
-pub standing_fits : (file : Option (List ℕ)) (history : List Remembered) → standing_in file ≡ Some history → IsHistory history
-standing_fits None history e = subst IsHistory (some_same [] history e) (record { lines = tt; distinct = refl })
-standing_fits (Some text) history e = read_fits text history e
+pub history_fits : (file : Option (List ℕ)) (history : List Remembered) → history_on_file file ≡ Some history → IsHistory history
+history_fits None history e = subst IsHistory (some_same [] history e) (record { lines = tt; distinct = refl })
+history_fits (Some text) history e = read_fits text history e

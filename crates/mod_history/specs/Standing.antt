@@ -23,9 +23,9 @@ use Rattle.mod_history.specs.Pwhistory.{pwhistory_plays, remember_of}
 use Rattle.mod_history.specs.Renewal.{hashes_of, line_of, renewed, renewed_hashes, with_hash}
 
 -- the lines of a file; None if it is damaged
-abbrev pub standing_in : Option (List ℕ) → Option (List Remembered)
-standing_in None = Some []
-standing_in (Some text) = history_of text
+abbrev pub history_on_file : Option (List ℕ) → Option (List Remembered)
+history_on_file None = Some []
+history_on_file (Some text) = history_of text
 
 -- ---- the present hash
 
@@ -72,10 +72,10 @@ pub record Replaces (path : List ℕ) (call : PlainCall) (room : SeenRoom) (root
   pub code_is : code ≡ Success
   pub user_is : user ≡ unwrap_or (user_asked room).room.items.user []
   pub hash_is : present_hash root before user ≡ Some hash
-  pub standing : List Remembered
-  pub stood : standing_in (file_at path before) ≡ Some standing
+  pub on_file : List Remembered
+  pub stood : history_on_file (file_at path before) ≡ Some on_file
   pub stands : file_at path after ≡ Some (history_text (renewed (remember_of call.args) user hash
-      standing))
+      on_file))
 
 abbrev pub DoesTo : List ℕ → PlainCall → SeenRoom → List ℕ → List File → Code → List File → Deed
     → Type 0
@@ -143,9 +143,9 @@ added_by user (replaced name hash ∷ ds) hashes =
 -- wasn't replaced is as it was.
 pub record StandsBy (remember : ℕ) (deeds : List Deed) (before : List Remembered)
     (after : Option (List ℕ)) : Type 0 where
-  pub standing : List Remembered
-  pub stands : standing_in after ≡ Some standing
-  pub hashes : (user : List ℕ) → hashes_of user standing ≡ kept_by remember user deeds
+  pub on_file : List Remembered
+  pub stands : history_on_file after ≡ Some on_file
+  pub hashes : (user : List ℕ) → hashes_of user on_file ≡ kept_by remember user deeds
       (hashes_of user before)
-  pub others : (user : List ℕ) → is_renewed user deeds ≡ false → line_of user standing
+  pub others : (user : List ℕ) → is_renewed user deeds ≡ false → line_of user on_file
       ≡ line_of user before

@@ -14,9 +14,9 @@ use Rattle.mod_lists.specs.declared.condition.Field.TheVariants.{Item, Account}
 use Rattle.mod_lists.specs.declared.condition.Order.{Order}
 use Rattle.mod_lists.specs.declared.condition.Order.TheVariants.{Less, AtMost, Equal, Unequal, AtLeast, Greater}
 use Rattle.mod_lists.specs.declared.condition.Test.{Test}
-use Rattle.mod_lists.specs.declared.condition.Test.TheVariants as lent_test
+use Rattle.mod_lists.specs.declared.condition.Test.TheVariants as borrowed_test
 use Rattle.mod_lists.specs.declared.condition.Condition.{Condition}
-use Rattle.mod_lists.specs.declared.condition.Condition.TheVariants as lent
+use Rattle.mod_lists.specs.declared.condition.Condition.TheVariants as borrowed
 use Rattle.mod_lists.specs.declared.truth.Truth.{Truth}
 use Rattle.mod_lists.specs.declared.truth.Truth.TheVariants.{Holds, Fails, Faulty}
 
@@ -158,10 +158,10 @@ on_number (is_among sense wanted) m = on_text (is_among sense wanted) (decimal m
 -- ---- the plain values of the code's types
 
 abbrev pub plain_test : Test → PlainTest
-plain_test (lent_test.Compares order n) = compares order n
-plain_test (lent_test.Equals sense wanted) = equals sense wanted.now
-plain_test (lent_test.IsAmong sense wanted) = is_among sense (items_of wanted.now)
+plain_test (borrowed_test.Compares order n) = compares order n
+plain_test (borrowed_test.Equals sense wanted) = equals sense wanted.now
+plain_test (borrowed_test.IsAmong sense wanted) = is_among sense (items_of wanted.now)
 
 abbrev pub plain_condition : Condition → PlainCondition
-plain_condition (lent.On field test) = on field (plain_test test)
-plain_condition (lent.Grouped sense names) = grouped sense (items_of names.now)
+plain_condition (borrowed.On field test) = on field (plain_test test)
+plain_condition (borrowed.Grouped sense names) = grouped sense (items_of names.now)

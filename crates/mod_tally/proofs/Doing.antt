@@ -21,7 +21,7 @@ use Rattle.mod_tally.specs.declared.settings.Task.TheVariants.{Preauth, AuthFail
 use Rattle.mod_tally.specs.Settings.{PlainSettings, settings_of, task_among}
 use Rattle.mod_tally.specs.Tally.{counting, failures_of, is_locked, tally_text}
 use Rattle.mod_tally.specs.Faillock.{by_account, by_call, write_result, by_lock, by_name, by_spared, by_tally, by_task, clears, faillock_plays, failures_in, is_no_file, new_failure, reads_tally, records, sets_if, sets_text, spared_answer, tally_limit, tally_name, task_of, unless_locked}
-use Rattle.mod_tally.specs.Recorded.{Deed, left, recorded, cleared, Does, DoesTo, IsOpen, standing_in}
+use Rattle.mod_tally.specs.Recorded.{Deed, left, recorded, cleared, Does, DoesTo, IsOpen, failures_on_file}
 
 -- ---- a file that is set
 
@@ -135,10 +135,10 @@ module _ (path : List ℕ) (call : PlainCall) where
   module _ (name : List ℕ) (stage : Stage) where
     -- the file was read
     abbrev pub Stood : List Failure → Type 0
-    Stood fs = is_rooted name ≡ true → standing_in (file_at (path_of stage.sight.root name) stage.sight.files) ≡ Some fs
+    Stood fs = is_rooted name ≡ true → failures_on_file (file_at (path_of stage.sight.root name) stage.sight.files) ≡ Some fs
 
-    at_path : (fs : List Failure) → Stood fs → is_rooted name ≡ true → path_of stage.sight.root name ≡ path → standing_in (file_at path stage.sight.files) ≡ Some fs
-    at_path fs stood rooted e = ap (λ (p : List ℕ). standing_in (file_at p stage.sight.files)) (sym e) ∙ stood rooted
+    at_path : (fs : List Failure) → Stood fs → is_rooted name ≡ true → path_of stage.sight.root name ≡ path → failures_on_file (file_at path stage.sight.files) ≡ Some fs
+    at_path fs stood rooted e = ap (λ (p : List ℕ). failures_on_file (file_at p stage.sight.files)) (sym e) ∙ stood rooted
 
     put_at : (text : List ℕ) → path_of stage.sight.root name ≡ path → file_at path (file_put (path_of stage.sight.root name) text stage.sight.files) ≡ Some text
     put_at text e = ap (λ (p : List ℕ). file_at p (file_put (path_of stage.sight.root name) text stage.sight.files)) (sym e) ∙ put_there (path_of stage.sight.root name) text stage.sight.files
@@ -152,7 +152,7 @@ module _ (path : List ℕ) (call : PlainCall) where
           code_is = refl;
           interval_is = refl;
           failure_is = refl;
-          standing = fs;
+          on_file = fs;
           stood = at_path fs stood rooted e;
           unlocked = unlocked;
           stands = put_at (tally_text (counting given.interval (fs ++ f ∷ []))) e;
@@ -164,7 +164,7 @@ module _ (path : List ℕ) (call : PlainCall) where
     clearing (f ∷ fs) stood allowed =
         setting stage name (tally_text []) returns.Success cleared (λ rooted e. record {
           code_is = refl;
-          standing = f ∷ fs;
+          on_file = f ∷ fs;
           stood = at_path (f ∷ fs) stood rooted e;
           allowed = allowed;
           stands = put_at (tally_text []) e;
@@ -185,12 +185,12 @@ module _ (path : List ℕ) (call : PlainCall) where
 
     by_length : (long : Bool) (text : List ℕ) → file_at (path_of stage.sight.root name) stage.sight.files ≡ Some text → DoesOne stage.sight (by_tally task given name (failures_in (cond long Unreadable (Holds text))) stage)
     by_length true text e = stays returns.ServiceErr stage
-    by_length false text e = by_found (failures_of text) (λ fs f rooted. ap standing_in e ∙ f)
+    by_length false text e = by_found (failures_of text) (λ fs f rooted. ap failures_on_file e ∙ f)
 
     by_file : (o : Option (List ℕ)) → file_at (path_of stage.sight.root name) stage.sight.files ≡ o → (fails : Bool) → DoesOne stage.sight (by_tally task given name (failures_in (content_of fails tally_limit o)) stage)
     unfolding content_of
     by_file o e true = stays returns.ServiceErr stage
-    by_file None e false = by_found (Some []) (λ fs f rooted. ap standing_in e ∙ f)
+    by_file None e false = by_found (Some []) (λ fs f rooted. ap failures_on_file e ∙ f)
     by_file (Some text) e false = by_length (nat_lt tally_limit (length text)) text e
 
   reading : (task : Task) → task_is task → (name : List ℕ) → Keeps (reads_tally name (by_tally task given name))

@@ -4,7 +4,7 @@ use Rattle.std.specs.List.{AllByRecursion}
 use Rattle.pam_outside.specs.Files.{file_at}
 use Rattle.mod_tally.specs.declared.tally.Failure.{Failure}
 use Rattle.mod_tally.specs.Tally.{IsFailure, counting, counts, failures_of, latest, tally_text}
-use Rattle.mod_tally.specs.Recorded.{Deed, left, recorded, cleared, Does, Follow, IsAmong, IsWith, Served, deeds_of, is_cleared, is_written, left_by, played, recorded_by, standing_in, stands_by}
+use Rattle.mod_tally.specs.Recorded.{Deed, left, recorded, cleared, Does, Follow, IsAmong, IsWith, Served, deeds_of, is_cleared, is_written, left_by, played, recorded_by, failures_on_file, stands_by}
 use Rattle.mod_tally.proofs.Counting.{counting-counting}
 
 -- ---- operations on the failures that count
@@ -63,24 +63,24 @@ some_same x y e = cc
 
 module _ (path : List ℕ) (i : ℕ) (read : IsRead) where
   -- one call, and those after it
-  by_deed : (s : Served) (before : Option (List ℕ)) (fs : List Failure) (d : Deed) → file_at path s.sight.files ≡ before → Does path s.call s.sight (played s) d → IsWith i d → AllByRecursion IsFailure fs → standing_in before ≡ Some fs
-      → AllByRecursion IsFailure (left_by d fs) × (standing_in (file_at path (played s).files) ≡ Some (left_by d fs))
-  by_deed s before fs left at does one fit stood = (fit, ap standing_in (does ∙ at) ∙ stood)
+  by_deed : (s : Served) (before : Option (List ℕ)) (fs : List Failure) (d : Deed) → file_at path s.sight.files ≡ before → Does path s.call s.sight (played s) d → IsWith i d → AllByRecursion IsFailure fs → failures_on_file before ≡ Some fs
+      → AllByRecursion IsFailure (left_by d fs) × (failures_on_file (file_at path (played s).files) ≡ Some (left_by d fs))
+  by_deed s before fs left at does one fit stood = (fit, ap failures_on_file (does ∙ at) ∙ stood)
   by_deed s before fs (recorded j f) at does one fit stood =
-      let same : does.standing ≡ fs = some_same _ _ (sym does.stood ∙ ap standing_in at ∙ stood) in
+      let same : does.on_file ≡ fs = some_same _ _ (sym does.stood ∙ ap failures_on_file at ∙ stood) in
       let fits : AllByRecursion IsFailure (counting j (fs ++ f ∷ [])) = fit_filter (counts j (latest (fs ++ f ∷ []))) (fs ++ f ∷ []) (fit_append fs f fit one.1) in
-      (fits, ap standing_in (does.stands ∙ ap (λ (x : List Failure). Some (tally_text (counting j (x ++ f ∷ [])))) same) ∙ read (counting j (fs ++ f ∷ [])) fits)
-  by_deed s before fs cleared at does one fit stood = (tt, ap standing_in does.stands ∙ read [] tt)
+      (fits, ap failures_on_file (does.stands ∙ ap (λ (x : List Failure). Some (tally_text (counting j (x ++ f ∷ [])))) same) ∙ read (counting j (fs ++ f ∷ [])) fits)
+  by_deed s before fs cleared at does one fit stood = (tt, ap failures_on_file does.stands ∙ read [] tt)
 
-  followed : (ss : List Served) (before after : Option (List ℕ)) (fs : List Failure) → Follow path before ss after → AllByRecursion (IsWith i) (deeds_of ss) → AllByRecursion IsFailure fs → standing_in before ≡ Some fs
-      → standing_in after ≡ Some (after_all (deeds_of ss) fs)
-  followed [] before after fs follow all fit stood = ap standing_in follow ∙ stood
+  followed : (ss : List Served) (before after : Option (List ℕ)) (fs : List Failure) → Follow path before ss after → AllByRecursion (IsWith i) (deeds_of ss) → AllByRecursion IsFailure fs → failures_on_file before ≡ Some fs
+      → failures_on_file after ≡ Some (after_all (deeds_of ss) fs)
+  followed [] before after fs follow all fit stood = ap failures_on_file follow ∙ stood
   followed (s ∷ ss) before after fs follow all fit stood =
       let done = by_deed s before fs s.deed follow.0 follow.1 all.0 fit stood in
       followed ss (file_at path (played s).files) after (left_by s.deed fs) follow.2 all.1 done.0 done.1
 
-  pub calls_count : (ss : List Served) (before after : Option (List ℕ)) (fs : List Failure) → Follow path before ss after → AllByRecursion (IsWith i) (deeds_of ss) → AllByRecursion IsFailure fs → standing_in before ≡ Some fs
-      → standing_in after ≡ Some (stands_by i (deeds_of ss) fs)
+  pub calls_count : (ss : List Served) (before after : Option (List ℕ)) (fs : List Failure) → Follow path before ss after → AllByRecursion (IsWith i) (deeds_of ss) → AllByRecursion IsFailure fs → failures_on_file before ≡ Some fs
+      → failures_on_file after ≡ Some (stands_by i (deeds_of ss) fs)
   calls_count ss before after fs follow all fit stood =
       followed ss before after fs follow all fit stood ∙ ap (λ (x : List Failure). Some x) (stands i (deeds_of ss) fs all)
 

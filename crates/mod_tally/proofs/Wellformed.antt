@@ -12,7 +12,7 @@ use Rattle.mod_tally.specs.declared.tally.Version.{Version}
 use Rattle.mod_tally.specs.declared.tally.Version.TheVariants.{One, Two}
 use Rattle.mod_tally.specs.Source.{in_front, unspelled}
 use Rattle.mod_tally.specs.Tally.{IsFailure, all_in, by_version, cut_at, failure_in, failures_of, in_lines, is_kind, moment_of, unknown_at, version_of, with_moment, with_origin, with_source}
-use Rattle.mod_tally.specs.Recorded.{standing_in}
+use Rattle.mod_tally.specs.Recorded.{failures_on_file}
 use Rattle.mod_tally.proofs.Unspelling.{unspelled-exact}
 
 both : (a b : Bool) → (a && b) ≡ true → (a ≡ true) × (b ≡ true)
@@ -105,6 +105,6 @@ pub read-fits : (text : List ℕ) (fs : List Failure) → failures_of text ≡ S
 unfolding failures_of
 read-fits text fs e = whole_fits (ends_with nat_eq text (10 ∷ [])) (lines_of text) fs e
 
-pub standing-fits : (file : Option (List ℕ)) (fs : List Failure) → standing_in file ≡ Some fs → AllByRecursion IsFailure fs
-standing-fits None fs e = subst (AllByRecursion IsFailure) (some_same [] fs e) tt
-standing-fits (Some text) fs e = read-fits text fs e
+pub on_file-fits : (file : Option (List ℕ)) (fs : List Failure) → failures_on_file file ≡ Some fs → AllByRecursion IsFailure fs
+on_file-fits None fs e = subst (AllByRecursion IsFailure) (some_same [] fs e) tt
+on_file-fits (Some text) fs e = read-fits text fs e

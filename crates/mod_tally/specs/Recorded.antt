@@ -14,9 +14,9 @@ use Rattle.mod_tally.specs.Faillock.{faillock_plays, new_failure, task_of}
 use Rattle.mod_tally.specs.Tally.{IsFailure, counting, failures_of, is_locked, tally_text}
 
 -- the failures in a file; None if it is damaged
-abbrev pub standing_in : Option (List ℕ) → Option (List Failure)
-standing_in None = Some []
-standing_in (Some text) = failures_of text
+abbrev pub failures_on_file : Option (List ℕ) → Option (List Failure)
+failures_on_file None = Some []
+failures_on_file (Some text) = failures_of text
 
 -- ---- what one call does
 
@@ -39,21 +39,21 @@ pub record Records (path : List ℕ) (call : PlainCall) (now : ℕ) (items : Ite
   pub code_is : code ≡ Ignore
   pub interval_is : interval ≡ (settings_of call.args).interval
   pub failure_is : failure ≡ new_failure now items
-  pub standing : List Failure
-  pub stood : standing_in (file_at path before) ≡ Some standing
-  pub unlocked : IsOpen (settings_of call.args) now standing
-  pub stands : file_at path after ≡ Some (tally_text (counting interval (standing ++ failure ∷ [])))
+  pub on_file : List Failure
+  pub stood : failures_on_file (file_at path before) ≡ Some on_file
+  pub unlocked : IsOpen (settings_of call.args) now on_file
+  pub stands : file_at path after ≡ Some (tally_text (counting interval (on_file ++ failure ∷ [])))
 
 -- An authsucc of a user who wasn't locked, or an acct_mgmt, returned SUCCESS, and none of the failures in the file is
 -- left.
 pub record Clears (path : List ℕ) (call : PlainCall) (now : ℕ) (before : List File) (code : Code)
     (after : List File) : Type 0 where
   pub code_is : code ≡ Success
-  pub standing : List Failure
-  pub stood : standing_in (file_at path before) ≡ Some standing
+  pub on_file : List Failure
+  pub stood : failures_on_file (file_at path before) ≡ Some on_file
   pub allowed : (task_of call.func (task_among call.args) ≡ Ok Clear) ⊎
       ((task_of call.func (task_among call.args) ≡ Ok AuthSucc)
-      × IsOpen (settings_of call.args) now standing)
+      × IsOpen (settings_of call.args) now on_file)
   pub stands : file_at path after ≡ Some (tally_text [])
 
 abbrev pub DoesTo : List ℕ → PlainCall → ℕ → ItemTexts → List File → Code → List File → Deed
@@ -94,9 +94,9 @@ Follow path before (s ∷ ss) after =
 
 -- the failures in the file after it
 abbrev pub left_by : Deed → List Failure → List Failure
-left_by left standing = standing
-left_by (recorded interval failure) standing = counting interval (standing ++ failure ∷ [])
-left_by cleared standing = []
+left_by left on_file = on_file
+left_by (recorded interval failure) on_file = counting interval (on_file ++ failure ∷ [])
+left_by cleared on_file = []
 
 -- the failures in the file at the start, and those that were recorded since they were last cleared
 abbrev pub recorded_by : List Deed → List Failure → List Failure

@@ -7,7 +7,7 @@ ghost use Rattle.mod_tally.specs.Source.{spelled, unspelled};
 ghost use Rattle.mod_tally.specs.Tally.{IsFailure, counts, failures_of, latest, tally_text};
 ghost use Rattle.item_store.specs.Items.{ItemTexts};
 ghost use Rattle.mod_tally.specs.Faillock.{faillock_plays, new_failure};
-ghost use Rattle.mod_tally.specs.Recorded.{Deed, Does, Follow, IsAmong, IsWith, Served, deeds_of, is_cleared, recorded_by, standing_in, stands_by};
+ghost use Rattle.mod_tally.specs.Recorded.{Deed, Does, Follow, IsAmong, IsWith, Served, deeds_of, is_cleared, recorded_by, failures_on_file, stands_by};
 
 /// Failures and sources that are written are read back as themselves, what is read can be written,
 /// no source has two spellings, and what the module records can be written.
@@ -40,7 +40,7 @@ pub fn recorded_failures_stand()
     ensures all { (path : List ℕ) (interval : ℕ) (calls : List Served)
         (before after : Option (List ℕ)) (failures : List Failure) →
         Follow path before calls after → AllByRecursion (IsWith interval) (deeds_of calls) →
-        standing_in before ≡ Some failures → standing_in after
+        failures_on_file before ≡ Some failures → failures_on_file after
         ≡ Some (stands_by interval (deeds_of calls) failures) }
     ensures kept { (interval : ℕ) (deeds : List Deed) (failure : Failure)
         (failures : List Failure) →

@@ -18,7 +18,7 @@ use crate::authenticate::{Authenticated, authenticate};
 use crate::change::change_token;
 use conv_port::Conv;
 use data_cleanup::{DataList, Datum, Receipt};
-use module_acts::{answer_and_keep, ended, laws};
+use module_acts::{answer_and_keep, code_or_conv_err, laws};
 use pam_base::{Code, ConvErr, Func, NoMemory, Refuse, code_number, code_of};
 use pam_outside::{Clock, Vault, current_moment};
 use pam_room::{Call, Module, Process, Transaction, spend_by_length};
@@ -73,7 +73,7 @@ impl Module for Unix {
             Func::SetCred => Ok(kept_code(&transaction.datums)),
             Func::AcctMgmt => {
                 let answer = check_account(alloc, transaction, process, conv, vault, clock);
-                ended(answer)
+                code_or_conv_err(answer)
             }
             Func::ChAuthTok => {
                 let today = day_of(current_moment(clock));
@@ -87,7 +87,7 @@ impl Module for Unix {
                     vault,
                     clock,
                 );
-                ended(answer)
+                code_or_conv_err(answer)
             }
             Func::OpenSession => Ok(Code::Success),
             Func::CloseSession => Ok(Code::Success),

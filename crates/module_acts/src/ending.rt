@@ -8,7 +8,7 @@ use crate::laws;
 use pam_base::{Code, ConvErr, NoMemory, Refuse};
 
 /// The module's code, which is CONV_ERR if the conversation gave no reply.
-pub fn ended(answer: Result<Code, Refuse<ConvErr>>) -> Result<Code, NoMemory>
+pub fn code_or_conv_err(answer: Result<Code, Refuse<ConvErr>>) -> Result<Code, NoMemory>
     ensures told { (step : (Code → Act) → Act) (old new : Scene) → Returns answer step old new →
         IfOk result (λ code. Follows (step answers) old code new) }
     ensures finished { (act : Act) (old new : Scene) → Finishes answer act old new →

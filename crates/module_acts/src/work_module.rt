@@ -2,7 +2,7 @@ ghost use Rattle.std.specs.Prelude.{◌≡◌, IsTrue, IfOk};
 ghost use Rattle.pam_room.specs.Module.{keeps_files, length_note};
 
 use crate::asked::Asked;
-use crate::ending::ended;
+use crate::ending::code_or_conv_err;
 use crate::laws;
 use crate::laws::no_data_are_set;
 use crate::work::Work;
@@ -63,7 +63,7 @@ impl<T: Work> Module for WorkModule<T> {
                     process: &*process,
                 };
                 let answer = T::work(&asked, transaction, conv, vault, clock);
-                ended(answer)
+                code_or_conv_err(answer)
             }
         }
     }

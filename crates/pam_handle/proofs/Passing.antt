@@ -20,7 +20,7 @@ use Rattle.dispatch_core.specs.declared.request.PassRequest.{PassRequest}
 use Rattle.dispatch_core.specs.pam_room.specs.State.{PlainProcess, PlainRoom, PlainTransaction, PlainWorld, State}
 use Rattle.dispatch_core.specs.pam_room.specs.Module.{Breaks, Player, Plays, Note, notes_of, player_of}
 use Rattle.dispatch_core.specs.pam_room.specs.Stays.{IsReady}
-use Rattle.dispatch_core.specs.Calls.{answers_held, kept_behind, passed_by}
+use Rattle.dispatch_core.specs.Calls.{answers_held, cached_after, passed_by}
 use Rattle.dispatch_core.specs.Trail.{ByTrail, seen_in}
 use Rattle.dispatch_core.specs.pam_room.specs.declared.visits.Visit.{Visit as Visited}
 use Rattle.dispatch_core.specs.handler_chain.specs.Retell.{replaying, telling}
@@ -44,7 +44,7 @@ kept_all None visits k = absurd (none_held k.0)
 kept_all (Some cells) visits k = ap Some (fun_ext k.1)
 
 kept_after : (kind : PassKind) (visits : List Visit) (old new : Answers) → KeepsAfter kind visits old new
-    → kept_answers new ≡ kept_behind kind visits (kept_answers old)
+    → kept_answers new ≡ cached_after kind visits (kept_answers old)
 kept_after Keep visits old new k = kept_all new visits k
 kept_after Follow visits old new k = ap kept_answers k
 kept_after Loose visits old new k = ap kept_answers k
@@ -60,7 +60,7 @@ passes_to : (players : List Player) (func : Func) (flags : ℕ) (kind : PassKind
     → PassesTo (passed players func flags kind (kept_answers old) stack past s) code (kept_answers new) paused state
 passes_to players func flags kind old new stack past s code paused state l = record {
   code_is = l.code_is ∙ ap code_of (same_pass players func flags kind old stack past s);
-  kept_is = kept_after kind _ old new l.kept_is ∙ ap (λ (w : Walked (PassState State)). kept_behind kind w.state.visits (kept_answers old)) (same_pass players func flags kind old stack past s);
+  kept_is = kept_after kind _ old new l.kept_is ∙ ap (λ (w : Walked (PassState State)). cached_after kind w.state.visits (kept_answers old)) (same_pass players func flags kind old stack past s);
   paused_is = l.paused_is ∙ ap (λ (w : Walked (PassState State)). paused_after w) (same_pass players func flags kind old stack past s);
   state_is = l.state_is ∙ ap (λ (w : Walked (PassState State)). w.state.state) (same_pass players func flags kind old stack past s);
 }

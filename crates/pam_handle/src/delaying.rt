@@ -9,7 +9,7 @@ ghost use Rattle.pam_handle.specs.Plain.{Keeps, in_box};
 use crate::gear::Gear;
 use crate::wait::Wait;
 use dispatch_core::fail_delay::{
-    DelayFn, DelayTold, LONGEST_ASKED, LONGEST_REQUEST, asked, wait_after,
+    DelayFn, DelayTold, LONGEST_ASKED, LONGEST_REQUEST, compute_delay, wait_after,
 };
 use dispatch_core::pam_outside::{random_word, rest};
 use dispatch_core::pam_room::{World, WorldTold};
@@ -92,7 +92,7 @@ fn asked_of(longest: u32, world: &mut World) -> u32
     if longest == 0 {
         return 0;
     }
-    asked(longest, random_word(&mut *world.clock))
+    compute_delay(longest, random_word(&mut *world.clock))
 }
 
 // The wait; the delay function is asked whenever it is on.

@@ -77,7 +77,7 @@ impl Handle {
             (vault_faults (in_box world.new.vault))) }
     {
         match prepare(alloc, gear, world, service, user, cache) {
-            Ok((items, chains)) => Ok(opened(alloc, number, items, chains, conv)),
+            Ok((items, chains)) => Ok(build_handle(alloc, number, items, chains, conv)),
             Err(why) => Err(StartRefused { conv, why }),
         }
     }
@@ -143,7 +143,13 @@ fn laid_out(
 }
 
 // Allocates nothing, since its result can't be dropped.
-fn opened(alloc: Global, number: u32, items: Items, chains: Chains, conv: Box<dyn Conv>) -> Handle
+fn build_handle(
+    alloc: Global,
+    number: u32,
+    items: Items,
+    chains: Chains,
+    conv: Box<dyn Conv>,
+) -> Handle
     ensures conv { (room_in result).conv ≡ conv }
     ensures plain { plain_handle ⟦<Room as RoomTold>⟧.plain result
         ≡ handle_with number items (conv_holds conv) chains.by_type.auth.names (stacks_in chains) }

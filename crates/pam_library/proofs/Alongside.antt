@@ -8,7 +8,7 @@ use Rattle.pam_handle.specs.control_words.specs.Stack.{Stack, none, line, sub, c
 use Rattle.pam_handle.specs.handler_chain.specs.declared.opinion.Opinion.{Opinion}
 use Rattle.pam_handle.specs.handler_chain.specs.declared.pass_kind.PassKind.{PassKind}
 use Rattle.pam_handle.specs.handler_chain.specs.Opinion.{acted, opening}
-use Rattle.pam_handle.specs.handler_chain.specs.Walk.{Served, Serving, Walked, Next, after, stop, walked, halted, next_of, settled, onward, walk}
+use Rattle.pam_handle.specs.handler_chain.specs.Walk.{Served, Serving, Walked, Next, after, stop, walked, halted, next_of, new_or_overrun, onward, walk}
 use Rattle.pam_handle.specs.handler_chain.specs.Pass.{Answered, Answering, PassState, Visit, pass_state, pass_after, served_now, served_past, serving}
 use Rattle.pam_handle.specs.handler_chain.specs.Route.{KeptAnswers}
 
@@ -32,7 +32,7 @@ module _ {State : Type 0} (R : State → State → Type 0) where
   behind_line kind serve rule rest at entry opinion served =
       let action = action_at rule.control served.deciding in
       let new = acted kind action served.answer served.deciding entry opinion in
-      let last = settled action (count rest) new in
+      let last = new_or_overrun action (count rest) new in
       if served.stopped then halted opinion served.state
       else onward (next_of action (count rest) new) (λ n. walk kind serve n rest (at + 1) entry last served.state) (walked last served.state)
 
@@ -52,7 +52,7 @@ module _ {State : Type 0} (R : State → State → Type 0) where
     line_twins rule rest at entry opinion a t r more =
         let action : Action = action_at rule.control a.deciding in
         let new : Opinion = acted kind action a.answer a.deciding entry opinion in
-        let last : Opinion = settled action (count rest) new in
+        let last : Opinion = new_or_overrun action (count rest) new in
         elim a.stopped as (λ (x : Bool). WalkedTwins
         (if x then halted opinion a.state else onward (next_of action (count rest) new) (λ n. walk kind serve n rest (at + 1) entry last a.state) (walked last a.state))
         (if x then halted opinion t else onward (next_of action (count rest) new) (λ n. walk kind serve n rest (at + 1) entry last t) (walked last t))) [

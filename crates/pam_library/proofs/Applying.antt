@@ -26,7 +26,7 @@ use Rattle.pam_library.specs.SlotStep.{SlotStepsAs, filed_in, slot_step}
 use Rattle.pam_library.specs.Step.{Stepped, StepsAs, stepped, stepped_at}
 use Rattle.pam_library.specs.Sound.{IsAtPlace, IsSound}
 use Rattle.pam_library.specs.AnyWorld.{AnswersBy, Fails, FailsAt, SpendsAt, StopsAt, end_at, refusal, stays_inside, takes_no_memory}
-use Rattle.pam_library.specs.InPlace.{GoesInPlace, IsReadyAt}
+use Rattle.pam_library.specs.InPlace.{CalledInSlot, IsReadyAt}
 use Rattle.pam_library.proofs.Stopping.{stops_on, stops_when}
 use Rattle.pam_library.proofs.Placing.{slot_at-with_slot_other, slot_at-with_slot_same, slot_at-within}
 use Rattle.pam_library.proofs.Stacking.{IsOnly}
@@ -226,7 +226,7 @@ fails_when tells all (calls.Reply text) old new more f = record { rest = f.rest;
 fails_when tells all call old new more f = f
 
 module _ (players : List Player) (gives : (Code → ℕ → ℕ) → Type 0) (tells world_tells : Bool) (number : ℕ) (call : AppCall) (slots next : List PlainSlot) (old new : PlainSlot) (w v : PlainWorld) (result : Result Outcome NoMemory)
-    (is : IsPut slots next number old new) (goes : GoesInPlace players gives tells world_tells number call old w result new v) where
+    (is : IsPut slots next number old new) (goes : CalledInSlot players gives tells world_tells number call old w result new v) where
   pub others_stay : (other : ℕ) → (other ≡ number → ⊥) → slot_at next other ≡ slot_at slots other
   others_stay other differs = ap (λ (s : List PlainSlot). slot_at s other) is.next_is ∙ slot_at-with_slot_other slots number other new differs
 

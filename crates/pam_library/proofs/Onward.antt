@@ -22,7 +22,7 @@ use Rattle.pam_library.specs.Slots.{PlainSlot, closed, opened}
 use Rattle.pam_library.specs.SlotStep.{is_refused_for_flags, other_pending}
 use Rattle.pam_library.specs.Sound.{IsPlaced}
 use Rattle.pam_library.specs.AnyWorld.{AnswersBy, CanAnswer, CountsRefusal, Fails, GetsItem, StackFails, StackStops, StopsBy, is_code, refusal}
-use Rattle.pam_library.specs.InPlace.{GoesInPlace}
+use Rattle.pam_library.specs.InPlace.{CalledInSlot}
 use Rattle.pam_library.proofs.Within.{failed_by}
 
 stack_fails : (func : Func) (h : PlainHandle) (new : PlainSlot) → StackFails func (opened (all_told h)) new → StackFails func (opened h) new
@@ -55,8 +55,8 @@ stops_told players tells (calls.ChAuthTok flags) result h new w v s = failed_by 
 stops_told players tells call result h new w v s = s
 
 module _ (players : List Player) (gives : (Code → ℕ → ℕ) → Type 0) (tells world_tells : Bool) (call : AppCall) (h : PlainHandle) (w : PlainWorld) (result : Result Outcome NoMemory) (new : PlainSlot) (v : PlainWorld) where
-  from_told : (number : ℕ) → GoesInPlace players gives tells world_tells number call (opened (all_told h)) w result new v
-      → GoesInPlace players gives tells world_tells number call (opened h) w result new v
+  from_told : (number : ℕ) → CalledInSlot players gives tells world_tells number call (opened (all_told h)) w result new v
+      → CalledInSlot players gives tells world_tells number call (opened h) w result new v
   from_told number goes = record {
     told = goes.told;
     alone = goes.alone;
@@ -72,13 +72,13 @@ module _ (players : List Player) (gives : (Code → ℕ → ℕ) → Type 0) (te
   }
 
   pub onward : (number : ℕ) (next : PlainHandle) (told_tells : Bool) → next ≡ all_told h → told_tells ≡ tells → IsPlaced (names_of players) number h
-      → GoesInPlace players gives told_tells world_tells next.room.transaction.handle call (opened next) w result new v
-      → GoesInPlace players gives tells world_tells number call (opened h) w result new v
+      → CalledInSlot players gives told_tells world_tells next.room.transaction.handle call (opened next) w result new v
+      → CalledInSlot players gives tells world_tells number call (opened h) w result new v
   onward number next told_tells same still placed goes =
       from_told number
-      (subst (λ (b : Bool). GoesInPlace players gives b world_tells number call (opened (all_told h)) w result new v) still
-      (subst (λ (k : ℕ). GoesInPlace players gives told_tells world_tells k call (opened (all_told h)) w result new v) placed.handle
-      (subst (λ (k : PlainHandle). GoesInPlace players gives told_tells world_tells k.room.transaction.handle call (opened k) w result new v) same goes)))
+      (subst (λ (b : Bool). CalledInSlot players gives b world_tells number call (opened (all_told h)) w result new v) still
+      (subst (λ (k : ℕ). CalledInSlot players gives told_tells world_tells k call (opened (all_told h)) w result new v) placed.handle
+      (subst (λ (k : PlainHandle). CalledInSlot players gives told_tells world_tells k.room.transaction.handle call (opened k) w result new v) same goes)))
 
 -- ---- an open slot refuses no start for its configuration
 
@@ -125,5 +125,5 @@ faults_stay h call (Ok o) before now e = counts_nothing h call o.answer before n
 faults_stay h call (Err e) before now f = tt
 
 pub no_fault : (players : List Player) (gives : (Code → ℕ → ℕ) → Type 0) (tells world_tells : Bool) (number : ℕ) (call : AppCall) (h : PlainHandle) (w : PlainWorld) (result : Result Outcome NoMemory) (new : PlainSlot) (v : PlainWorld) (before now : ℕ)
-    → GoesInPlace players gives tells world_tells number call (opened h) w result new v → IfOk result (λ o. CountsRefusal o.answer before now)
+    → CalledInSlot players gives tells world_tells number call (opened h) w result new v → IfOk result (λ o. CountsRefusal o.answer before now)
 no_fault players gives tells world_tells number call h w result new v before now goes = faults_stay h call result before now goes.answers

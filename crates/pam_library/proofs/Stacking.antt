@@ -29,7 +29,7 @@ use Rattle.pam_library.specs.Slots.{PlainSlot, opened}
 use Rattle.pam_library.specs.SlotStep.{SlotStepped, SlotStepsAs, answered, filed_in, is_refused_for_flags, other_pending, slot_step, stack_step, told_by, unless_pending}
 use Rattle.pam_library.specs.Sound.{IsPlaced}
 use Rattle.pam_library.specs.AnyWorld.{AnswersBy, CanAnswer, Fails, SpendsAt, StopsBy, is_free, leaves_world, needs_outside, refusal, stack_refusal, stays_inside, takes_no_memory, touches_world}
-use Rattle.pam_library.specs.InPlace.{GoesInPlace, stack_app_call}
+use Rattle.pam_library.specs.InPlace.{CalledInSlot, stack_app_call}
 
 -- ---- the six calls
 
@@ -216,7 +216,7 @@ module _ (players : List Player) (gives : (Code → ℕ → ℕ) → Type 0) (te
       → ((note : Notes) (modules : ℕ) (list : PlainDataList) (ledger : PlainLedger) → list.gone ≡ [] → Grows note modules list ledger list ledger)
       → h ≡ all_told h → h.names ≡ names_of players → h.room.transaction.datums.gone ≡ []
       → ◌≡◌ {A = Option Answer} (stack_refusal h.pending func flags) (Some refused) → IsOnly o (filed_in w) refused
-      → GoesInPlace players gives tells world_tells h.room.transaction.handle (stack_app_call func flags) (opened h) w (Ok o) (opened h) w
+      → CalledInSlot players gives tells world_tells h.room.transaction.handle (stack_app_call func flags) (opened h) w (Ok o) (opened h) w
   stack_refused o refused grows told names gone is only =
       let steps : (number_of : Code → ℕ → ℕ) → SlotStepsAs (slot_step players number_of h.room.transaction.handle (opened h) w (stack_app_call func flags)) (plain_outcome o) (opened h) w =
       λ number_of.
@@ -249,7 +249,7 @@ module _ (players : List Player) (gives : (Code → ℕ → ℕ) → Type 0) (te
       → ((number_of : Code → ℕ → ℕ) → gives number_of → IsTrue (tells && world_tells) → CallsAs (stack_call players number_of func flags h w) code next v)
       → RunsSoundly (notes_of players) (length players) h next w.process v.process
       → after ≡ all_told next → IsToldOf o (filed_in w) code next
-      → GoesInPlace players gives tells world_tells h.room.transaction.handle (stack_app_call func flags) (opened h) w (Ok o) (opened after) v
+      → CalledInSlot players gives tells world_tells h.room.transaction.handle (stack_app_call func flags) (opened h) w (Ok o) (opened after) v
   stack_ran o code next after v told names none calls sound emptied tells_of = record {
     told = λ number_of given all.
         let did = calls number_of given all in
@@ -282,7 +282,7 @@ module _ (players : List Player) (gives : (Code → ℕ → ℕ) → Type 0) (te
       → h ≡ all_told h → h.names ≡ names_of players
       → ◌≡◌ {A = Option Answer} (stack_refusal h.pending func flags) None
       → FailsAs func h next → Stops func players flags (tells && world_tells) h next w v w v → RunsSoundly (notes_of players) (length players) h next w.process v.process
-      → GoesInPlace players gives tells world_tells h.room.transaction.handle (stack_app_call func flags) (opened h) w (Err error) (opened next) v
+      → CalledInSlot players gives tells world_tells h.room.transaction.handle (stack_app_call func flags) (opened h) w (Err error) (opened next) v
   stack_failed error next v told names none fails stops sound = record {
     told = λ number_of given all. tt;
     alone = λ number_of inside. tt;

@@ -19,7 +19,7 @@ use Rattle.pam_library.specs.Outcome.{plain_outcome}
 use Rattle.pam_library.specs.Slots.{PlainSlot, opened}
 use Rattle.pam_library.specs.SlotStep.{SlotStepped, SlotStepsAs, filed_in, open_step, slot_step}
 use Rattle.pam_library.specs.AnyWorld.{AnswersBy, CanAnswer, Fails, SpendsAt, StopsBy, is_free, refusal}
-use Rattle.pam_library.specs.InPlace.{GoesInPlace, GoesInside}
+use Rattle.pam_library.specs.InPlace.{CalledInSlot, StaysInside}
 use Rattle.pam_library.proofs.Spending.{NothingGrows}
 
 -- the calls that concern only the transaction itself
@@ -109,8 +109,8 @@ second_of false b e = absurd (cc)
 module _ (players : List Player) (gives : (Code → ℕ → ℕ) → Type 0) (tells world_tells : Bool) (h : PlainHandle) (w : PlainWorld) where
   pub inside_goes : (call : AppCall) (n : ℕ) (result : Result Outcome NoMemory) (next : PlainHandle) → is_inside call ≡ true → NothingGrows
       → h ≡ all_told h → h.names ≡ names_of players → h.room.transaction.datums.gone ≡ [] → n ≡ filed_in w
-      → GoesInside call n h result next
-      → GoesInPlace players gives tells world_tells h.room.transaction.handle call (opened h) w result (opened next) w
+      → StaysInside call n h result next
+      → CalledInSlot players gives tells world_tells h.room.transaction.handle call (opened h) w result (opened next) w
   inside_goes call n result next inside grows told names gone filed goes =
       let steps : (number_of : Code → ℕ → ℕ) → IfOk result (λ o. SlotStepsAs (slot_step players number_of h.room.transaction.handle (opened h) w call) (plain_outcome o) (opened next) w) =
       λ number_of. steps_by result (open_step players number_of h w call) (open_step players number_of (all_told h) w call) (opened next) w

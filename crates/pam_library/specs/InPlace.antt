@@ -34,7 +34,7 @@ IsReadyAt modules (closed conv) process = Unit {0}
 IsReadyAt modules (opened h) process = IsReady modules h.room.transaction process
 
 -- a call in the slot of a number, with real objects and with modelled ones
-pub record GoesInPlace (players : List Player) (gives : (Code → ℕ → ℕ) → Type 0)
+pub record CalledInSlot (players : List Player) (gives : (Code → ℕ → ℕ) → Type 0)
     (tells world_tells : Bool) (number : ℕ) (call : AppCall)
     (old : PlainSlot) (before : PlainWorld) (result : Result Outcome NoMemory) (new : PlainSlot)
     (after : PlainWorld) : Type 0 where
@@ -93,7 +93,7 @@ pub record CallsPlace {World : Type 0} (number : ℕ) (call : AppCall) (old : Sl
     : Type 0 where
   pub still_tells : new.tells ≡ old.tells
   pub world_tells : new.world_tells ≡ old.world_tells
-  pub goes : GoesInPlace old.players old.gives old.tells old.world_tells number call old.slot
+  pub goes : CalledInSlot old.players old.gives old.tells old.world_tells number call old.slot
       old.world result new.slot new.world
   pub world : leaves_world (Some old.slot) call ≡ true → after ≡ before
 
@@ -118,7 +118,7 @@ pub record StepsPlace {World : Type 0} (number : ℕ) (call : AppCall) (old : Sl
   pub hides_none : OnErr result (HidesNoFault call old.faults new.faults)
 
 -- A call that stays inside an open transaction without anything to report: its result is exact with real objects too.
-pub record GoesInside (call : AppCall) (filed : ℕ) (old : PlainHandle)
+pub record StaysInside (call : AppCall) (filed : ℕ) (old : PlainHandle)
     (result : Result Outcome NoMemory) (new : PlainHandle) : Type 0 where
   pub steps : (players : List Player) (number_of : Code → ℕ → ℕ) (w : PlainWorld)
       → filed_in w ≡ filed →

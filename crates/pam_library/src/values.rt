@@ -1,6 +1,6 @@
 ghost use Rattle.std.specs.Prelude.{◌≡◌};
 ghost use Rattle.pam_handle.specs.Plain.{plain_handle, room_in};
-ghost use Rattle.pam_library.specs.InPlace.{GoesInside, IsCoded, IsToldAll};
+ghost use Rattle.pam_library.specs.InPlace.{StaysInside, IsCoded, IsToldAll};
 
 use crate::outcome::{Answer, Outcome};
 use crate::texts::{bytes_of, copy_of};
@@ -34,7 +34,7 @@ pub(crate) fn set_item(
     value: &Option<Text>,
 ) -> Result<Outcome, NoMemory>
     requires { IsToldAll (plain_handle ⟦<Room as RoomTold>⟧.plain handle.old) }
-    ensures goes { GoesInside (AppCall.SetItem item value.now) filed_from
+    ensures goes { StaysInside (AppCall.SetItem item value.now) filed_from
         (plain_handle ⟦<Room as RoomTold>⟧.plain handle.old) result
         (plain_handle ⟦<Room as RoomTold>⟧.plain handle.new) }
     ensures tells { ⟦<Room as RoomTold>⟧.tells (room_in handle.new)
@@ -50,7 +50,7 @@ pub(crate) fn get_item(
     item: ItemName,
 ) -> Result<Outcome, NoMemory>
     requires { IsToldAll (plain_handle ⟦<Room as RoomTold>⟧.plain handle.now) }
-    ensures { GoesInside (AppCall.GetItem item) filed_from
+    ensures { StaysInside (AppCall.GetItem item) filed_from
         (plain_handle ⟦<Room as RoomTold>⟧.plain handle.now) result
         (plain_handle ⟦<Room as RoomTold>⟧.plain handle.now) }
 {
@@ -70,7 +70,7 @@ pub(crate) fn put_env(
     text: &Text,
 ) -> Result<Outcome, NoMemory>
     requires { IsToldAll (plain_handle ⟦<Room as RoomTold>⟧.plain handle.old) }
-    ensures goes { GoesInside (AppCall.PutEnv text.now) filed_from
+    ensures goes { StaysInside (AppCall.PutEnv text.now) filed_from
         (plain_handle ⟦<Room as RoomTold>⟧.plain handle.old) result
         (plain_handle ⟦<Room as RoomTold>⟧.plain handle.new) }
     ensures tells { ⟦<Room as RoomTold>⟧.tells (room_in handle.new)
@@ -86,7 +86,7 @@ pub(crate) fn get_env(
     name: &Text,
 ) -> Result<Outcome, NoMemory>
     requires { IsToldAll (plain_handle ⟦<Room as RoomTold>⟧.plain handle.now) }
-    ensures { GoesInside (AppCall.GetEnv name.now) filed_from
+    ensures { StaysInside (AppCall.GetEnv name.now) filed_from
         (plain_handle ⟦<Room as RoomTold>⟧.plain handle.now) result
         (plain_handle ⟦<Room as RoomTold>⟧.plain handle.now) }
 {
@@ -96,7 +96,7 @@ pub(crate) fn get_env(
 
 pub(crate) fn list_env(alloc: Global, handle: &Handle, filed_from: u64) -> Result<Outcome, NoMemory>
     requires { IsToldAll (plain_handle ⟦<Room as RoomTold>⟧.plain handle.now) }
-    ensures { GoesInside AppCall.EnvList filed_from
+    ensures { StaysInside AppCall.EnvList filed_from
         (plain_handle ⟦<Room as RoomTold>⟧.plain handle.now) result
         (plain_handle ⟦<Room as RoomTold>⟧.plain handle.now) }
 {

@@ -75,7 +75,7 @@ fn locked(rt: &HostRuntime, path: &str, kind: LockKind) -> io::Result<Lock> {
 fn record_lock(rt: &HostRuntime, path: &str) -> io::Result<Option<Lock>> {
     // The file is made here, so that only its owner may open it: anyone who may open it may lock
     // it.
-    let _file = opened(rt, path)?;
+    let _file = open_or_create(rt, path)?;
     match sqlite_std_file::open(rt, path, Unknown) {
         Ok(files) => {
             remove_log(rt, path)?;
@@ -96,7 +96,7 @@ fn remove_log(rt: &HostRuntime, path: &str) -> io::Result<()> {
 
 // None if another open of the file has the lock, or the path names another file by now.
 fn whole_lock(rt: &HostRuntime, path: &str) -> io::Result<Option<Lock>> {
-    let file = opened(rt, path)?;
+    let file = open_or_create(rt, path)?;
     match file.try_lock() {
         Ok(()) if is_at(rt, &file, path)? => Ok(Some(Lock::Whole(file))),
         Ok(()) | Err(TryLockError::WouldBlock) => Ok(None),
@@ -105,7 +105,7 @@ fn whole_lock(rt: &HostRuntime, path: &str) -> io::Result<Option<Lock>> {
 }
 
 // Opens a regular file, or makes one that only its owner may open.
-fn opened(rt: &HostRuntime, path: &str) -> io::Result<File> {
+fn open_or_create(rt: &HostRuntime, path: &str) -> io::Result<File> {
     let made = OpenOptions::new()
         .read(true)
         .write(true)

@@ -115,11 +115,11 @@ fn serve_by(
         &mut world.process.ledger,
     );
     let code = answer?;
-    Ok(unless_put_off(room.transaction.put_off, code))
+    Ok(code_or_incomplete(room.transaction.put_off, code))
 }
 
 // The code of a line that was run, from what its module did.
-fn unless_put_off(put_off: bool, code: Code) -> Code
+fn code_or_incomplete(put_off: bool, code: Code) -> Code
     ensures { result ≡ answer_or_incomplete put_off code }
 {
     if put_off { Code::Incomplete } else { code }

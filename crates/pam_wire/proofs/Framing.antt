@@ -13,15 +13,15 @@ use Rattle.pam_base.specs.declared.call.AppCall.{AppCall}
 use Rattle.pam_base.specs.declared.call.AppCall.TheVariants as calls
 use Rattle.pam_base.specs.declared.call.Step.{Step}
 use Rattle.pam_base.specs.ServiceName.{is_name_byte, is_service_name}
-use Rattle.pam_wire.specs.declared.front.FirstFrame.{FirstFrame}
-use Rattle.pam_wire.specs.declared.front.FirstFrame.TheVariants.{Open, OutOfRange, Whole}
+use Rattle.pam_wire.specs.declared.prefix.FirstFrame.{FirstFrame}
+use Rattle.pam_wire.specs.declared.prefix.FirstFrame.TheVariants.{Open, OutOfRange, Whole}
 use Rattle.pam_base.specs.declared.call.CallName.{CallName}
 use Rattle.pam_wire.specs.declared.next.Next.{Next}
 use Rattle.pam_wire.specs.declared.next.Next.TheVariants as next
 use Rattle.pam_wire.specs.Frame.{AreBytes, value_bytes, rest_of, is_value, is_sound, has_frame, body_of, sized, frame_of}
 use Rattle.pam_base.specs.Call.{name_of_call}
 use Rattle.pam_wire.specs.Kind.{call_of_number}
-use Rattle.pam_wire.specs.Read.{call_of_kind, step_with, step_in, front_by, front_of}
+use Rattle.pam_wire.specs.Read.{call_of_kind, step_with, step_in, first_frame_by, first_frame_of}
 use Rattle.pam_wire.specs.Stream.{next_in, next_by, next_of, IsBody}
 use Rattle.pam_wire.proofs.Rests.{mapped, call-written, call-read, kind-read, kind_number-read}
 
@@ -99,20 +99,20 @@ body-size step e =
 
 -- ---- lengths
 
-pub in_range : (said follow : ℕ) → 2 ≤ said → said ≤ 580 → front_by said follow ≡ cond (nat_le said follow) (Whole (said + 2)) Open
+pub in_range : (said follow : ℕ) → 2 ≤ said → said ≤ 580 → first_frame_by said follow ≡ cond (nat_le said follow) (Whole (said + 2)) Open
 in_range said follow low high = rw (le-ltb said 2 low, le-ltb 580 said high) refl
 
 -- the length before a body
 pub said-size : (body : List ℕ) → length body ≤ 580 → from_be_bytes w16 (to_be_bytes w16 (length body)) ≡ length body
 said-size body le = from_be_bytes-to_be_bytes_2 (length body) (omega (arith, le))
 
-sized-front : (body more : List ℕ) → front_of (sized body ++ more) ≡ front_by (from_be_bytes w16 (to_be_bytes w16 (length body))) (length (body ++ more))
+sized-front : (body more : List ℕ) → first_frame_of (sized body ++ more) ≡ first_frame_by (from_be_bytes w16 (to_be_bytes w16 (length body))) (length (body ++ more))
 sized-front body more = refl
 
-pub sized-whole : (body more : List ℕ) → IsBody body → front_of (sized body ++ more) ≡ Whole (length body + 2)
+pub sized-whole : (body more : List ℕ) → IsBody body → first_frame_of (sized body ++ more) ≡ Whole (length body + 2)
 sized-whole body more is =
     let fits : nat_le (length body) (length (body ++ more)) ≡ true = le-leb _ _ (omega (arith, length-append body more)) in
-    sized-front body more ∙ ap (λ n. front_by n (length (body ++ more))) (said-size body is.1) ∙ in_range (length body) (length (body ++ more)) is.0 is.1 ∙ rw fits refl
+    sized-front body more ∙ ap (λ n. first_frame_by n (length (body ++ more))) (said-size body is.1) ∙ in_range (length body) (length (body ++ more)) is.0 is.1 ∙ rw fits refl
 
 front-size : (body more : List ℕ) → take (length body + 2 - 2) (drop 2 (sized body ++ more)) ≡ body
 front-size body more =
@@ -154,7 +154,7 @@ said_by a b more size said false true s h k e =
     record { said = said; said_is = s; size_is = omega (arith, is); fits = leb-true said (length more) k }
 said_by a b more size said false false s h k e = absurd cc
 
-said_of : (a b : ℕ) (more : List ℕ) (size : ℕ) → front_of (a ∷ b ∷ more) ≡ Whole size → IsSaid a b more size
+said_of : (a b : ℕ) (more : List ℕ) (size : ℕ) → first_frame_of (a ∷ b ∷ more) ≡ Whole size → IsSaid a b more size
 said_of a b more size e = said_by a b more size _ _ _ refl refl refl e
 
 pub two_back : (a b : ℕ) → a < 256 → b < 256 → to_be_bytes w16 (from_be_bytes w16 (a ∷ b ∷ [])) ≡ a ∷ b ∷ []
@@ -179,7 +179,7 @@ written_by a b more step said a' b' all s fits e =
       fits = omega (arith, fits);
     }
 
-whole-written : (rest : List ℕ) (step : Step) (size : ℕ) → AreBytes rest → front_of rest ≡ Whole size → step_in (take (size - 2) (drop 2 rest)) ≡ Some step → IsFrameOf rest step size
+whole-written : (rest : List ℕ) (step : Step) (size : ℕ) → AreBytes rest → first_frame_of rest ≡ Whole size → step_in (take (size - 2) (drop 2 rest)) ≡ Some step → IsFrameOf rest step size
 whole-written [] step size all w e = absurd cc
 whole-written (a ∷ []) step size all w e = one _ w
   where
@@ -205,7 +205,7 @@ size_of n = 0
 pub same_step : (s t : Step) (m n : ℕ) → ◌≡◌ {A = Next} (next.Frame s m) (next.Frame t n) → s ≡ t
 same_step s t m n e = ap (step_or s) e
 
-in_by : (rest : List ℕ) (step : Step) (size n : ℕ) (o : Option Step) → AreBytes rest → front_of rest ≡ Whole n → step_in (take (n - 2) (drop 2 rest)) ≡ o
+in_by : (rest : List ℕ) (step : Step) (size n : ℕ) (o : Option Step) → AreBytes rest → first_frame_of rest ≡ Whole n → step_in (take (n - 2) (drop 2 rest)) ≡ o
     → next_in o n ≡ next.Frame step size → IsFrameOf rest step size
 in_by rest step size n None all w h e = absurd cc
 in_by rest step size n (Some s) all w h e =
@@ -213,17 +213,17 @@ in_by rest step size n (Some s) all w h e =
     let s_is : s ≡ step = ap (step_or s) e in
     subst (λ t. IsFrameOf rest t size) s_is (subst (λ z. IsFrameOf rest s z) n_is (whole-written rest s n all w h))
 
-front_is : (rest : List ℕ) (step : Step) (size : ℕ) (f : FirstFrame) → AreBytes rest → front_of rest ≡ f → next_by f rest ≡ next.Frame step size → IsFrameOf rest step size
+front_is : (rest : List ℕ) (step : Step) (size : ℕ) (f : FirstFrame) → AreBytes rest → first_frame_of rest ≡ f → next_by f rest ≡ next.Frame step size → IsFrameOf rest step size
 front_is rest step size Open all w e = absurd cc
 front_is rest step size OutOfRange all w e = absurd cc
 front_is rest step size (Whole n) all w e = in_by rest step size n _ all w refl e
 
 pub frame-written : (rest : List ℕ) (step : Step) (size : ℕ) → AreBytes rest → next_of rest ≡ next.Frame step size → IsFrameOf rest step size
-frame-written rest step size all e = front_is rest step size (front_of rest) all refl e
+frame-written rest step size all e = front_is rest step size (first_frame_of rest) all refl e
 
 -- ---- a frame that is read is whole
 
-whole_fits : (rest : List ℕ) (size : ℕ) → front_of rest ≡ Whole size → size ≤ length rest
+whole_fits : (rest : List ℕ) (size : ℕ) → first_frame_of rest ≡ Whole size → size ≤ length rest
 whole_fits [] size w = absurd cc
 whole_fits (a ∷ []) size w = one _ w
   where
@@ -236,10 +236,10 @@ size_by : (o : Option Step) (n : ℕ) (step : Step) (size : ℕ) → next_in o n
 size_by None n step size e = absurd cc
 size_by (Some s) n step size e = ap size_of e
 
-fits_by : (rest : List ℕ) (step : Step) (size : ℕ) (f : FirstFrame) → front_of rest ≡ f → next_by f rest ≡ next.Frame step size → size ≤ length rest
+fits_by : (rest : List ℕ) (step : Step) (size : ℕ) (f : FirstFrame) → first_frame_of rest ≡ f → next_by f rest ≡ next.Frame step size → size ≤ length rest
 fits_by rest step size Open w e = absurd cc
 fits_by rest step size OutOfRange w e = absurd cc
 fits_by rest step size (Whole n) w e = let is = size_by _ n step size e in omega (arith, is, whole_fits rest n w)
 
 pub frame-fits : (rest : List ℕ) (step : Step) (size : ℕ) → next_of rest ≡ next.Frame step size → size ≤ length rest
-frame-fits rest step size e = fits_by rest step size (front_of rest) refl e
+frame-fits rest step size e = fits_by rest step size (first_frame_of rest) refl e

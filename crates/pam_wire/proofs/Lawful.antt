@@ -4,11 +4,11 @@ use Rattle.std.proofs.Math.Seq.{drop-append_seam}
 use Rattle.std.proofs.lemmas.Bool.{eqb-true, eq-eqb}
 use Rattle.std.proofs.lemmas.List.{append-nil, take_all, drop_all}
 use Rattle.pam_base.specs.declared.call.Step.{Step}
-use Rattle.pam_wire.specs.declared.front.FirstFrame.{FirstFrame}
-use Rattle.pam_wire.specs.declared.front.FirstFrame.TheVariants.{Open, OutOfRange, Whole}
+use Rattle.pam_wire.specs.declared.prefix.FirstFrame.{FirstFrame}
+use Rattle.pam_wire.specs.declared.prefix.FirstFrame.TheVariants.{Open, OutOfRange, Whole}
 use Rattle.pam_wire.specs.declared.next.Next.TheVariants as next
 use Rattle.pam_wire.specs.Frame.{IsFrame, AreBytes, has_frame, body_of, frame_of, frames_of}
-use Rattle.pam_wire.specs.Read.{step_in, step_by, step_of, front_of}
+use Rattle.pam_wire.specs.Read.{step_in, step_by, step_of, first_frame_of}
 use Rattle.pam_wire.specs.Stream.{next_in, next_by, next_of, AreFramesOf, HasNoFrame}
 use Rattle.pam_wire.specs.Laws.{ReadsTable, HasOneFrame, IsOneStep, BeginsNoOther, HasOneReading}
 use Rattle.pam_wire.proofs.Framing.{step-read, body-size, sized-whole, frame-read, frame-written, same_step}
@@ -20,12 +20,12 @@ frame_size step = omega arith
 
 frame_alone : (step : Step) → has_frame step ≡ true → step_of (frame_of step) ≡ Some step
 frame_alone step e =
-    let whole : front_of (frame_of step) ≡ Whole (length (body_of step) + 2) = ap front_of (sym (append-nil (frame_of step))) ∙ sized-whole (body_of step) [] (body-size step e) in
+    let whole : first_frame_of (frame_of step) ≡ Whole (length (body_of step) + 2) = ap first_frame_of (sym (append-nil (frame_of step))) ∙ sized-whole (body_of step) [] (body-size step e) in
     let same : eqb (length (body_of step) + 2) (length (frame_of step)) ≡ true = eq-eqb _ _ (sym (frame_size step)) in
     ap (λ (f : FirstFrame). step_by f (frame_of step)) whole ∙ rw (same, step-read step e) refl
 
 -- if all bytes are one frame
-all_by : (bytes : List ℕ) (step : Step) (size : ℕ) (t : Bool) → AreBytes bytes → front_of bytes ≡ Whole size → eqb size (length bytes) ≡ t → cond t (step_in (drop 2 bytes)) None ≡ Some step → IsFrame bytes step
+all_by : (bytes : List ℕ) (step : Step) (size : ℕ) (t : Bool) → AreBytes bytes → first_frame_of bytes ≡ Whole size → eqb size (length bytes) ≡ t → cond t (step_in (drop 2 bytes)) None ≡ Some step → IsFrame bytes step
 all_by bytes step size false all w h e = absurd cc
 all_by bytes step size true all w h e =
     let size_is = eqb-true size (length bytes) h in
@@ -37,13 +37,13 @@ all_by bytes step size true all w h e =
       bytes_are = f.parts ∙ ap (λ (z : List ℕ). frame_of step ++ z) (drop_all size bytes (omega (arith, size_is))) ∙ append-nil (frame_of step);
     }
 
-read_by : (bytes : List ℕ) (step : Step) (f : FirstFrame) → AreBytes bytes → front_of bytes ≡ f → step_by f bytes ≡ Some step → IsFrame bytes step
+read_by : (bytes : List ℕ) (step : Step) (f : FirstFrame) → AreBytes bytes → first_frame_of bytes ≡ f → step_by f bytes ≡ Some step → IsFrame bytes step
 read_by bytes step Open all w e = absurd cc
 read_by bytes step OutOfRange all w e = absurd cc
 read_by bytes step (Whole size) all w e = all_by bytes step size _ all w refl e
 
 pub reads_table : ReadsTable
-reads_table = λ bytes step. (λ f. ap step_of f.bytes_are ∙ frame_alone step f.within, λ all e. read_by bytes step (front_of bytes) all refl e)
+reads_table = λ bytes step. (λ f. ap step_of f.bytes_are ∙ frame_alone step f.within, λ all e. read_by bytes step (first_frame_of bytes) all refl e)
 
 -- ---- frames are unambiguous
 

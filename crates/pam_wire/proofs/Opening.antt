@@ -5,12 +5,12 @@ use Rattle.std.proofs.lemmas.List.{length-replicate}
 use Rattle.std.proofs.lemmas.List.Elements.{All-head, All-tail}
 use Rattle.std.specs.Int.{w16, from_be_bytes, to_be_bytes}
 use Rattle.pam_base.specs.declared.call.Step.{Step}
-use Rattle.pam_wire.specs.declared.front.FirstFrame.{FirstFrame}
-use Rattle.pam_wire.specs.declared.front.FirstFrame.TheVariants.{Open, OutOfRange, Whole}
+use Rattle.pam_wire.specs.declared.prefix.FirstFrame.{FirstFrame}
+use Rattle.pam_wire.specs.declared.prefix.FirstFrame.TheVariants.{Open, OutOfRange, Whole}
 use Rattle.pam_wire.specs.declared.next.Next.{Next}
 use Rattle.pam_wire.specs.declared.next.Next.TheVariants as next
 use Rattle.pam_wire.specs.Frame.{AreBytes, sized, frame_of}
-use Rattle.pam_wire.specs.Read.{front_by, front_of}
+use Rattle.pam_wire.specs.Read.{first_frame_by, first_frame_of}
 use Rattle.pam_wire.specs.Stream.{next_in, next_by, next_of, IsBody, IsOpen, AreFramesOf, HasNoFrame}
 use Rattle.pam_wire.proofs.Framing.{two_back, said-size, in_range, frame-read}
 
@@ -31,7 +31,7 @@ short_by said follow false true v h k l e = absurd cc
 short_by said follow false false true h k l e = absurd cc
 short_by said follow false false false h k l e = record { low = ltb-false said 2 h; high = ltb-false 580 said k; fewer = leb-false said follow l }
 
-short_of : (said follow : ℕ) → front_by said follow ≡ Open → IsShort said follow
+short_of : (said follow : ℕ) → first_frame_by said follow ≡ Open → IsShort said follow
 short_of said follow e = short_by said follow _ _ _ refl refl refl e
 
 -- bytes that begin with a length, with zeros after them
@@ -59,7 +59,7 @@ one_by : (a : ℕ) (t : Bool) → a < 256 → nat_lt 2 a ≡ t → cond t OutOfR
 one_by a true a' h e = absurd cc
 one_by a false a' h e = let le = ltb-false 2 a h in one_byte a 2 a' (omega arith) (omega arith) (omega (arith, le))
 
-pub front-open : (rest : List ℕ) → AreBytes rest → front_of rest ≡ Open → IsOpen rest
+pub front-open : (rest : List ℕ) → AreBytes rest → first_frame_of rest ≡ Open → IsOpen rest
 front-open [] all e = record { body = 0 ∷ 0 ∷ []; more = sized (0 ∷ 0 ∷ []); body_is = (omega arith, omega arith); some = omega arith; parts = refl }
 front-open (a ∷ []) all e = one_by a _ (All-head (λ b. b < 256) a [] all) refl e
 front-open (a ∷ b ∷ more) all e =
@@ -70,7 +70,7 @@ front-open (a ∷ b ∷ more) all e =
 first_byte : (body : List ℕ) → length body ≤ 580 → length body / 256 % 256 ≤ 2
 first_byte body le = omega (arith, le)
 
-parts_two : (rest body more : List ℕ) → IsBody body → 0 < length more → sized body ≡ rest ++ more → front_of rest ≡ Open
+parts_two : (rest body more : List ℕ) → IsBody body → 0 < length more → sized body ≡ rest ++ more → first_frame_of rest ≡ Open
 parts_two [] body more is some e = refl
 parts_two (a ∷ []) body more is some e =
     let first : length body / 256 % 256 ≡ a = ap (λ (l : List ℕ). first_of l) e in
@@ -85,9 +85,9 @@ parts_two (a ∷ b ∷ rest) body more is some e =
     let size : length body ≡ length rest + length more = ap length behind ∙ length-append rest more in
     let said : from_be_bytes w16 (a ∷ b ∷ []) ≡ length body = ap (from_be_bytes w16) (sym two) ∙ said-size body is.1 in
     let less : nat_le (length body) (length rest) ≡ false = lt-leb (length body) (length rest) (omega (arith, size, some)) in
-    ap (λ n. front_by n (length rest)) said ∙ in_range (length body) (length rest) is.0 is.1 ∙ rw less refl
+    ap (λ n. first_frame_by n (length rest)) said ∙ in_range (length body) (length rest) is.0 is.1 ∙ rw less refl
 
-pub open-front : (rest : List ℕ) → IsOpen rest → front_of rest ≡ Open
+pub open-front : (rest : List ℕ) → IsOpen rest → first_frame_of rest ≡ Open
 open-front rest o = parts_two rest o.body o.more o.body_is o.some o.parts
 
 -- ---- if nothing more is read
@@ -102,7 +102,7 @@ front_by_next OutOfRange rest e = absurd cc
 front_by_next (Whole n) rest e = absurd (next_open _ n e)
 
 pub next-open : (rest : List ℕ) → AreBytes rest → next_of rest ≡ next.Open → IsOpen rest
-next-open rest all e = front-open rest all (front_by_next (front_of rest) rest e)
+next-open rest all e = front-open rest all (front_by_next (first_frame_of rest) rest e)
 
 pub bad-not_open : (rest : List ℕ) → next_of rest ≡ next.Bad → IsOpen rest → ⊥
 bad-not_open rest e o =

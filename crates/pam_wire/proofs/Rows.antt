@@ -4,9 +4,9 @@ use Rattle.pam_base.specs.declared.call.AppCall.{AppCall}
 use Rattle.pam_base.specs.declared.call.AppCall.TheVariants as calls
 use Rattle.pam_base.specs.declared.call.Step.{Step}
 use Rattle.pam_base.specs.declared.item.ItemName.TheVariants as items
-use Rattle.pam_wire.specs.declared.front.FirstFrame.TheVariants.{Open, OutOfRange, Whole}
+use Rattle.pam_wire.specs.declared.prefix.FirstFrame.TheVariants.{Open, OutOfRange, Whole}
 use Rattle.pam_wire.specs.Frame.{frame_of, answer_of, has_frame}
-use Rattle.pam_wire.specs.Read.{front_of, step_of}
+use Rattle.pam_wire.specs.Read.{first_frame_of, step_of}
 
 -- a step of transaction 1
 abbrev first : AppCall → Step
@@ -18,7 +18,7 @@ Is call bytes = (frame_of (first call) ≡ bytes) × (step_of bytes ≡ Some (fi
 
 -- byte strings that are whole frames by their lengths, but not calls
 abbrev AreNone : List (List ℕ) → Type 0
-AreNone all = (map front_of all ≡ map (λ bytes. Whole (length bytes)) all)
+AreNone all = (map first_frame_of all ≡ map (λ bytes. Whole (length bytes)) all)
     × (map step_of all ≡ replicate (length all) None)
 
 -- ---- a frame of each kind
@@ -205,39 +205,39 @@ name_of_65 = (refl, refl)
 
 -- ---- lengths, from 2 to 580
 
-no_bytes : front_of [] ≡ Open
+no_bytes : first_frame_of [] ≡ Open
 no_bytes = refl
 
-length_of_1 : front_of (0 ∷ 1 ∷ 1 ∷ []) ≡ OutOfRange
+length_of_1 : first_frame_of (0 ∷ 1 ∷ 1 ∷ []) ≡ OutOfRange
 length_of_1 = refl
 
-length_of_0 : front_of (0 ∷ 0 ∷ []) ≡ OutOfRange
+length_of_0 : first_frame_of (0 ∷ 0 ∷ []) ≡ OutOfRange
 length_of_0 = refl
 
-length_of_2 : front_of (0 ∷ 2 ∷ 1 ∷ 13 ∷ []) ≡ Whole 4
+length_of_2 : first_frame_of (0 ∷ 2 ∷ 1 ∷ 13 ∷ []) ≡ Whole 4
 length_of_2 = refl
 
-length_of_580 : front_of (2 ∷ 68 ∷ []) ≡ Open
+length_of_580 : first_frame_of (2 ∷ 68 ∷ []) ≡ Open
 length_of_580 = refl
 
-length_of_581 : front_of (2 ∷ 69 ∷ []) ≡ OutOfRange
+length_of_581 : first_frame_of (2 ∷ 69 ∷ []) ≡ OutOfRange
 length_of_581 = refl
 
 -- one byte of a length
-two_may_go_on : front_of (2 ∷ []) ≡ Open
+two_may_go_on : first_frame_of (2 ∷ []) ≡ Open
 two_may_go_on = refl
 
-three_may_not : front_of (3 ∷ []) ≡ OutOfRange
+three_may_not : first_frame_of (3 ∷ []) ≡ OutOfRange
 three_may_not = refl
 
 -- a frame that is cut off, and one with a byte after it
-cut_frame_is_open : front_of (0 ∷ 6 ∷ 1 ∷ 3 ∷ 0 ∷ []) ≡ Open
+cut_frame_is_open : first_frame_of (0 ∷ 6 ∷ 1 ∷ 3 ∷ 0 ∷ []) ≡ Open
 cut_frame_is_open = refl
 
 cut_frame_is_no_call : step_of (0 ∷ 6 ∷ 1 ∷ 3 ∷ 0 ∷ []) ≡ None
 cut_frame_is_no_call = refl
 
-frame_is_cut_off : front_of (0 ∷ 2 ∷ 1 ∷ 13 ∷ 0 ∷ []) ≡ Whole 4
+frame_is_cut_off : first_frame_of (0 ∷ 2 ∷ 1 ∷ 13 ∷ 0 ∷ []) ≡ Whole 4
 frame_is_cut_off = refl
 
 frame_and_more_is_no_call : step_of (0 ∷ 2 ∷ 1 ∷ 13 ∷ 0 ∷ []) ≡ None

@@ -2,15 +2,15 @@
 use Rattle.std.proofs.Common.{◌≡◌, ℕ, suc, ◌+◌, ◌≤◌, Bool, true, false, ◌||◌, cond, List, [], ◌∷◌, ◌++◌, length, nat_lt, nat_le, refl, arith, length-append}
 use Rattle.std.proofs.lemmas.Bool.{leb-true, leb-false, ltb-true, ltb-false, le-leb, lt-ltb}
 use Rattle.std.specs.Int.{w16, from_be_bytes}
-use Rattle.pam_wire.specs.declared.front.FirstFrame.{FirstFrame}
-use Rattle.pam_wire.specs.declared.front.FirstFrame.TheVariants.{Open, OutOfRange, Whole}
-use Rattle.pam_wire.specs.Read.{front_by, front_of}
-use Rattle.pam_wire.specs.Laws.{Settles, FrontSettles}
+use Rattle.pam_wire.specs.declared.prefix.FirstFrame.{FirstFrame}
+use Rattle.pam_wire.specs.declared.prefix.FirstFrame.TheVariants.{Open, OutOfRange, Whole}
+use Rattle.pam_wire.specs.Read.{first_frame_by, first_frame_of}
+use Rattle.pam_wire.specs.Laws.{Settles, FirstFrameSettles}
 
 -- by a length, if n bytes follow, and others after them
 unfoldable SettlesBy : FirstFrame → ℕ → ℕ → ℕ → Type 0
-SettlesBy (Whole size) said follow all = (4 ≤ size) × (size ≤ suc (suc follow)) × (front_by said all ≡ Whole size)
-SettlesBy OutOfRange said follow all = front_by said all ≡ OutOfRange
+SettlesBy (Whole size) said follow all = (4 ≤ size) × (size ≤ suc (suc follow)) × (first_frame_by said all ≡ Whole size)
+SettlesBy OutOfRange said follow all = first_frame_by said all ≡ OutOfRange
 SettlesBy Open said follow all = follow ≤ 579
 
 by_length : (said follow all : ℕ) (t u v : Bool) → follow ≤ all → nat_lt said 2 ≡ t → nat_lt 580 said ≡ u → nat_le said follow ≡ v
@@ -27,7 +27,7 @@ by_length said follow all false false false le h k l =
     let fewer = leb-false said follow l in
     omega (arith, high, fewer)
 
-by_said : (said follow all : ℕ) → follow ≤ all → SettlesBy (front_by said follow) said follow all
+by_said : (said follow all : ℕ) → follow ≤ all → SettlesBy (first_frame_by said follow) said follow all
 by_said said follow all le = by_length said follow all _ _ _ le refl refl refl
 
 settles_two : (f : FirstFrame) (a b : ℕ) (bytes more : List ℕ) → SettlesBy f (from_be_bytes w16 (a ∷ b ∷ [])) (length bytes) (length (bytes ++ more)) → Settles f (a ∷ b ∷ bytes) more
@@ -36,7 +36,7 @@ settles_two (Whole size) a b bytes more s = (s.0, omega (arith, s.1), s.2)
 settles_two OutOfRange a b bytes more s = (omega arith, s)
 settles_two Open a b bytes more s = omega (arith, s)
 
-one_over : (a : ℕ) (more : List ℕ) → nat_lt 2 a ≡ true → front_of (a ∷ more) ≡ OutOfRange
+one_over : (a : ℕ) (more : List ℕ) → nat_lt 2 a ≡ true → first_frame_of (a ∷ more) ≡ OutOfRange
 one_over a [] e = rw e refl
 one_over a (b ∷ more) e =
     let above = ltb-true 2 a e in
@@ -51,10 +51,10 @@ settles_one : (a : ℕ) (more : List ℕ) (t : Bool) → nat_lt 2 a ≡ t → Se
 settles_one a more true e = (omega arith, one_over a more e)
 settles_one a more false e = omega arith
 
-pub front_settles : FrontSettles
-front_settles = settles
+pub first_frame_settles : FirstFrameSettles
+first_frame_settles = settles
   where
-    settles : (bytes more : List ℕ) → Settles (front_of bytes) bytes more
+    settles : (bytes more : List ℕ) → Settles (first_frame_of bytes) bytes more
     settles [] more = omega arith
     settles (a ∷ []) more = settles_one a more (nat_lt 2 a) refl
     settles (a ∷ b ∷ bytes) more = settles_two _ a b bytes more (by_said _ (length bytes) (length (bytes ++ more)) (omega (arith, length-append bytes more)))

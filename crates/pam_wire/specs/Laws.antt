@@ -1,10 +1,10 @@
 -- What holds for frames, in terms that no reader uses (this project's own).
 use Rattle.std.specs.Prelude.{◌≡◌, ◌<◌, ◌≤◌, ℕ, List, [], ◌++◌, length, Some}
 use Rattle.pam_base.specs.declared.call.Step.{Step}
-use Rattle.pam_wire.specs.declared.front.FirstFrame.{FirstFrame}
-use Rattle.pam_wire.specs.declared.front.FirstFrame.TheVariants.{Open, OutOfRange, Whole}
+use Rattle.pam_wire.specs.declared.prefix.FirstFrame.{FirstFrame}
+use Rattle.pam_wire.specs.declared.prefix.FirstFrame.TheVariants.{Open, OutOfRange, Whole}
 use Rattle.pam_wire.specs.Frame.{IsFrame, AreBytes}
-use Rattle.pam_wire.specs.Read.{front_of, step_of}
+use Rattle.pam_wire.specs.Read.{first_frame_of, step_of}
 use Rattle.pam_wire.specs.Stream.{AreFramesOf, HasNoFrame, IsOpen}
 
 -- a frame by the table is read as its step, and if bytes are read as a step they are its frame
@@ -38,15 +38,15 @@ HasOneReading = (bytes : List ℕ) (steps others : List Step) (rest left : List 
 -- frame has. An incomplete frame has at most 581 bytes.
 abbrev pub Settles : FirstFrame → List ℕ → List ℕ → Type 0
 Settles (Whole size) bytes more =
-    (4 ≤ size) × (size ≤ length bytes) × (front_of (bytes ++ more) ≡ Whole size)
-Settles OutOfRange bytes more = (0 < length bytes) × (front_of (bytes ++ more) ≡ OutOfRange)
+    (4 ≤ size) × (size ≤ length bytes) × (first_frame_of (bytes ++ more) ≡ Whole size)
+Settles OutOfRange bytes more = (0 < length bytes) × (first_frame_of (bytes ++ more) ≡ OutOfRange)
 Settles Open bytes more = length bytes ≤ 581
 
-abbrev pub FrontSettles : Type 0
-FrontSettles = (bytes more : List ℕ) → Settles (front_of bytes) bytes more
+abbrev pub FirstFrameSettles : Type 0
+FirstFrameSettles = (bytes more : List ℕ) → Settles (first_frame_of bytes) bytes more
 
 -- Some bytes are an incomplete frame if and only if they are the beginning of one whose length is
 -- in range.
 abbrev pub OpensByTable : Type 0
-OpensByTable = (rest : List ℕ) → (AreBytes rest → front_of rest ≡ Open → IsOpen rest)
-    × (IsOpen rest → front_of rest ≡ Open)
+OpensByTable = (rest : List ℕ) → (AreBytes rest → first_frame_of rest ≡ Open → IsOpen rest)
+    × (IsOpen rest → first_frame_of rest ≡ Open)

@@ -11,8 +11,8 @@ use Rattle.pam_base.specs.ServiceName.{is_service_name}
 use Rattle.pam_base.specs.declared.call.CallName.{CallName}
 use Rattle.pam_base.specs.declared.call.CallName.TheVariants as names
 use Rattle.pam_base.specs.Call.{stack_call}
-use Rattle.pam_wire.specs.declared.front.FirstFrame.{FirstFrame}
-use Rattle.pam_wire.specs.declared.front.FirstFrame.TheVariants.{Open, OutOfRange, Whole}
+use Rattle.pam_wire.specs.declared.prefix.FirstFrame.{FirstFrame}
+use Rattle.pam_wire.specs.declared.prefix.FirstFrame.TheVariants.{Open, OutOfRange, Whole}
 use Rattle.pam_wire.specs.Frame.{is_text, is_name}
 use Rattle.pam_wire.specs.Kind.{call_of_number}
 
@@ -97,17 +97,17 @@ step_in body = None
 
 -- How long a frame is: its first two bytes say so, and so many bytes have to follow; the length may
 -- be 2 to 580.
-abbrev pub front_by : ℕ → ℕ → FirstFrame
-front_by said follow =
+abbrev pub first_frame_by : ℕ → ℕ → FirstFrame
+first_frame_by said follow =
     if nat_lt said 2 || nat_lt 580 said then OutOfRange
     else if nat_le said follow then Whole (said + 2) else Open
 
 -- what some bytes begin with; a first byte alone says that the length is at least 256 times that
 -- byte
-abbrev pub front_of : List ℕ → FirstFrame
-front_of [] = Open
-front_of (a ∷ []) = if nat_lt 2 a then OutOfRange else Open
-front_of (a ∷ b ∷ more) = front_by (from_be_bytes w16 (a ∷ b ∷ [])) (length more)
+abbrev pub first_frame_of : List ℕ → FirstFrame
+first_frame_of [] = Open
+first_frame_of (a ∷ []) = if nat_lt 2 a then OutOfRange else Open
+first_frame_of (a ∷ b ∷ more) = first_frame_by (from_be_bytes w16 (a ∷ b ∷ [])) (length more)
 
 -- ---- the step of a frame
 
@@ -116,4 +116,4 @@ step_by (Whole size) bytes = if size == length bytes then step_in (drop 2 bytes)
 step_by other bytes = None
 
 abbrev pub step_of : List ℕ → Option Step
-step_of bytes = step_by (front_of bytes) bytes
+step_of bytes = step_by (first_frame_of bytes) bytes

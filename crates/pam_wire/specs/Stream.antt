@@ -4,13 +4,13 @@ use Rattle.std.specs.List.{AllByRecursion}
 use Rattle.pam_base.specs.declared.call.Step.{Step}
 use Rattle.pam_base.specs.declared.fault.Refuse.{Refuse}
 use Rattle.pam_base.specs.declared.fault.Refuse.TheVariants.{NoMemory, Named}
-use Rattle.pam_wire.specs.declared.front.FirstFrame.{FirstFrame}
-use Rattle.pam_wire.specs.declared.front.FirstFrame.TheVariants.{Open, OutOfRange, Whole}
+use Rattle.pam_wire.specs.declared.prefix.FirstFrame.{FirstFrame}
+use Rattle.pam_wire.specs.declared.prefix.FirstFrame.TheVariants.{Open, OutOfRange, Whole}
 use Rattle.pam_wire.specs.declared.frames.BadFrame.{BadFrame}
 use Rattle.pam_wire.specs.declared.next.Next.{Next}
 use Rattle.pam_wire.specs.declared.next.Next.TheVariants as next
 use Rattle.pam_wire.specs.Frame.{has_frame, sized, frames_of}
-use Rattle.pam_wire.specs.Read.{front_of, step_in}
+use Rattle.pam_wire.specs.Read.{first_frame_of, step_in}
 
 -- how many bytes come before the next frame, and the bytes from there on
 pub record FramesState : Type 0 where
@@ -30,7 +30,7 @@ next_by OutOfRange rest = next.Bad
 next_by (Whole size) rest = next_in (step_in (take (size - 2) (drop 2 rest))) size
 
 abbrev pub next_of : List ℕ → Next
-next_of rest = next_by (front_of rest) rest
+next_of rest = next_by (first_frame_of rest) rest
 
 -- the bytes begin with the frame of a step
 abbrev pub IsStep : Next → Type 0

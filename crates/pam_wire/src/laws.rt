@@ -1,4 +1,4 @@
-ghost use Rattle.pam_wire.specs.Laws.{ReadsTable, HasOneFrame, IsOneStep, BeginsNoOther, HasOneReading, FrontSettles, OpensByTable};
+ghost use Rattle.pam_wire.specs.Laws.{ReadsTable, HasOneFrame, IsOneStep, BeginsNoOther, HasOneReading, FirstFrameSettles, OpensByTable};
 
 // Each of these is a law about the definitions: its contract states it, for those who call it in a
 // proof.
@@ -26,11 +26,11 @@ pub fn steps_are_those_of_the_bytes()
 {}
 
 /// What some bytes begin with stays the same, whatever follows them.
-pub fn front_settles()
-    ensures { FrontSettles }
+pub fn first_frame_settles()
+    ensures { FirstFrameSettles }
 {}
 
 /// What is read as the beginning of a frame is one by the table, and nothing else is.
-pub fn front_opens_by_the_table()
+pub fn frame_opens_by_the_table()
     ensures { OpensByTable }
 {}

@@ -4,15 +4,15 @@
 
 mod frame;
 mod frames;
-mod front;
 mod kind;
 pub mod laws;
 mod next;
+mod prefix;
 mod step;
 
 pub use conv_port::WireConv;
 pub use frame::{answer_of, frame_of};
 pub use frames::{BadFrame, Frames};
-pub use front::{FirstFrame, front_of};
 pub use next::Next;
+pub use prefix::{FirstFrame, first_frame_of};
 pub use step::step_of;

@@ -1,7 +1,7 @@
 ghost use Rattle.std.specs.Prelude.{◌≡◌, IfOk, OnErr};
 ghost use Rattle.pam_wire.specs.Stream.{IsStep, next_of};
 
-use crate::front::{FirstFrame, LENGTH, front_of};
+use crate::prefix::{FirstFrame, LENGTH, first_frame_of};
 use crate::step::step_in;
 use pam_base::{NoMemory, Step};
 use std::alloc::Global;
@@ -21,7 +21,7 @@ pub(crate) fn next_of(alloc: Global, bytes: &[u8]) -> Result<Next, NoMemory>
     ensures next { IfOk result (λ next. next ≡ next_of bytes.now) }
     ensures memory { OnErr result (IsStep (next_of bytes.now)) }
 {
-    match front_of(bytes) {
+    match first_frame_of(bytes) {
         FirstFrame::Open => Ok(Next::Open),
         FirstFrame::OutOfRange => Ok(Next::Bad),
         FirstFrame::Whole(size) => match step_in(alloc, &bytes[LENGTH..size])? {

@@ -2,8 +2,8 @@ ghost use Rattle.std.specs.Prelude.{◌≡◌, IfOk, IfSome, IsTrue, OnErr, is_s
 ghost use Rattle.pam_base.specs.Call.{is_fit};
 ghost use Rattle.pam_wire.specs.Read.{number_in, text_in, name_in, value_in, switch_in, item_in, item_of_number, setting_in, start_in, list_in, call_in, step_in, step_of};
 
-use crate::front::{FirstFrame, LENGTH, front_of};
 use crate::kind::call_of_number;
+use crate::prefix::{FirstFrame, LENGTH, first_frame_of};
 use pam_base::{ALL_ITEMS, AppCall, CallName, ItemName, NoMemory, Step, Text, is_service_name};
 use std::alloc::Global;
 
@@ -19,7 +19,7 @@ pub fn step_of(alloc: Global, frame: &[u8]) -> Result<Option<Step>, NoMemory>
     // A start has the name of a service, and a reply has at most 512 bytes.
     ensures fit { IfOk result (λ found. IfSome found (λ step. IsTrue (is_fit step.call))) }
 {
-    match front_of(frame) {
+    match first_frame_of(frame) {
         FirstFrame::Whole(size) => {
             if size == frame.len() {
                 step_in(alloc, &frame[LENGTH..])

@@ -9,7 +9,7 @@ use Rattle.control_words.specs.Stack.{Stack, none, line, sub, count, lines_in, d
 use Rattle.handler_chain.specs.declared.opinion.Opinion.{Opinion}
 use Rattle.handler_chain.specs.declared.pass_kind.PassKind.{PassKind}
 use Rattle.handler_chain.specs.Opinion.{acted}
-use Rattle.handler_chain.specs.Walk.{Next, after, stop, Serving, Served, ServedAs, Walked, walk, walked, halted, next_of, settled}
+use Rattle.handler_chain.specs.Walk.{Next, after, stop, Serving, Served, ServedAs, Walked, walk, walked, halted, next_of, new_or_overrun}
 use Rattle.handler_chain.specs.Walk.{onward as onto}
 use Rattle.pass_replay.specs.declared.next_node.NextNode.{NextNode}
 use Rattle.pass_replay.specs.Walk.{skip_of, WalkEnds}
@@ -34,18 +34,18 @@ module _ {State : Type 0} (kind : PassKind) (serve : Serving State) where
       let action : Action = action_at rule.control served.deciding in
       let new : Opinion = acted kind action served.answer served.deciding entry opinion in
       walk kind serve 0 (line rule rest) at entry opinion old
-      ≡ walk kind serve (skip_of (next_of action (count rest) new) (count rest)) rest (at + 1) entry (settled action (count rest) new) served.state
+      ≡ walk kind serve (skip_of (next_of action (count rest) new) (count rest)) rest (at + 1) entry (new_or_overrun action (count rest) new) served.state
   line_serves rule rest at entry opinion old is =
       let served : Served State = serve rule at old in
       let action : Action = action_at rule.control served.deciding in
       let new : Opinion = acted kind action served.answer served.deciding entry opinion in
-      rw is (goes_on (next_of action (count rest) new) rest (at + 1) entry (settled action (count rest) new) served.state)
+      rw is (goes_on (next_of action (count rest) new) rest (at + 1) entry (new_or_overrun action (count rest) new) served.state)
 
   pub line_goes : (rule : Rule) (rest : Stack) (at : ℕ) (entry opinion : Opinion) (old new : State) (answer deciding : Code)
       (action : Action) (left : ℕ) (acts : Opinion) (on : NextNode)
       → ServedAs (serve rule at old) answer deciding false new → action ≡ action_at rule.control deciding
       → acts ≡ acted kind action answer deciding entry opinion → count rest ≡ left
-      → on.opinion ≡ settled action left acts → on.skip ≡ skip_of (next_of action left acts) left
+      → on.opinion ≡ new_or_overrun action left acts → on.skip ≡ skip_of (next_of action left acts) left
       → walk kind serve 0 (line rule rest) at entry opinion old ≡ walk kind serve on.skip rest (at + 1) entry on.opinion new
   line_goes rule rest at entry opinion old new answer deciding action left acts on served action_is acts_is counted opinion_is skip_is =
       let left_is : left ≡ count rest = sym counted in

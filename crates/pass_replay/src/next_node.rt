@@ -1,6 +1,6 @@
 ghost use Rattle.std.specs.Prelude.{◌≡◌, if◌then◌else◌, nat_le};
 ghost use Rattle.handler_chain.specs.Opinion.{overrun};
-ghost use Rattle.handler_chain.specs.Walk.{next_of, settled};
+ghost use Rattle.handler_chain.specs.Walk.{next_of, new_or_overrun};
 ghost use Rattle.pass_replay.specs.Walk.{skip_of};
 
 use control_words::Action;
@@ -16,7 +16,7 @@ pub struct NextNode {
 
 /// Where a list with `left` nodes left goes on, after an action that led to a state.
 pub fn next_node_after(action: Action, left: usize, new: Opinion) -> NextNode
-    ensures opinion { result.opinion ≡ settled action left new }
+    ensures opinion { result.opinion ≡ new_or_overrun action left new }
     ensures skip { result.skip ≡ skip_of (next_of action left new) left }
 {
     if let Action::Jump(number) = action {

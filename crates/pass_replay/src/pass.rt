@@ -1,6 +1,6 @@
 ghost use Rattle.std.specs.Prelude.{◌≡◌, ◌≤◌, List, Option, IfOk};
 ghost use Rattle.control_words.specs.Stack.{lines_in, stack_of};
-ghost use Rattle.dispatch_core.specs.Calls.{answers_held, kept_behind, passed_by};
+ghost use Rattle.dispatch_core.specs.Calls.{answers_held, cached_after, passed_by};
 ghost use Rattle.handler_chain.specs.Pass.{PassState, answers_of, pass_after};
 ghost use Rattle.handler_chain.specs.Retell.{Telling, replaying};
 ghost use Rattle.handler_chain.specs.Walk.{Walked};
@@ -54,7 +54,7 @@ fn finish(
         (walked : Walked (PassState Telling)) → WalkEnds walked end (state_in past told replay) →
         passed_of told passed ≡ passed_by kind (kept_answers follows) walked) }
 {
-    let kept = kept_behind(alloc, kind, replay.visits.items(), follows)?;
+    let kept = cached_after(alloc, kind, replay.visits.items(), follows)?;
     let paused = paused_after(alloc, end, replay.visits.items())?;
     Ok(Passed {
         code: code_of(end),
@@ -74,14 +74,14 @@ fn code_of(end: Option<Opinion>) -> Code
     }
 }
 
-fn kept_behind(
+fn cached_after(
     alloc: Global,
     kind: PassKind,
     visits: &[Visited],
     follows: Option<Answers>,
 ) -> Result<Option<Answers>, NoMemory>
     ensures { IfOk result (λ kept. kept_answers kept
-        ≡ kept_behind kind (visits_of visits.now) (kept_answers follows)) }
+        ≡ cached_after kind (visits_of visits.now) (kept_answers follows)) }
 {
     match kind {
         PassKind::Keep => Ok(Some(Answers::of(alloc, visits)?)),

@@ -183,7 +183,7 @@ fn first_pass(
 }
 
 // The result of a call of one pass: the codes that the call caches are stored.
-fn ended(func: Func, passed: Passed, held: Held) -> Retold
+fn retold_call(func: Func, passed: Passed, held: Held) -> Retold
     ensures { (told : List (Option Seen)) → went_of told result ≡ went passed.code
         (held_behind func None (passed_of told passed) (held_of held))
         (telling_from told passed.next passed.astray) }
@@ -231,7 +231,7 @@ fn one_pass(
     let mut held = held;
     let cached = take_cached(func, &mut held);
     let passed = first_pass(source, func, past, cached)?;
-    Ok(ended(func, passed, held))
+    Ok(retold_call(func, passed, held))
 }
 
 // The passes of chauthtok that are left: both, or the second one if the codes of the first are
@@ -270,7 +270,7 @@ fn check(source: &Source, past: &Sequence<Code>, held: Held) -> Result<Retold, N
         } = passed;
         return update(source, kept, &[], held, next, astray);
     }
-    Ok(ended(Func::ChAuthTok, passed, held))
+    Ok(retold_call(Func::ChAuthTok, passed, held))
 }
 
 // The second pass of chauthtok, by the codes that the first cached, from a recorded line on.

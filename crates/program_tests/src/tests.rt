@@ -330,7 +330,7 @@ fn run_with(
 }
 
 #[test]
-fn calls_that_are_to_fail_leave_a_report_or_its_front_and_no_data(
+fn calls_that_are_to_fail_leave_a_report_or_its_prefix_and_no_data(
     rt: HostRuntime,
 ) -> Result<(), Fail> {
     for row in ROWS.iter() {

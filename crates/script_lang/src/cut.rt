@@ -21,7 +21,7 @@ pub(crate) fn first_word(line: &[u8]) -> &[u8]
 pub(crate) fn word_at(place: Position, before: usize, line: &[u8]) -> Option<&[u8]>
     ensures { option_map (λ word. word.now) result ≡ word_at place before (words_of line.now) }
 {
-    let rest = behind_words(before, line)?;
+    let rest = after_words(before, line)?;
     if place.is_text() {
         Some(rest)
     } else {
@@ -33,22 +33,22 @@ pub(crate) fn word_at(place: Position, before: usize, line: &[u8]) -> Option<&[u
 pub(crate) fn has_its_words(places: [Position; 3], line: &[u8]) -> bool
     ensures { result ≡ has_its_words places (words_of line.now) }
 {
-    behind_words(wanted(places), line).is_some()
-        && (has_text(places) || behind_words(most(places) + 1, line).is_none())
+    after_words(wanted(places), line).is_some()
+        && (has_text(places) || after_words(most(places) + 1, line).is_none())
 }
 
 // What follows n words and the space after each; None if and only if the line has no more words.
-fn behind_words(count: usize, line: &[u8]) -> Option<&[u8]>
+fn after_words(count: usize, line: &[u8]) -> Option<&[u8]>
     ensures { IsBehind (option_map (λ rest. rest.now) result) count (words_of line.now) }
 {
     let mut rest = line;
     for _ in 0..count {
-        rest = behind_word(rest)?;
+        rest = after_word(rest)?;
     }
     Some(rest)
 }
 
-fn behind_word(line: &[u8]) -> Option<&[u8]>
+fn after_word(line: &[u8]) -> Option<&[u8]>
     ensures { IsBehind (option_map (λ rest. rest.now) result) 1 (words_of line.now) }
 {
     let end = first_place(b' ', line)?;

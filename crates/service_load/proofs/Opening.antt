@@ -20,7 +20,7 @@ use Rattle.service_load.specs.declared.opener.Opener.TheVariants as openers
 use Rattle.service_load.specs.declared.rule_file.RuleFile.{RuleFile}
 use Rattle.service_load.specs.declared.rule_type.RuleType.{RuleType}
 use Rattle.service_load.specs.Answers.{Answers, IsRefusal, result_map}
-use Rattle.service_load.specs.Checking.{with_entry, checked_entries, entries_held, served}
+use Rattle.service_load.specs.Checking.{with_entry, checked_entries, entries_held, entries_of_type}
 use Rattle.service_load.specs.Entry.{entry_of}
 use Rattle.service_load.specs.Files.{plain_file, Held, absent, faulty, holds, held, held_text, rules_held, is_in_folder, entries_of, all_fine}
 use Rattle.service_load.specs.FirstFault.{Counts, Stop, fault_at, opening_fault, asked, absent_file, checked_rule, held_file, going_on, look}
@@ -37,7 +37,7 @@ held_long service None long = absurd long
 
 pub long_answers : (type : RuleType) (b in_folder : Bool) (name : List ℕ) (service text : Option (List ℕ)) (r : Refuse LoadFault) → b ≡ false
     → IsSomeAnd text (λ bytes. 65536 < length bytes) → IsRefusal r (fault_at name 0 FileTooLong)
-    → Answers {A = Option (List ConfigEntry)} (Err r) (opened_answer b name (result_map (option_map (served type)) (entries_held in_folder (held_text service text))))
+    → Answers {A = Option (List ConfigEntry)} (Err r) (opened_answer b name (result_map (option_map (entries_of_type type)) (entries_held in_folder (held_text service text))))
 long_answers type b in_folder name service text (refusals.Named f) fine long refused = rw (fine, held_long service text long, refused) refl
 long_answers type b in_folder name service text refusals.NoMemory fine long refused = tt
 
@@ -291,22 +291,22 @@ module _ (texts : List ℕ → Option (List ℕ)) (fails : List ℕ) (file : Rul
 
 module _ (type : RuleType) (name : List ℕ) where
   some_served : (b : Bool) (found : Result (Option (List ConfigEntry)) LexFault) (es : List ConfigEntry)
-      → opened_answer b name (result_map (option_map (served type)) found) ≡ Ok (Some es)
-      → (all : List ConfigEntry) × (opened_answer b name found ≡ Ok (Some all)) × (es ≡ served type all)
+      → opened_answer b name (result_map (option_map (entries_of_type type)) found) ≡ Ok (Some es)
+      → (all : List ConfigEntry) × (opened_answer b name found ≡ Ok (Some all)) × (es ≡ entries_of_type type all)
   some_served true found es e = absurd cc
   some_served false (Ok None) es e = absurd cc
   some_served false (Ok (Some all)) es e = (all, refl, sym cc)
   some_served false (Err f) es e = absurd cc
 
   pub none_served : (b : Bool) (found : Result (Option (List ConfigEntry)) LexFault)
-      → opened_answer b name (result_map (option_map (served type)) found) ≡ Ok None → opened_answer b name found ≡ Ok None
+      → opened_answer b name (result_map (option_map (entries_of_type type)) found) ≡ Ok None → opened_answer b name found ≡ Ok None
   none_served true found e = absurd cc
   none_served false (Ok None) e = refl
   none_served false (Ok (Some all)) e = absurd cc
   none_served false (Err f) e = absurd cc
 
   pub err_served : (b : Bool) (found : Result (Option (List ConfigEntry)) LexFault) (r : Refuse LoadFault)
-      → Answers {A = Option (List ConfigEntry)} (Err r) (opened_answer b name (result_map (option_map (served type)) found))
+      → Answers {A = Option (List ConfigEntry)} (Err r) (opened_answer b name (result_map (option_map (entries_of_type type)) found))
       → Answers {A = Option (List ConfigEntry)} (Err r) (opened_answer b name found)
   err_served true found (refusals.Named f) e = let same : fault_at name 0 ReadFailed ≡ f = cc in ap Err same
   err_served false (Ok None) (refusals.Named f) e = absurd cc
@@ -323,9 +323,9 @@ module _ (texts : List ℕ → Option (List ℕ)) (level : ℕ) (type : RuleType
   items_by false name e es all is same = rw is same
 
   items_served : (name : List ℕ) (entries : List ConfigEntry)
-      → entries_items texts level type name (served type entries) ≡ entries_items texts level type name entries
+      → entries_items texts level type name (entries_of_type type entries) ≡ entries_items texts level type name entries
   items_served name [] = refl
-  items_served name (e ∷ es) = items_by (serves type e.rule_type) name e (served type es) es refl (items_served name es)
+  items_served name (e ∷ es) = items_by (serves type e.rule_type) name e (entries_of_type type es) es refl (items_served name es)
 
   nodes_by : (b : Bool) (e : ConfigEntry) (es all : List ConfigEntry) → serves type e.rule_type ≡ b
       → entries_nodes texts level type es ≡ entries_nodes texts level type all
@@ -333,12 +333,12 @@ module _ (texts : List ℕ → Option (List ℕ)) (level : ℕ) (type : RuleType
   nodes_by true e es all is same = rw same refl
   nodes_by false e es all is same = rw is same
 
-  nodes_served : (entries : List ConfigEntry) → entries_nodes texts level type (served type entries) ≡ entries_nodes texts level type entries
+  nodes_served : (entries : List ConfigEntry) → entries_nodes texts level type (entries_of_type type entries) ≡ entries_nodes texts level type entries
   nodes_served [] = refl
-  nodes_served (e ∷ es) = nodes_by (serves type e.rule_type) e (served type es) es refl (nodes_served es)
+  nodes_served (e ∷ es) = nodes_by (serves type e.rule_type) e (entries_of_type type es) es refl (nodes_served es)
 
   pub opens_served : (fails : List ℕ) (was is : Counts) (opener : Opener) (file : RuleFile) (es : List ConfigEntry) → level ≤ 16 → was.openings < 256 → is ≡ asked was
-      → opened_answer (fails_next was.calls fails) file.name (result_map (option_map (served type)) (entries_held (is_in_folder file) (held texts file))) ≡ Ok (Some es)
+      → opened_answer (fails_next was.calls fails) file.name (result_map (option_map (entries_of_type type)) (entries_held (is_in_folder file) (held texts file))) ≡ Ok (Some es)
       → Opens texts (Ok (Some es)) fails was is level type opener file
   opens_served fails was is opener file es low few same e =
       let found = some_served type file.name (fails_next was.calls fails) (entries_held (is_in_folder file) (held texts file)) es e in

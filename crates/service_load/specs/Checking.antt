@@ -36,5 +36,5 @@ GivesFields None line own = own ≡ []
 GivesFields (Some tokens) line own = own ≡ record { line = line; tokens = tokens } ∷ []
 
 -- the entries that serve a type (pam.conf(5))
-abbrev pub served : RuleType → List ConfigEntry → List ConfigEntry
-served type entries = filter (λ e. serves type e.rule_type) entries
+abbrev pub entries_of_type : RuleType → List ConfigEntry → List ConfigEntry
+entries_of_type type entries = filter (λ e. serves type e.rule_type) entries

@@ -45,9 +45,9 @@ with_control silent (Err fault) tokens = Err fault.kind
 
 -- what follows the type: `include` or `substack` with a file, or a control with a module
 -- (pam.conf(5)); a required field that is missing is a fault (this project's own)
-abbrev pub behind_type : Bool → List Token → Result RuleContent FaultKind
-behind_type silent [] = Err MissingField
-behind_type silent (t ∷ ts) =
+abbrev pub after_type : Bool → List Token → Result RuleContent FaultKind
+after_type silent [] = Err MissingField
+after_type silent (t ∷ ts) =
     if is_word (codes "include") t then result_map Include (file_field ts)
     else if is_word (codes "substack") t then result_map Substack (file_field ts)
     else with_control silent (control_of t.bracketed t.text) ts
@@ -61,7 +61,7 @@ entry_at line rule_type content =
 abbrev pub with_type : ℕ → Option TypeField → List Token → Result ConfigEntry FaultKind
 with_type line None tokens = Err BadType
 with_type line (Some field) tokens =
-    entry_at line (Some field.rule_type) (behind_type field.silent tokens)
+    entry_at line (Some field.rule_type) (after_type field.silent tokens)
 
 -- what a rule of these tokens says; `@include`, Debian's addition, is only in files of the form of
 -- `/etc/pam.d` (this project's own)

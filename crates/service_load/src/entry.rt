@@ -1,6 +1,6 @@
 ghost use Rattle.std.specs.Prelude.{◌≡◌, IfOk, false, map};
 ghost use Rattle.service_load.specs.Answers.{Answers};
-ghost use Rattle.service_load.specs.Entry.{entry_of_tokens, behind_type, file_field, rule_of, named_file};
+ghost use Rattle.service_load.specs.Entry.{entry_of_tokens, after_type, file_field, rule_of, named_file};
 ghost use Rattle.service_load.specs.Kinds.{IfNamed, is_read_failed};
 ghost use Rattle.service_load.specs.Tree.{serves};
 
@@ -114,7 +114,7 @@ fn content_of(
     silent: bool,
     tokens: &[Token],
 ) -> Result<RuleContent, Refuse<FaultKind>>
-    ensures answer { Answers result (behind_type silent tokens.now) }
+    ensures answer { Answers result (after_type silent tokens.now) }
     ensures kinds { IfNamed result (λ kind. is_read_failed kind ≡ false) }
 {
     let [first, rest @ ..] = tokens else {

@@ -1,7 +1,7 @@
 ghost use Rattle.std.specs.Prelude.{◌≡◌, Ok, Some, IsTrue, IfOk, IfSome, false};
 ghost use Rattle.std.specs.Option.{is_none, option_map};
 ghost use Rattle.service_load.specs.Answers.{Answers, result_map};
-ghost use Rattle.service_load.specs.Checking.{entries_held, served};
+ghost use Rattle.service_load.specs.Checking.{entries_held, entries_of_type};
 ghost use Rattle.service_load.specs.Files.{held_text, is_in_folder};
 ghost use Rattle.service_load.specs.Kinds.{IfNamed, is_read_failed};
 
@@ -56,11 +56,11 @@ impl KeptFile {
     // A copy of its entries for a type.
     fn entries_for(&self, alloc: Global, rule_type: RuleType) -> Result<Option<Entries>, NoMemory>
         ensures { IfOk result (λ entries. entries ≡ option_map
-            (served rule_type) self.now.entries) }
+            (entries_of_type rule_type) self.now.entries) }
     {
         match &self.entries {
             None => Ok(None),
-            Some(entries) => Ok(Some(served(alloc, rule_type, entries.items())?)),
+            Some(entries) => Ok(Some(entries_of_type(alloc, rule_type, entries.items())?)),
         }
     }
 }
@@ -102,7 +102,7 @@ impl KeptTexts {
         rule_type: RuleType,
         text: Text,
     ) -> Result<Option<Entries>, Refuse<LexFault>>
-        ensures answer { Answers result (result_map (option_map (served rule_type))
+        ensures answer { Answers result (result_map (option_map (entries_of_type rule_type))
             (entries_held (is_in_folder file.now) (held_text file.now.service (Some text)))) }
         ensures kinds { IfNamed result (λ fault. is_read_failed fault.kind ≡ false) }
     {
@@ -154,8 +154,12 @@ fn copy_of(alloc: Global, text: &Option<Text>) -> Result<Option<Text>, NoMemory>
 }
 
 // A copy of the entries for a type.
-fn served(alloc: Global, rule_type: RuleType, entries: &[ConfigEntry]) -> Result<Entries, NoMemory>
-    ensures { IfOk result (λ copy. copy ≡ served rule_type entries.now) }
+fn entries_of_type(
+    alloc: Global,
+    rule_type: RuleType,
+    entries: &[ConfigEntry],
+) -> Result<Entries, NoMemory>
+    ensures { IfOk result (λ copy. copy ≡ entries_of_type rule_type entries.now) }
 {
     let count = entries
         .iter()

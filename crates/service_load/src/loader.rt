@@ -5,7 +5,7 @@ ghost use Rattle.pam_outside.specs.Files.{counted};
 ghost use Rattle.control_words.specs.Stack.{stack_of};
 ghost use Rattle.service_load.specs.Answers.{Answers, IsRefusal, result_map};
 ghost use Rattle.service_load.specs.FirstFault.{look, opening_fault};
-ghost use Rattle.service_load.specs.Checking.{entries_held, served};
+ghost use Rattle.service_load.specs.Checking.{entries_held, entries_of_type};
 ghost use Rattle.service_load.specs.Files.{held, is_absent, is_in_folder};
 ghost use Rattle.service_load.specs.Load.{AreBounded, LoadsBy};
 ghost use Rattle.service_load.specs.Order.{as_last, as_other, trees_items};
@@ -63,7 +63,7 @@ impl Loader {
         ensures told { IsTrue (vault_tells vault.old) → Answers result
             (opened_answer (fails_next (vault_holds vault.old).calls
             (vault_holds vault.old).fails) file.now.name
-            (result_map (option_map (served rule_type))
+            (result_map (option_map (entries_of_type rule_type))
             (entries_held (is_in_folder file.now) (held (texts_of root.now
             (vault_holds vault.old)) file.now)))) }
         ensures calls { IsTrue (vault_tells vault.old) →

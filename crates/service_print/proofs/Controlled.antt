@@ -16,7 +16,7 @@ use Rattle.control_words.specs.declared.bracket.ControlFault.{ControlFault}
 use Rattle.control_words.specs.Control.{action_at}
 use Rattle.control_words.specs.Bracket.{action_of_word, is_default, names, last_action, action_among, fault_of_entry, control_unless, control_of_entries, control_of}
 use Rattle.control_words.specs.Entries.{ControlPair, FirstEntry, ends_name, from_first, first_entry, with_name, with_action, entries_behind, entries_in}
-use Rattle.control_words.specs.Entries.{after_space as behind_white}
+use Rattle.control_words.specs.Entries.{after_space as after_white}
 use Rattle.service_print.specs.Tokens.{after_space, spaced}
 use Rattle.service_print.specs.Controls.{action_word, same_action, entry_text, has_entry, entries_among}
 use Rattle.service_print.proofs.Actions.{same_action-equal, is_name, is_action, code_at, code_word-named, code_word-name, code_word-other, begins_some, code_word-some, is_fine, action_reads}
@@ -44,7 +44,7 @@ cut_rest test front rest none stop = ap (λ n. drop n (front ++ rest)) (cut_at t
 
 -- ---- one entry
 
-no_white_first : (text rest : List ℕ) → begins_some is_action text ≡ true → behind_white (text ++ rest) ≡ text ++ rest
+no_white_first : (text rest : List ℕ) → begins_some is_action text ≡ true → after_white (text ++ rest) ≡ text ++ rest
 no_white_first [] rest some = absurd cc
 no_white_first (b ∷ bs) rest some = rw (not-true (is_white b) some) refl
 
@@ -56,8 +56,8 @@ first_entry_is name action rest named acts some stop =
     let behind : from_first ends_name (name ++ 61 ∷ (action ++ rest)) ≡ 61 ∷ (action ++ rest) = cut_rest ends_name name (61 ∷ (action ++ rest)) named refl in
     let value : before_first is_white (action ++ rest) ≡ action = cut_front is_white action rest acts stop in
     let more : from_first is_white (action ++ rest) ≡ rest = cut_rest is_white action rest acts stop in
-    ap (λ (n : List ℕ). with_name n (behind_white (from_first ends_name (name ++ 61 ∷ (action ++ rest))))) front
-    ∙ ap (λ (t : List ℕ). with_name name (behind_white t)) behind
+    ap (λ (n : List ℕ). with_name n (after_white (from_first ends_name (name ++ 61 ∷ (action ++ rest))))) front
+    ∙ ap (λ (t : List ℕ). with_name name (after_white t)) behind
     ∙ ap (λ (t : List ℕ). with_action name t) (no_white_first action rest some)
     ∙ ap (λ (a : List ℕ). record { entry = record { name = name; action = a }; rest = from_first is_white (action ++ rest) }) value
     ∙ ap (λ (r : List ℕ). record { entry = record { name = name; action = action }; rest = r }) more

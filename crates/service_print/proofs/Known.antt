@@ -27,7 +27,7 @@ use Rattle.control_words.specs.declared.keywords.Keyword.TheVariants.{Required, 
 use Rattle.control_words.specs.Keyword.{control_of_word, keyword_control as control_of_keyword}
 use Rattle.control_words.specs.Stack.{Stack, none, line, sub, joined}
 use Rattle.service_load.specs.declared.rule_type.RuleType.{RuleType}
-use Rattle.service_load.specs.Entry.{named_file, with_control, behind_type, entry_at, with_type, entry_of}
+use Rattle.service_load.specs.Entry.{named_file, with_control, after_type, entry_at, with_type, entry_of}
 use Rattle.service_load.specs.Files.{plain_file, rule_without, own_rules, held_in_conf, held_for, held_answer, held_text, held, rules_held, is_in_folder}
 use Rattle.service_load.specs.RuleType.{is_word, type_field_of}
 use Rattle.service_load.specs.Tree.{serves, nodes}
@@ -205,7 +205,7 @@ known_control in_folder rule own silent bracketed text (Ok control) tokens reads
 known_control in_folder rule own silent bracketed text (Err why) tokens reads good read = at_fault in_folder rule _ read
 
 known_type : (in_folder : Bool) (rule : RawRule) (own : Option RuleType) (silent : Bool) (tokens : List Token) → list_all is_good tokens ≡ true
-    → entry_of in_folder rule ≡ entry_at rule.line own (behind_type silent tokens) → Known in_folder rule
+    → entry_of in_folder rule ≡ entry_at rule.line own (after_type silent tokens) → Known in_folder rule
 known_type in_folder rule own silent [] good read = at_fault in_folder rule _ read
 known_type in_folder rule own silent (token ∷ []) good read =
     elim (cases_Bool (is_word (codes "include") token)) [

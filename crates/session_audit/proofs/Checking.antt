@@ -20,7 +20,7 @@ use Rattle.report_lines.specs.Line.{Command, starts, ends, runs, sets_item, gets
 use Rattle.session_audit.specs.Fits.{SlotLog, shut, running, visits_told, is_none, only_if, same_code, is_refused_change, without_visits, behind_call, at_call, behind_result}
 use Rattle.session_audit.specs.Differs as told_lines
 use Rattle.session_audit.specs.Differs.{visits_good}
-use Rattle.session_audit.specs.Checked.{told_in, behind_quiet, IsCall}
+use Rattle.session_audit.specs.Checked.{told_in, after_quiet, IsCall}
 
 -- ---- lines run among recorded lines
 
@@ -196,7 +196,7 @@ none_without (v ∷ vs) = refl
 
 module _ (stacks : Stacks) where
   quiet_open : (h : Held) (vs : List retell.Seen) (command : Command) (shown : Shown) → IsCall None (answered command shown)
-      → behind_result stacks (running h) vs (answered command shown) ≡ without_visits vs (behind_quiet (running h) (answered command shown))
+      → behind_result stacks (running h) vs (answered command shown) ≡ without_visits vs (after_quiet (running h) (answered command shown))
   quiet_open h vs starts shown is = refl
   quiet_open h vs ends shown is = refl
   quiet_open h vs (runs func) (shows_code code) is = absurd (is func code refl)
@@ -216,7 +216,7 @@ module _ (stacks : Stacks) where
   quiet_open h vs switches_delay shown is = refl
   quiet_open h vs replies shown is = refl
 
-  pub quiet_result : (place : SlotLog) (vs : List retell.Seen) (result : Result) → IsCall None result → behind_result stacks place vs result ≡ without_visits vs (behind_quiet place result)
+  pub quiet_result : (place : SlotLog) (vs : List retell.Seen) (result : Result) → IsCall None result → behind_result stacks place vs result ≡ without_visits vs (after_quiet place result)
   quiet_result shut vs (answered command shown) is = refl
   quiet_result shut vs (closed_by_program code) is = sym (none_without vs)
   quiet_result (running h) vs (answered command shown) is = quiet_open h vs command shown is
@@ -239,6 +239,6 @@ module _ (stacks : Stacks) where
   quiet_good (running h) vs (closed_by_program code) is = refl
 
   -- a closed transaction has no such code
-  pub shut_result : (vs : List retell.Seen) (result : Result) → behind_result stacks shut vs result ≡ without_visits vs (behind_quiet shut result)
+  pub shut_result : (vs : List retell.Seen) (result : Result) → behind_result stacks shut vs result ≡ without_visits vs (after_quiet shut result)
   shut_result vs (answered command shown) = refl
   shut_result vs (closed_by_program code) = sym (none_without vs)

@@ -43,11 +43,11 @@ abbrev pub at_quiet : Held → Command → Shown → Option SlotLog
 at_quiet h (runs func) (shows_pending other) = only_if (aborted_by h.pending func other) (running h)
 at_quiet h command shown = at_running h command shown
 
-abbrev pub behind_quiet : SlotLog → Result → Option SlotLog
-behind_quiet shut (answered command shown) = at_shut command shown
-behind_quiet shut (closed_by_program code) = None
-behind_quiet (running h) (answered command shown) = at_quiet h command shown
-behind_quiet (running h) (closed_by_program code) = Some shut
+abbrev pub after_quiet : SlotLog → Result → Option SlotLog
+after_quiet shut (answered command shown) = at_shut command shown
+after_quiet shut (closed_by_program code) = None
+after_quiet (running h) (answered command shown) = at_quiet h command shown
+after_quiet (running h) (closed_by_program code) = Some shut
 
 -- a result is the code of a stack call
 abbrev pub IsCall : Option StackCall → Result → Type 0

@@ -4,11 +4,11 @@ ghost use Rattle.pass_replay.specs.Held.{held_of};
 ghost use Rattle.pass_replay.specs.Retold.{stacks_in};
 ghost use Rattle.report_lines.specs.Line.{answered, runs, shows_code};
 ghost use Rattle.report_lines.specs.Form.{result_of};
-ghost use Rattle.session_audit.specs.Checked.{IsCall, IsJudged, Judges, behind_quiet, place_of, told_in};
+ghost use Rattle.session_audit.specs.Checked.{IsCall, IsJudged, Judges, after_quiet, place_of, told_in};
 ghost use Rattle.session_audit.specs.Differs.{lines_before};
 ghost use Rattle.session_audit.specs.Fits.{is_refused_change, running, same_code, visits_told, without_visits};
 
-use crate::place::{SlotLog, behind_quiet};
+use crate::place::{SlotLog, after_quiet};
 use handler_chain::Seen;
 use pam_base::{CallName, Code, Func, NoMemory};
 use pass_replay::{Held, Retold, first_visit, retell};
@@ -68,14 +68,14 @@ fn stack_call(outcome: ReportedOutcome) -> Option<StackCall>
 fn judge_quiet(place: SlotLog, told: &[Option<Seen>], outcome: ReportedOutcome) -> Judged
     ensures { IsJudged result
         (without_visits (visits_told (told_in told.now))
-        (behind_quiet (place_of place) (result_of outcome)))
+        (after_quiet (place_of place) (result_of outcome)))
         (lines_before 0 (told_in told.now)) }
 {
     let first = first_visit(told);
     if first < told.len() {
         return Judged::Differs(first);
     }
-    match behind_quiet(place, outcome) {
+    match after_quiet(place, outcome) {
         Some(behind) => Judged::Fits(behind),
         None => Judged::Differs(first),
     }

@@ -3,7 +3,7 @@ ghost use Rattle.std.specs.Option.{option_map};
 ghost use Rattle.report_lines.specs.Line.{shows_code};
 ghost use Rattle.pass_replay.specs.Held.{held_of};
 ghost use Rattle.report_lines.specs.Form.{command_of, result_of, shown_of};
-ghost use Rattle.session_audit.specs.Checked.{at_quiet, behind_quiet, place_of};
+ghost use Rattle.session_audit.specs.Checked.{at_quiet, after_quiet, place_of};
 ghost use Rattle.session_audit.specs.Fits.{aborted_by, at_running, at_shut, only_if, running, same_code};
 
 use pam_base::{CallName, Code, Func};
@@ -19,8 +19,8 @@ pub enum SlotLog {
 
 /// What is known after a result other than the code of a stack call; None if the result doesn't
 /// fit.
-pub fn behind_quiet(place: SlotLog, outcome: ReportedOutcome) -> Option<SlotLog>
-    ensures { option_map place_of result ≡ behind_quiet (place_of place) (result_of outcome) }
+pub fn after_quiet(place: SlotLog, outcome: ReportedOutcome) -> Option<SlotLog>
+    ensures { option_map place_of result ≡ after_quiet (place_of place) (result_of outcome) }
 {
     match outcome {
         ReportedOutcome::Answered(command, answer) => match place {

@@ -13,8 +13,8 @@ use Rattle.service_print.specs.service_load.specs.Tree.{tree}
 use Rattle.service_print.specs.declared.file.File.{File}
 use Rattle.service_print.specs.Printed.{printed}
 use Rattle.session_report.specs.Fault.{refused_text}
-use Rattle.item_stream.specs.declared.ending.Stop.{Stop as Stopped}
-use Rattle.item_stream.specs.declared.ending.Stop.TheVariants.{NoMemory}
+use Rattle.record_reader.specs.declared.ending.Stop.{Stop as Stopped}
+use Rattle.record_reader.specs.declared.ending.Stop.TheVariants.{NoMemory}
 use Rattle.session_check.specs.declared.finding.Finding.{Finding}
 use Rattle.session_check.specs.declared.finding.Checked.{Checked}
 use Rattle.session_check.specs.declared.finding.Checked.TheVariants.{Configured, Refused}

@@ -3,13 +3,13 @@ ghost use Rattle.std.specs.Str.{str_to_ascii_lowercase};
 ghost use Rattle.pam_outside.specs.Counts.{RisesIf};
 ghost use Rattle.service_print.specs.service_load.specs.Loading.{OnlyCalls};
 ghost use Rattle.service_print.specs.Printed.{printed, stacks_in};
-ghost use Rattle.item_stream.specs.Turns.{has_write_fault};
-ghost use Rattle.item_stream.specs.Written.{WritesText};
+ghost use Rattle.record_reader.specs.Turns.{has_write_fault};
+ghost use Rattle.record_reader.specs.Written.{WritesText};
 ghost use Rattle.session_check.specs.Check.{Checks, Finds, IsCheck, check_of, file_text, files_text};
 
-use item_stream::Stop;
 use pam_base::{Failed, NoMemory, Refuse, lowercase};
 use pam_outside::{Sink, Vault, write_all};
+use record_reader::Stop;
 use service_print::service_load::{Trees, load};
 use service_print::{File, print};
 use session_report::refused_report;

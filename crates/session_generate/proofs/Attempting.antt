@@ -7,8 +7,8 @@ use Rattle.session_run.specs.pam_room.specs.State.{PlainWorld}
 use Rattle.service_load.specs.declared.load_fault.LoadFault.{LoadFault}
 use Rattle.session_run.specs.State.{RunState, Setting, state_of}
 use Rattle.session_generate.specs.declared.login.Login.{Login}
-use Rattle.drawn_files.specs.Files.{drawn_files}
-use Rattle.drawn_files.specs.declared.files.DrawnFile.{DrawnFile}
+use Rattle.random_config.specs.Files.{random_files}
+use Rattle.random_config.specs.declared.files.RandomFile.{RandomFile}
 use Rattle.session_generate.specs.Generated.{AttemptStops, attempted, behind_files, from_root}
 use Rattle.session_generate.specs.Login.{Attempt, ComesTo, LoginStops, logged_in}
 use Rattle.session_generate.specs.Placing.{Placed, Places, PlacesSome, placed, with_vault}
@@ -36,40 +36,40 @@ more_stops Stops Others (Err (Named fault)) a u more comes = comes
 more_stops Stops Others (Err NoMemory) a u more comes = more comes
 
 -- the generated files are stored, or one of them is refused
-module _ (setting : Setting) (seed lines : ℕ) (s : RunState) (files : List DrawnFile) (m w : PlainWorld) (v : VaultState)
-    (drawn : files ≡ drawn_files seed lines) (root : m ≡ from_root s.world) (rest : w ≡ with_vault v m) where
-  same : placed files m.vault ≡ placed (drawn_files seed lines) s.world.vault
-  same = ap (λ (f : List DrawnFile). placed f m.vault) drawn ∙ ap (λ (x : PlainWorld). placed (drawn_files seed lines) x.vault) root
+module _ (setting : Setting) (seed lines : ℕ) (s : RunState) (files : List RandomFile) (m w : PlainWorld) (v : VaultState)
+    (random : files ≡ random_files seed lines) (root : m ≡ from_root s.world) (rest : w ≡ with_vault v m) where
+  same : placed files m.vault ≡ placed (random_files seed lines) s.world.vault
+  same = ap (λ (f : List RandomFile). placed f m.vault) random ∙ ap (λ (x : PlainWorld). placed (random_files seed lines) x.vault) root
 
-  world_is : v ≡ (placed files m.vault).vault → w ≡ with_vault (placed (drawn_files seed lines) s.world.vault).vault (from_root s.world)
-  world_is is = rest ∙ ap (λ (x : VaultState). with_vault x m) (is ∙ ap (λ (q : Placed). q.vault) same) ∙ ap (with_vault (placed (drawn_files seed lines) s.world.vault).vault) root
+  world_is : v ≡ (placed files m.vault).vault → w ≡ with_vault (placed (random_files seed lines) s.world.vault).vault (from_root s.world)
+  world_is is = rest ∙ ap (λ (x : VaultState). with_vault x m) (is ∙ ap (λ (q : Placed). q.vault) same) ∙ ap (with_vault (placed (random_files seed lines) s.world.vault).vault) root
 
   pub all_placed : (done : Unit {0}) (result : Result Login (Refuse LoadFault)) (u : RunState) → Places {T = Unit {0}} (Ok done) files m.vault v
       → ComesTo result (logged_in setting (state_of s.slots w)) (LoginStops setting (state_of s.slots w)) u
       → ComesTo result (attempted setting seed lines s) (AttemptStops setting seed lines s) u
   all_placed done result u places comes =
       let none = ap (λ (q : Placed). q.fault) (sym same) ∙ places.0 in
-      more_stops (LoginStops setting (state_of s.slots (with_vault (placed (drawn_files seed lines) s.world.vault).vault (from_root s.world)))) (AttemptStops setting seed lines s)
+      more_stops (LoginStops setting (state_of s.slots (with_vault (placed (random_files seed lines) s.world.vault).vault (from_root s.world)))) (AttemptStops setting seed lines s)
       result (attempted setting seed lines s) u (λ stops. inr (inr (inr (none, stops))))
-      (behind_all setting (placed (drawn_files seed lines) s.world.vault) s w (world_is places.1) result u none comes)
+      (behind_all setting (placed (random_files seed lines) s.world.vault) s w (world_is places.1) result u none comes)
 
-  some_placed : PlacesSome files m.vault v → PlacesSome (drawn_files seed lines) s.world.vault v
+  some_placed : PlacesSome files m.vault v → PlacesSome (random_files seed lines) s.world.vault v
   some_placed some =
-      subst (λ (x : PlainWorld). PlacesSome (drawn_files seed lines) x.vault v) root
-      (subst (λ (f : List DrawnFile). PlacesSome f m.vault v) drawn some)
+      subst (λ (x : PlainWorld). PlacesSome (random_files seed lines) x.vault v) root
+      (subst (λ (f : List RandomFile). PlacesSome f m.vault v) random some)
 
   pub not_placed : (refuse : Refuse LoadFault) → Places {T = Unit {0}} (Err refuse) files m.vault v
       → ComesTo (Err refuse) (attempted setting seed lines s) (AttemptStops setting seed lines s) (state_of s.slots w)
   not_placed (Named fault) places =
-      behind_fault setting (placed (drawn_files seed lines) s.world.vault) s w (world_is places.1) (AttemptStops setting seed lines s) fault (ap (λ (q : Placed). q.fault) (sym same) ∙ places.0)
+      behind_fault setting (placed (random_files seed lines) s.world.vault) s w (world_is places.1) (AttemptStops setting seed lines s) fault (ap (λ (q : Placed). q.fault) (sym same) ∙ places.0)
   not_placed NoMemory places = inr (inr (inl (v, some_placed places, ap (state_of s.slots) (rest ∙ ap (with_vault v) root))))
 
 -- nothing was stored yet
 pub not_begun : (setting : Setting) (seed lines : ℕ) (s : RunState) (w : PlainWorld) → w ≡ s.world → AttemptStops setting seed lines s (state_of s.slots w)
 not_begun setting seed lines s w same = inl (ap (state_of s.slots) same)
 
-pub not_drawn : (setting : Setting) (seed lines : ℕ) (s : RunState) (w : PlainWorld) → w ≡ from_root s.world → AttemptStops setting seed lines s (state_of s.slots w)
-not_drawn setting seed lines s w root = inr (inl (ap (state_of s.slots) root))
+pub not_generated : (setting : Setting) (seed lines : ℕ) (s : RunState) (w : PlainWorld) → w ≡ from_root s.world → AttemptStops setting seed lines s (state_of s.slots w)
+not_generated setting seed lines s w root = inr (inl (ap (state_of s.slots) root))
 
 -- ---- which objects are modelled
 

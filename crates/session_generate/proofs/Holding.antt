@@ -3,26 +3,26 @@ use Rattle.std.proofs.Common.{◌≡◌, ℕ, suc, zero, ◌+◌, ◌-◌, ◌*�
 use Rattle.std.specs.List.{AllByRecursion, filter, flat_map, range_with_len}
 use Rattle.std.proofs.lemmas.List.{map-append}
 use Rattle.std.proofs.lemmas.List.Concat.{flat_map-append}
-use Rattle.drawn_files.specs.Files.{count_of, is_odd, substack_line, text_of}
-use Rattle.drawn_files.specs.Line.{drawn_line, drawn_lines}
+use Rattle.random_config.specs.Files.{count_of, is_odd, substack_line, text_of}
+use Rattle.random_config.specs.Line.{random_line, random_lines}
 use Rattle.service_load.specs.declared.entry.RuleContent.{RuleContent}
-use Rattle.session_generate.specs.Drawn.{HoldsRules, contents_of, drawn_content, service_contents, substack_content}
-use Rattle.session_generate.proofs.Lines.{drawn, drawn_reads, drawn_says, named, named_reads, named_holds}
+use Rattle.session_generate.specs.RandomRules.{HoldsRules, contents_of, random_content, service_contents, substack_content}
+use Rattle.session_generate.proofs.Lines.{random, random_reads, random_says, named, named_reads, named_holds}
 use Rattle.session_generate.proofs.Reading.{Ruled, contents_in, reads_as, text_in}
 
 -- ---- generated lines
 
-drawn_text : (seed : ℕ) (ns : List ℕ) → text_in (map (drawn seed) ns) ≡ flat_map (drawn_line seed) ns
-drawn_text seed [] = refl
-drawn_text seed (n ∷ ns) = ap (λ (z : List ℕ). z ++ text_in (map (drawn seed) ns)) (drawn_reads seed n) ∙ ap (λ (z : List ℕ). drawn_line seed n ++ z) (drawn_text seed ns)
+random_text : (seed : ℕ) (ns : List ℕ) → text_in (map (random seed) ns) ≡ flat_map (random_line seed) ns
+random_text seed [] = refl
+random_text seed (n ∷ ns) = ap (λ (z : List ℕ). z ++ text_in (map (random seed) ns)) (random_reads seed n) ∙ ap (λ (z : List ℕ). random_line seed n ++ z) (random_text seed ns)
 
-drawn_contents : (seed : ℕ) (ns : List ℕ) → contents_in (map (drawn seed) ns) ≡ map (drawn_content seed) ns
-drawn_contents seed [] = refl
-drawn_contents seed (n ∷ ns) = ap (λ (z : RuleContent). z ∷ contents_in (map (drawn seed) ns)) (drawn_says seed n) ∙ ap (λ (z : List RuleContent). drawn_content seed n ∷ z) (drawn_contents seed ns)
+random_contents : (seed : ℕ) (ns : List ℕ) → contents_in (map (random seed) ns) ≡ map (random_content seed) ns
+random_contents seed [] = refl
+random_contents seed (n ∷ ns) = ap (λ (z : RuleContent). z ∷ contents_in (map (random seed) ns)) (random_says seed n) ∙ ap (λ (z : List RuleContent). random_content seed n ∷ z) (random_contents seed ns)
 
-drawn_count : (seed a n : ℕ) → length (map (drawn seed) (range_with_len a n)) ≡ n
-drawn_count seed a zero = refl
-drawn_count seed a (suc n) = ap suc (drawn_count seed (a + 1) n)
+random_count : (seed a n : ℕ) → length (map (random seed) (range_with_len a n)) ≡ n
+random_count seed a zero = refl
+random_count seed a (suc n) = ap suc (random_count seed (a + 1) n)
 
 -- ---- lines that name files
 
@@ -103,24 +103,24 @@ module _ (seed lines k : ℕ) (most : lines ≤ 4096) (last : k ≤ count_of lin
   abbrev leads_on : Bool
   leads_on = is_odd k && nat_lt k (count_of lines)
 
-  abbrev drawn_lines_in : List Ruled
-  drawn_lines_in = map (drawn seed) (range_with_len before number)
+  abbrev random_lines_in : List Ruled
+  random_lines_in = map (random seed) (range_with_len before number)
 
   abbrev all : List Ruled
-  all = drawn_lines_in ++ after leads_on
+  all = random_lines_in ++ after leads_on
 
   few_here : number ≤ 64
   few_here = omega arith
 
   pub holds_file : HoldsRules (text_of seed lines k) (contents_of seed lines k)
   holds_file = reads_as (text_of seed lines k) (contents_of seed lines k) all
-      (sym (flat_map-append (λ (l : Ruled). l.text) drawn_lines_in (after leads_on)
-      ∙ ap (λ (z : List ℕ). z ++ text_in (after leads_on)) (drawn_text seed (range_with_len before number))
-      ∙ ap (λ (z : List ℕ). drawn_lines seed before number ++ z) (after_text leads_on)))
-      (sym (map-append (λ (l : Ruled). l.content) drawn_lines_in (after leads_on)
-      ∙ ap (λ (z : List RuleContent). z ++ contents_in (after leads_on)) (drawn_contents seed (range_with_len before number))
-      ∙ ap (λ (z : List RuleContent). map (drawn_content seed) (range_with_len before number) ++ z) (after_says leads_on)))
-      (omega (arith, length-append drawn_lines_in (after leads_on), drawn_count seed before number, after_count leads_on, few_here))
+      (sym (flat_map-append (λ (l : Ruled). l.text) random_lines_in (after leads_on)
+      ∙ ap (λ (z : List ℕ). z ++ text_in (after leads_on)) (random_text seed (range_with_len before number))
+      ∙ ap (λ (z : List ℕ). random_lines seed before number ++ z) (after_text leads_on)))
+      (sym (map-append (λ (l : Ruled). l.content) random_lines_in (after leads_on)
+      ∙ ap (λ (z : List RuleContent). z ++ contents_in (after leads_on)) (random_contents seed (range_with_len before number))
+      ∙ ap (λ (z : List RuleContent). map (random_content seed) (range_with_len before number) ++ z) (after_says leads_on)))
+      (omega (arith, length-append random_lines_in (after leads_on), random_count seed before number, after_count leads_on, few_here))
 
 -- ---- the service
 

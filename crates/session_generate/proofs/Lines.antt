@@ -6,9 +6,9 @@ use Rattle.std.proofs.lemmas.Bool.{leb-true}
 use Rattle.std.proofs.lemmas.Fmt.{decimal_by_steps, length-decimal-le}
 use Rattle.std.proofs.lemmas.List.Folds.{list_any-append}
 use Rattle.std.proofs.lemmas.Nat.{mod_below}
-use Rattle.drawn_files.specs.Draws.{draw}
-use Rattle.drawn_files.specs.Files.{name_of, substack_line}
-use Rattle.drawn_files.specs.Line.{answer_words, default_words, drawn_line, line_text, picked, success_words}
+use Rattle.random_config.specs.Generator.{random_number}
+use Rattle.random_config.specs.Files.{name_of, substack_line}
+use Rattle.random_config.specs.Line.{answer_words, default_words, random_line, line_text, picked, success_words}
 use Rattle.service_load.specs.conf_lex.specs.declared.token.Token.{Token}
 use Rattle.service_load.specs.conf_lex.specs.Piece.{Piece, bracket, goes_on, newline, plain, single, spelling, units_bytes, units_text, white}
 use Rattle.service_load.specs.conf_lex.specs.Reading.{first_piece, pieces_behind, pieces_of, run_of, units_behind}
@@ -18,7 +18,7 @@ use Rattle.service_load.specs.control_words.specs.Entries.{entries_behind, entri
 use Rattle.service_load.specs.declared.entry.RuleContent.TheVariants.{Line}
 use Rattle.service_load.specs.declared.rule_type.RuleType.TheVariants.{Auth}
 use Rattle.service_load.specs.Entry.{entry_of}
-use Rattle.session_generate.specs.Drawn.{action_picked, default_actions, drawn_content, drawn_rule, substack_content, success_actions}
+use Rattle.session_generate.specs.RandomRules.{action_picked, default_actions, random_content, random_rule, substack_content, success_actions}
 use Rattle.session_generate.proofs.Reading.{Ruled, is_feed, is_nul}
 
 -- ---- the words of a line
@@ -108,7 +108,7 @@ line_opened s d a rest =
 record Head (s d : List ℕ) (x y : Action) : Type 0 where
   pub reads : (more : List ℕ) → pieces_of (opened s d more) ≡ head s d ++ pieces_of more
   pub says : (n : ℕ) (a : List ℕ) → entry_of true (record { line = n; tokens = word (codes "auth") ∷ others s d a })
-      ≡ Ok (record { line = n; rule_type = Some Auth; content = Line (drawn_rule x y a) })
+      ≡ Ok (record { line = n; rule_type = Some Auth; content = Line (random_rule x y a) })
 
 heads_ok : (m : ℕ) → Head (codes "ok") (picked default_words m) actions.Ok (action_picked default_actions m)
 unfolding entry_of entries_in entries_behind first_piece pieces_behind units_behind
@@ -215,7 +215,7 @@ module _ (s d a : List ℕ) (x y : Action) (of_s : Word s) (of_d : Word d) (of_a
   ruled : Ruled
   ruled = record {
     text = line_text s d a;
-    content = Line (drawn_rule x y a);
+    content = Line (random_rule x y a);
     pieces = head s d ++ tail a;
     reads = λ rest. ap pieces_of (line_opened s d a rest) ∙ h.reads (tail_text a ++ rest) ∙ ap (λ (z : List Piece). head s d ++ z) (t.reads rest);
     inner = refl;
@@ -231,21 +231,21 @@ module _ (s d a : List ℕ) (x y : Action) (of_s : Word s) (of_d : Word d) (of_a
   }
 
 -- the line after n others
-pub drawn : ℕ → ℕ → Ruled
-drawn seed n =
-    let i = draw seed (3 * n) in
-    let j = draw seed (3 * n + 1) in
-    let k = draw seed (3 * n + 2) in
+pub random : ℕ → ℕ → Ruled
+random seed n =
+    let i = random_number seed (3 * n) in
+    let j = random_number seed (3 * n + 1) in
+    let k = random_number seed (3 * n + 2) in
     ruled (picked success_words i) (picked default_words j) (picked answer_words k) (action_picked success_actions i) (action_picked default_actions j)
     (success_word i) (default_word j) (answer_word k) (head_at i j) (tail_at k)
 
-pub drawn_reads : (seed n : ℕ) → (drawn seed n).text ≡ drawn_line seed n
-unfolding drawn ruled
-drawn_reads seed n = refl
+pub random_reads : (seed n : ℕ) → (random seed n).text ≡ random_line seed n
+unfolding random ruled
+random_reads seed n = refl
 
-pub drawn_says : (seed n : ℕ) → (drawn seed n).content ≡ drawn_content seed n
-unfolding drawn ruled
-drawn_says seed n = refl
+pub random_says : (seed n : ℕ) → (random seed n).content ≡ random_content seed n
+unfolding random ruled
+random_says seed n = refl
 
 -- ---- a line that names a file
 

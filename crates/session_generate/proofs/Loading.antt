@@ -6,7 +6,7 @@ use Rattle.pam_base.specs.declared.fault.FaultKind.TheVariants.{ReadFailed}
 use Rattle.pam_outside.specs.Counts.{next_count}
 use Rattle.pam_outside.specs.Files.{VaultState}
 use Rattle.pam_outside.specs.Paths.{path_of}
-use Rattle.drawn_files.specs.Files.{count_of, is_odd, service, text_of}
+use Rattle.random_config.specs.Files.{count_of, is_odd, service, text_of}
 use Rattle.service_load.specs.control_words.specs.Stack.{count}
 use Rattle.service_load.specs.declared.entry.RuleContent.{RuleContent}
 use Rattle.service_load.specs.declared.rule_file.RuleFile.{RuleFile}
@@ -19,7 +19,7 @@ use Rattle.service_load.specs.Load.{has_folder, loaded, loaded_from}
 use Rattle.service_load.specs.Loading.{texts_of}
 use Rattle.service_load.specs.Order.{Item, Opener, as_last, as_other, as_service, by_rule, content_items, items, file_items, items_of, opening, other_opener, tree_items, trees_items}
 use Rattle.service_load.specs.Tree.{nodes, serves}
-use Rattle.session_generate.specs.Drawn.{contents_of, drawn_content, entries_from, service_contents, substack_content}
+use Rattle.session_generate.specs.RandomRules.{contents_of, random_content, entries_from, service_contents, substack_content}
 use Rattle.session_generate.proofs.Holding.{holds_file, holds_service}
 use Rattle.session_generate.proofs.Passing.{Brings, Passed, Passes, brings_more, brings_none, held_is, look_then, passes_file, passes_made, passes_none, passes_opening, passes_then, passes_within}
 use Rattle.session_generate.proofs.Storing.{all, file_found, has_directory, never, other_absent, path_at, service_found, service_path, vault_with}
@@ -51,12 +51,12 @@ module _ (texts : List ℕ → Option (List ℕ)) (seed lines : ℕ) (most : lin
   leads_on k = is_odd k && nat_lt k (count_of lines)
 
   -- generated lines, and what follows them
-  drawn_bring : (name : List ℕ) (deeper : _) (a n : ℕ) (rest : List RuleContent) (opens made : ℕ) → Brings texts name deeper rest opens made
-      → Brings texts name deeper (map (drawn_content seed) (range_with_len a n) ++ rest) opens (n + made)
-  drawn_bring name deeper a zero rest opens made bring = λ line. passes_within texts _ opens opens made (0 + made) (bring line) (omega arith) (omega arith)
-  drawn_bring name deeper a (suc n) rest opens made bring =
-      let more = drawn_bring name deeper (a + 1) n rest opens made bring in
-      let all = brings_more texts name deeper (drawn_content seed a) (map (drawn_content seed) (range_with_len (a + 1) n) ++ rest) 0 opens 1 (n + made) (λ line. passes_made texts name line) more in
+  random_bring : (name : List ℕ) (deeper : _) (a n : ℕ) (rest : List RuleContent) (opens made : ℕ) → Brings texts name deeper rest opens made
+      → Brings texts name deeper (map (random_content seed) (range_with_len a n) ++ rest) opens (n + made)
+  random_bring name deeper a zero rest opens made bring = λ line. passes_within texts _ opens opens made (0 + made) (bring line) (omega arith) (omega arith)
+  random_bring name deeper a (suc n) rest opens made bring =
+      let more = random_bring name deeper (a + 1) n rest opens made bring in
+      let all = brings_more texts name deeper (random_content seed a) (map (random_content seed) (range_with_len (a + 1) n) ++ rest) 0 opens 1 (n + made) (λ line. passes_made texts name line) more in
       λ line. passes_within texts _ (0 + opens) opens (1 + (n + made)) (suc n + made) (all line) (omega arith) (omega arith)
 
   -- a file without a substack
@@ -66,8 +66,8 @@ module _ (texts : List ℕ → Option (List ℕ)) (seed lines : ℕ) (most : lin
       let deeper = items texts level Auth in
       let name = path_at k in
       let bring : Brings texts name deeper (contents_of seed lines k) 0 (number k + 0) =
-      subst (λ (b : Bool). Brings texts name deeper (map (drawn_content seed) (range_with_len (before k) (number k)) ++ cond b (substack_content (k + 1) ∷ []) []) 0 (number k + 0)) (sym ends)
-      (drawn_bring name deeper (before k) (number k) [] 0 0 (brings_none texts name deeper)) in
+      subst (λ (b : Bool). Brings texts name deeper (map (random_content seed) (range_with_len (before k) (number k)) ++ cond b (substack_content (k + 1) ∷ []) []) 0 (number k + 0)) (sym ends)
+      (random_bring name deeper (before k) (number k) [] 0 0 (brings_none texts name deeper)) in
       passes_within texts _ (1 + 0) 1 (number k + 0) 32
       (passes_file texts name (text_of seed lines k) (contents_of seed lines k) (files k from to) (holds_file seed lines k most to) level Auth opener 0 (number k + 0) (bring 1))
       (omega arith) (omega (arith, number_few k))
@@ -81,8 +81,8 @@ module _ (texts : List ℕ → Option (List ℕ)) (seed lines : ℕ) (most : lin
       let next : Brings texts name deeper (substack_content (k + 1) ∷ []) (1 + 0) (32 + 0) =
       brings_more texts name deeper (substack_content (k + 1)) [] 1 0 32 0 (λ line. alone_passes (k + 1) (omega arith) to ends level (by_rule name line)) (brings_none texts name deeper) in
       let bring : Brings texts name deeper (contents_of seed lines k) (1 + 0) (number k + (32 + 0)) =
-      subst (λ (b : Bool). Brings texts name deeper (map (drawn_content seed) (range_with_len (before k) (number k)) ++ cond b (substack_content (k + 1) ∷ []) []) (1 + 0) (number k + (32 + 0))) (sym leads)
-      (drawn_bring name deeper (before k) (number k) (substack_content (k + 1) ∷ []) (1 + 0) (32 + 0) next) in
+      subst (λ (b : Bool). Brings texts name deeper (map (random_content seed) (range_with_len (before k) (number k)) ++ cond b (substack_content (k + 1) ∷ []) []) (1 + 0) (number k + (32 + 0))) (sym leads)
+      (random_bring name deeper (before k) (number k) (substack_content (k + 1) ∷ []) (1 + 0) (32 + 0) next) in
       passes_within texts _ (1 + (1 + 0)) 2 (number k + (32 + 0)) 64
       (passes_file texts name (text_of seed lines k) (contents_of seed lines k) (files k from (omega (arith, to))) (holds_file seed lines k most (omega (arith, to))) (suc level) Auth opener (1 + 0) (number k + (32 + 0)) (bring 1))
       (omega arith) (omega (arith, number_few k))

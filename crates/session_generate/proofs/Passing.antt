@@ -16,7 +16,7 @@ use Rattle.service_load.specs.Entry.{entry_of}
 use Rattle.service_load.specs.Files.{Held, all_fine, entries_of, held, held_answer, held_text, holds, own_rules, plain_file, rules_held}
 use Rattle.service_load.specs.FirstFault.{Counts, Stop, asked, behind, checked_rule, going_on, held_file, look, opened, refused_opening, stop}
 use Rattle.service_load.specs.Order.{Item, Opener, checked, content_items, file_items, items, items_of, made, opening}
-use Rattle.session_generate.specs.Drawn.{HoldsRules, entries_from}
+use Rattle.session_generate.specs.RandomRules.{HoldsRules, entries_from}
 use Rattle.session_generate.proofs.Storing.{never}
 
 module _ (texts : List ℕ → Option (List ℕ)) where

@@ -4,11 +4,11 @@ use Rattle.std.proofs.Math.Seq.{drop-cons}
 use Rattle.pam_base.specs.declared.fault.Refuse.{Refuse}
 use Rattle.pam_base.specs.declared.fault.Refuse.TheVariants.{NoMemory, Named}
 use Rattle.pam_outside.specs.Files.{VaultState, counted, is_failing}
-use Rattle.drawn_files.specs.declared.files.DrawnFile.{DrawnFile}
+use Rattle.random_config.specs.declared.files.RandomFile.{RandomFile}
 use Rattle.service_load.specs.declared.load_fault.LoadFault.{LoadFault}
 use Rattle.session_generate.specs.Placing.{Placed, Places, PlacesSome, fault_of, placed, with_file}
 
-module _ (file : DrawnFile) (files : List DrawnFile) (v t : VaultState) where
+module _ (file : RandomFile) (files : List RandomFile) (v t : VaultState) where
   abbrev stopped : Placed
   stopped = record { vault = counted v; fault = Some (fault_of file) }
 
@@ -45,11 +45,11 @@ module _ (file : DrawnFile) (files : List DrawnFile) (v t : VaultState) where
   some_first (inr (runs, inr none)) = absurd none
 
   -- the files before this one are stored, and storing this one failed
-  pub stops_at : (all : List DrawnFile) (w : VaultState) → placed all w ≡ placed (file ∷ files) v → ((u : VaultState) → PlacesSome (file ∷ files) v u → PlacesSome all w u)
+  pub stops_at : (all : List RandomFile) (w : VaultState) → placed all w ≡ placed (file ∷ files) v → ((u : VaultState) → PlacesSome (file ∷ files) v u → PlacesSome all w u)
       → (refuse : Refuse LoadFault) → Places {T = Unit {0}} (Err refuse) (file ∷ []) v t → Places {T = Unit {0}} (Err refuse) all w t
   stops_at all w same some (Named fault) is = subst (λ (p : Placed). (p.fault ≡ Some fault) × (t ≡ p.vault)) (sym (same ∙ stops fault is.0)) is
   stops_at all w same some NoMemory is = some t (some_first is)
 
 -- the next file
-pub next_file : (files : List DrawnFile) (i : ℕ) (file : DrawnFile) → i < length files → file ≡ get_or files i file → drop i files ≡ file ∷ drop (i + 1) files
-next_file files i file lt is = rw add-one (drop-cons files i file lt ∙ ap (λ (f : DrawnFile). f ∷ drop (suc i) files) (sym is))
+pub next_file : (files : List RandomFile) (i : ℕ) (file : RandomFile) → i < length files → file ≡ get_or files i file → drop i files ≡ file ∷ drop (i + 1) files
+next_file files i file lt is = rw add-one (drop-cons files i file lt ∙ ap (λ (f : RandomFile). f ∷ drop (suc i) files) (sym is))

@@ -16,7 +16,7 @@ use Rattle.service_load.specs.conf_lex.specs.Rules.{JoinedLine, first_fault, in_
 use Rattle.service_load.specs.declared.entry.RuleContent.{RuleContent}
 use Rattle.service_load.specs.declared.rule_type.RuleType.TheVariants.{Auth}
 use Rattle.service_load.specs.Entry.{entry_of}
-use Rattle.session_generate.specs.Drawn.{HoldsRules, entries_from}
+use Rattle.session_generate.specs.RandomRules.{HoldsRules, entries_from}
 
 abbrev pub is_nul : ℕ → Bool
 is_nul b = b == 0

@@ -7,8 +7,8 @@ use Rattle.std.proofs.lemmas.Fmt.{decimal_injective}
 use Rattle.std.proofs.lemmas.Slice.Eq.{bytes_eq-Decides}
 use Rattle.pam_outside.specs.Counts.{fails_next, next_count}
 use Rattle.pam_outside.specs.Files.{File, VaultState, counted, file_at, file_put, is_below, is_folder}
-use Rattle.drawn_files.specs.declared.files.DrawnFile.{DrawnFile}
-use Rattle.drawn_files.specs.Files.{count_of, drawn_file, drawn_files, name_of, service, text_of}
+use Rattle.random_config.specs.declared.files.RandomFile.{RandomFile}
+use Rattle.random_config.specs.Files.{count_of, random_file, random_files, name_of, service, text_of}
 use Rattle.session_generate.specs.Placing.{Placed, fault_of, path_of_service, placed}
 
 -- ---- if no call is set to fail, all are stored
@@ -19,7 +19,7 @@ never calls = and_right (nat_lt calls (2 ^ 64 - 1)) false refl
 abbrev pub vault_with : List File → ℕ → VaultState
 vault_with files calls = record { files = files; calls = calls; fails = [] }
 
-abbrev pub puts : List DrawnFile → List File → List File
+abbrev pub puts : List RandomFile → List File → List File
 puts [] files = files
 puts (f ∷ fs) files = puts fs (file_put (path_of_service f.name) f.text files)
 
@@ -28,7 +28,7 @@ pub record Stored (files : List File) (p : Placed) : Type 0 where
   pub files_are : p.vault.files ≡ files
   pub fails_are : p.vault.fails ≡ []
 
-pub stored : (fs : List DrawnFile) (files : List File) (calls : ℕ) → Stored (puts fs files) (placed fs (vault_with files calls))
+pub stored : (fs : List RandomFile) (files : List File) (calls : ℕ) → Stored (puts fs files) (placed fs (vault_with files calls))
 stored [] files calls = record { none = refl; files_are = refl; fails_are = refl }
 stored (f ∷ fs) files calls =
     let next = vault_with (file_put (path_of_service f.name) f.text files) (next_count calls) in
@@ -87,15 +87,15 @@ module _ (path bytes : List ℕ) where
 
 -- ---- many files
 
-abbrev Differs : List ℕ → List DrawnFile → Type 0
-Differs path fs = AllByRecursion (λ (f : DrawnFile). path_of_service f.name ≡ path → ⊥) fs
+abbrev Differs : List ℕ → List RandomFile → Type 0
+Differs path fs = AllByRecursion (λ (f : RandomFile). path_of_service f.name ≡ path → ⊥) fs
 
-untouched : (fs : List DrawnFile) (path : List ℕ) → Differs path fs → (files : List File) → file_at path (puts fs files) ≡ file_at path files
+untouched : (fs : List RandomFile) (path : List ℕ) → Differs path fs → (files : List File) → file_at path (puts fs files) ≡ file_at path files
 untouched [] path differs files = refl
 untouched (f ∷ fs) path differs files =
     untouched fs path differs.1 (file_put (path_of_service f.name) f.text files) ∙ put_past (path_of_service f.name) f.text path differs.0 files
 
-puts_last : (fs : List DrawnFile) (f : DrawnFile) (files : List File) → puts (fs ++ f ∷ []) files ≡ file_put (path_of_service f.name) f.text (puts fs files)
+puts_last : (fs : List RandomFile) (f : RandomFile) (files : List File) → puts (fs ++ f ∷ []) files ≡ file_put (path_of_service f.name) f.text (puts fs files)
 puts_last [] f files = refl
 puts_last (g ∷ fs) f files = puts_last fs f (file_put (path_of_service g.name) g.text files)
 
@@ -117,8 +117,8 @@ not_other : (k : ℕ) → path_at k ≡ codes "/etc/pam.d/other" → ⊥
 not_other k e = let bytes : 103 ≡ 111 = ap (λ (x : List ℕ). get_or x 11 0) e in omega (arith, bytes)
 
 module _ (seed lines : ℕ) where
-  abbrev files_from : ℕ → ℕ → List DrawnFile
-  files_from a n = map (drawn_file seed lines) (range_with_len a n) ++ service (count_of lines) ∷ []
+  abbrev files_from : ℕ → ℕ → List RandomFile
+  files_from a n = map (random_file seed lines) (range_with_len a n) ++ service (count_of lines) ∷ []
 
   later_differ : (a n k : ℕ) → k < a → a + n ≤ 1000 → Differs (path_at k) (files_from a n)
   later_differ a zero k less few = (not_service k, tt)
@@ -142,20 +142,20 @@ module _ (seed lines : ℕ) where
 
   module _ (most : lines ≤ 4096) where
     abbrev pub all : List File
-    all = puts (drawn_files seed lines) []
+    all = puts (random_files seed lines) []
 
     pub file_found : (k : ℕ) → 1 ≤ k → k ≤ count_of lines → file_at (path_at k) all ≡ Some (text_of seed lines k)
     file_found k from to = found 1 (count_of lines) k from (omega (arith, to)) (omega (arith, most)) []
 
     pub service_found : file_at service_path all ≡ Some (service (count_of lines)).text
     service_found =
-        ap (file_at service_path) (puts_last (map (drawn_file seed lines) (range_with_len 1 (count_of lines))) (service (count_of lines)) [])
-        ∙ put_there service_path (service (count_of lines)).text (puts (map (drawn_file seed lines) (range_with_len 1 (count_of lines))) [])
+        ap (file_at service_path) (puts_last (map (random_file seed lines) (range_with_len 1 (count_of lines))) (service (count_of lines)) [])
+        ∙ put_there service_path (service (count_of lines)).text (puts (map (random_file seed lines) (range_with_len 1 (count_of lines))) [])
 
     pub other_absent : file_at (codes "/etc/pam.d/other") all ≡ None
-    other_absent = untouched (drawn_files seed lines) (codes "/etc/pam.d/other") (none_is_other 1 (count_of lines)) []
+    other_absent = untouched (random_files seed lines) (codes "/etc/pam.d/other") (none_is_other 1 (count_of lines)) []
 
     pub has_directory : is_folder (codes "/etc/pam.d") all ≡ true
     has_directory =
-        ap (is_folder (codes "/etc/pam.d")) (puts_last (map (drawn_file seed lines) (range_with_len 1 (count_of lines))) (service (count_of lines)) [])
-        ∙ put_below service_path (service (count_of lines)).text (codes "/etc/pam.d") refl (puts (map (drawn_file seed lines) (range_with_len 1 (count_of lines))) [])
+        ap (is_folder (codes "/etc/pam.d")) (puts_last (map (random_file seed lines) (range_with_len 1 (count_of lines))) (service (count_of lines)) [])
+        ∙ put_below service_path (service (count_of lines)).text (codes "/etc/pam.d") refl (puts (map (random_file seed lines) (range_with_len 1 (count_of lines))) [])

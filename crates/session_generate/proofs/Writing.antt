@@ -6,7 +6,7 @@ use Rattle.pam_base.specs.declared.fault.Refuse.{Refuse}
 use Rattle.pam_base.specs.declared.fault.Refuse.TheVariants as refusals
 use Rattle.pam_base.specs.Code.{number_of}
 use Rattle.pam_outside.specs.Streams.{SinkState, WritesWhole}
-use Rattle.session_run.specs.item_stream.specs.declared.ending.Stop.TheVariants.{NoMemory, WriteFault}
+use Rattle.session_run.specs.record_reader.specs.declared.ending.Stop.TheVariants.{NoMemory, WriteFault}
 use Rattle.service_load.specs.declared.load_fault.LoadFault.{LoadFault}
 use Rattle.session_run.specs.Reading.{WritesScript}
 use Rattle.session_run.specs.State.{RunState, Setting}

@@ -1,7 +1,7 @@
 -- Generated files load if there was no file before, and the result of the authentication is written.
 use Rattle.std.proofs.Common.{◌≡◌, ℕ, ◌≤◌, List, [], ◌∷◌, codes, Option, Some, None, Result, Ok, refl, sym, ap, ◌∙◌, subst}
 use Rattle.pam_outside.specs.Files.{File, VaultState}
-use Rattle.drawn_files.specs.Files.{drawn_files}
+use Rattle.random_config.specs.Files.{random_files}
 use Rattle.session_run.specs.dispatch_core.specs.Lines.{names_of}
 use Rattle.session_run.specs.pam_handle.specs.Start.{new_handle, stacks_under, started_by}
 use Rattle.session_run.specs.pam_library.specs.Slots.{PlainSlot, closed, opened}
@@ -29,8 +29,8 @@ as_it_is v files is none =
 pub loads_all : (seed lines : ℕ) (vault : VaultState) → lines ≤ 4096 → IsFree vault → LoadsAll seed lines vault
 loads_all seed lines vault most free =
     let from : vault ≡ vault_with [] vault.calls = as_it_is vault [] free.files free.fails in
-    let p : Placed = placed (drawn_files seed lines) (vault_with [] vault.calls) in
-    let s = stored (drawn_files seed lines) [] vault.calls in
+    let p : Placed = placed (random_files seed lines) (vault_with [] vault.calls) in
+    let s = stored (random_files seed lines) [] vault.calls in
     let now : p.vault ≡ vault_with (all seed lines most) p.vault.calls = as_it_is p.vault (all seed lines most) s.files_are s.fails_are in
     let l = loads seed lines most p.vault.calls in
     subst (LoadsAll seed lines) (sym from) (record {
@@ -56,7 +56,7 @@ module _ (setting : Setting) where
   pub all_written : (seed lines : ℕ) (s : RunState) → lines ≤ 4096 → IsFree s.world.vault → (generation setting seed lines s).generated ≡ generated.Written
   unfolding generation
   all_written seed lines s most free =
-      let p : Placed = placed (drawn_files seed lines) s.world.vault in
+      let p : Placed = placed (random_files seed lines) s.world.vault in
       let l = loads_all seed lines s.world.vault most free in
       let from : RunState = state_of s.slots (with_vault p.vault (from_root s.world)) in
       ap (λ (fault : Option LoadFault). found_by (behind_files setting fault from).result) l.none

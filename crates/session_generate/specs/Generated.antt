@@ -8,9 +8,9 @@ use Rattle.pam_base.specs.declared.fault.Refuse.TheVariants.{Named}
 use Rattle.pam_base.specs.declared.fault.Refuse.TheVariants as refusals
 use Rattle.pam_outside.specs.Files.{VaultState}
 use Rattle.pam_outside.specs.Streams.{SinkState}
-use Rattle.drawn_files.specs.Files.{count_of, drawn_files}
-use Rattle.session_run.specs.item_stream.specs.declared.ending.Stop.{Stop}
-use Rattle.session_run.specs.item_stream.specs.declared.ending.Stop.TheVariants.{NoMemory}
+use Rattle.random_config.specs.Files.{count_of, random_files}
+use Rattle.session_run.specs.record_reader.specs.declared.ending.Stop.{Stop}
+use Rattle.session_run.specs.record_reader.specs.declared.ending.Stop.TheVariants.{NoMemory}
 use Rattle.session_run.specs.pam_room.specs.State.{PlainWorld}
 use Rattle.service_load.specs.declared.load_fault.LoadFault.{LoadFault}
 use Rattle.session_run.specs.session_report.specs.Fault.{refused_text}
@@ -35,13 +35,13 @@ module _ (setting : Setting) where
   -- the files generated from a seed are stored, and the service authenticates a user
   abbrev pub attempted : ℕ → ℕ → RunState → Attempt
   attempted seed lines s =
-      let p = placed (drawn_files seed lines) s.world.vault in
+      let p = placed (random_files seed lines) s.world.vault in
       behind_files p.fault (state_of s.slots (with_vault p.vault (from_root s.world)))
 
   -- An allocation failed: before anything was done, before a file was stored, among the files, or in the login.
   abbrev pub AttemptStops : ℕ → ℕ → RunState → RunState → Type 0
   AttemptStops seed lines s state =
-      let files = drawn_files seed lines in
+      let files = random_files seed lines in
       let p = placed files s.world.vault in
       (state ≡ s) ⊎ ((state ≡ state_of s.slots (from_root s.world))
       ⊎ (((vault : VaultState) × PlacesSome files s.world.vault vault

@@ -2,5 +2,5 @@ pub use Rattle.service_load
 pub mod Placing
 pub mod Login
 pub mod Generated
-pub mod Drawn
+pub mod RandomRules
 pub mod Loads

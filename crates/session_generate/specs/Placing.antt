@@ -4,7 +4,7 @@ use Rattle.pam_base.specs.declared.fault.FaultKind.TheVariants.{ReadFailed}
 use Rattle.pam_base.specs.declared.fault.Refuse.{Refuse}
 use Rattle.pam_base.specs.declared.fault.Refuse.TheVariants.{NoMemory, Named}
 use Rattle.pam_outside.specs.Files.{VaultState, counted, file_put, is_failing}
-use Rattle.drawn_files.specs.declared.files.DrawnFile.{DrawnFile}
+use Rattle.random_config.specs.declared.files.RandomFile.{RandomFile}
 use Rattle.session_run.specs.pam_room.specs.State.{PlainWorld}
 use Rattle.service_load.specs.declared.load_fault.LoadFault.{LoadFault}
 
@@ -12,11 +12,11 @@ use Rattle.service_load.specs.declared.load_fault.LoadFault.{LoadFault}
 abbrev pub path_of_service : List ℕ → List ℕ
 path_of_service name = codes "/etc/pam.d/" ++ name
 
-abbrev pub fault_of : DrawnFile → LoadFault
+abbrev pub fault_of : RandomFile → LoadFault
 fault_of file = record { file = path_of_service file.name; line = 0; kind = ReadFailed }
 
 -- the files after one was stored
-abbrev pub with_file : DrawnFile → VaultState → VaultState
+abbrev pub with_file : RandomFile → VaultState → VaultState
 with_file file v = counted
     (record v { files = file_put (path_of_service file.name) file.text v.files })
 
@@ -25,7 +25,7 @@ pub record Placed : Type 0 where
   pub vault : VaultState
   pub fault : Option LoadFault
 
-abbrev pub placed : List DrawnFile → VaultState → Placed
+abbrev pub placed : List RandomFile → VaultState → Placed
 placed [] v = record { vault = v; fault = None }
 placed (file ∷ files) v = if is_failing v
     then record { vault = counted v; fault = Some (fault_of file) }
@@ -37,13 +37,13 @@ with_vault vault w = record w { vault = vault }
 
 -- The files if an allocation failed: before one of these was stored, while it was stored, or after
 -- that.
-abbrev pub PlacesSome : List DrawnFile → VaultState → VaultState → Type 0
+abbrev pub PlacesSome : List RandomFile → VaultState → VaultState → Type 0
 PlacesSome [] v vault = ⊥
 PlacesSome (file ∷ files) v vault = (vault ≡ v) ⊎ ((is_failing v ≡ false)
     × ((vault ≡ counted v) ⊎ PlacesSome files (with_file file v) vault))
 
 -- All files were stored, or all up to the fault; if an allocation failed, the first few.
-abbrev pub Places : {T : Type 0} → Result T (Refuse LoadFault) → List DrawnFile → VaultState
+abbrev pub Places : {T : Type 0} → Result T (Refuse LoadFault) → List RandomFile → VaultState
     → VaultState → Type 0
 Places (Ok done) files v vault =
     ((placed files v).fault ≡ None) × (vault ≡ (placed files v).vault)

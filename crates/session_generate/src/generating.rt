@@ -2,7 +2,7 @@ ghost use Rattle.std.specs.Prelude.{◌≡◌, ◌≤◌, ℕ, IfOk, IsTrue};
 ghost use Rattle.pam_base.specs.Code.{number_of};
 ghost use Rattle.pam_base.specs.declared.code.Code.{Code as TheCode};
 ghost use Rattle.pam_outside.specs.Counts.{RisesIf};
-ghost use Rattle.session_run.specs.item_stream.specs.Turns.{has_write_fault};
+ghost use Rattle.session_run.specs.record_reader.specs.Turns.{has_write_fault};
 ghost use Rattle.session_run.specs.Reading.{WritesScript};
 ghost use Rattle.session_run.specs.Seen.{AllTell, IsSoundIn, NoneIsOpenIn, Went, setting_in, state};
 ghost use Rattle.session_generate.specs.Generated.{AttemptStops, FindsOrStops, Generates, IsEndOfFinding, IsEndOfGenerate, IsFound, attempted, generated_text, generation};
@@ -11,13 +11,13 @@ ghost use Rattle.session_generate.specs.Login.{ComesTo, IsEndWith, end_status};
 use crate::login::{Login, log_in};
 use crate::place::set_process;
 use crate::placing::place_in_world;
-use drawn_files::{MAX_DRAWN, draw_files, file_count};
 use pam_base::{Failed, NoMemory, Refuse, Text, code_name, code_number};
 use pam_outside::{Sink, write_all};
+use random_config::{MAX_RANDOM_LINES, file_count, random_files};
 use service_load::LoadFault;
-use session_run::item_stream::Stop;
 use session_run::pam_library::{Library, Session, Told};
 use session_run::pam_room::World;
+use session_run::record_reader::Stop;
 use session_run::session_report::refused_report;
 use std::alloc::Global;
 
@@ -53,7 +53,7 @@ pub fn generate<K: Sink>(
     out: &mut K,
     world: &mut World,
 ) -> Result<Generated, Stop>
-    requires few { lines ≤ MAX_DRAWN }
+    requires few { lines ≤ MAX_RANDOM_LINES }
     requires none_open { NoneIsOpenIn (⟦<Session as Told>⟧.seen library.old world.old) }
     requires sound { IsSoundIn (⟦<Session as Told>⟧.seen library.old world.old) }
 
@@ -95,7 +95,7 @@ fn find(
     lines: u32,
     world: &mut World,
 ) -> Result<Finding, NoMemory>
-    requires few { lines ≤ MAX_DRAWN }
+    requires few { lines ≤ MAX_RANDOM_LINES }
     requires none_open { NoneIsOpenIn (⟦<Session as Told>⟧.seen library.old world.old) }
     requires sound { IsSoundIn (⟦<Session as Told>⟧.seen library.old world.old) }
     ensures told { let seen = ⟦<Session as Told>⟧.seen in (delay : TheCode → ℕ → ℕ) →
@@ -118,7 +118,7 @@ fn attempt(
     lines: u32,
     world: &mut World,
 ) -> Result<Login, Refuse<LoadFault>>
-    requires few { lines ≤ MAX_DRAWN }
+    requires few { lines ≤ MAX_RANDOM_LINES }
     requires none_open { NoneIsOpenIn (⟦<Session as Told>⟧.seen library.old world.old) }
     requires sound { IsSoundIn (⟦<Session as Told>⟧.seen library.old world.old) }
     ensures told { let seen = ⟦<Session as Told>⟧.seen in (delay : TheCode → ℕ → ℕ) →
@@ -133,7 +133,7 @@ fn attempt(
         (seen library.new world.new) }
 {
     set_process(alloc, world)?;
-    let files = draw_files(alloc, seed, lines)?;
+    let files = random_files(alloc, seed, lines)?;
     match place_in_world(alloc, &files, world) {
         Err(refuse) => Err(refuse),
         Ok(()) => log_in(alloc, library, world),
@@ -146,7 +146,7 @@ fn describe(
     lines: u32,
     login: Result<Login, Refuse<LoadFault>>,
 ) -> Result<Finding, NoMemory>
-    requires { lines ≤ MAX_DRAWN }
+    requires { lines ≤ MAX_RANDOM_LINES }
     ensures found { IfOk result (λ finding. IsFound finding lines login) }
 {
     match login {
@@ -163,7 +163,7 @@ fn describe(
 }
 
 fn generated_line(alloc: Global, lines: u32, login: Login) -> Result<Text, NoMemory>
-    requires { lines ≤ MAX_DRAWN }
+    requires { lines ≤ MAX_RANDOM_LINES }
     ensures { IfOk result (λ text. text ≡ generated_text lines login) }
 {
     let files = file_count(lines);

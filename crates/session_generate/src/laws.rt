@@ -1,9 +1,9 @@
 ghost use Rattle.std.specs.Prelude.{◌≡◌, ◌≤◌, ℕ};
 ghost use Rattle.pam_outside.specs.Files.{VaultState};
-ghost use Rattle.drawn_files.specs.Files.{count_of, service, text_of};
+ghost use Rattle.random_config.specs.Files.{count_of, service, text_of};
 ghost use Rattle.session_run.specs.State.{RunState, Setting};
 ghost use Rattle.session_generate.specs.declared.generating.Generated.TheVariants.{Written};
-ghost use Rattle.session_generate.specs.Drawn.{HoldsRules, contents_of, service_contents};
+ghost use Rattle.session_generate.specs.RandomRules.{HoldsRules, contents_of, service_contents};
 ghost use Rattle.session_generate.specs.Generated.{generation};
 ghost use Rattle.session_generate.specs.Loads.{IsFree, LoadsAll};
 

@@ -10,5 +10,5 @@ mod login;
 mod place;
 mod placing;
 
-pub use drawn_files;
 pub use generating::{Generated, generate};
+pub use random_config;

@@ -2,9 +2,9 @@ ghost use Rattle.std.specs.Prelude.{◌≡◌, ◌∷◌, [], IfOk, IsTrue};
 ghost use Rattle.session_run.specs.pam_handle.specs.Plain.{in_box};
 ghost use Rattle.session_generate.specs.Placing.{Places, path_of_service, with_vault};
 
-use drawn_files::DrawnFile;
 use pam_base::{FaultKind, NoMemory, Refuse, Text};
 use pam_outside::{ReplaceFault, Vault, replace_file};
+use random_config::RandomFile;
 use service_load::LoadFault;
 use session_run::pam_room::{World, WorldTold};
 use std::alloc::Global;
@@ -12,7 +12,7 @@ use std::alloc::Global;
 /// Stores service files in a world, in order, up to the first that can't be stored.
 pub(crate) fn place_in_world(
     alloc: Global,
-    files: &[DrawnFile],
+    files: &[RandomFile],
     world: &mut World,
 ) -> Result<(), Refuse<LoadFault>>
     ensures tells { ⟦<World as WorldTold>⟧.tells world.new
@@ -31,7 +31,7 @@ pub(crate) fn place_in_world(
 // Stores them.
 fn place_files(
     alloc: Global,
-    files: &[DrawnFile],
+    files: &[RandomFile],
     vault: &mut dyn Vault,
 ) -> Result<(), Refuse<LoadFault>>
     ensures tells { vault_tells vault.new ≡ vault_tells vault.old }
@@ -49,7 +49,7 @@ fn place_files(
 
 fn place_file(
     alloc: Global,
-    file: &DrawnFile,
+    file: &RandomFile,
     vault: &mut dyn Vault,
 ) -> Result<(), Refuse<LoadFault>>
     ensures tells { vault_tells vault.new ≡ vault_tells vault.old }

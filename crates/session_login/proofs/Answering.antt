@@ -11,8 +11,8 @@ use Rattle.session_run.specs.pam_library.specs.Outcome.{PlainOutcome}
 use Rattle.session_run.specs.pam_library.specs.Slots.{PlainSlot}
 use Rattle.session_run.specs.pam_library.specs.Step.{stepped, StepsAs}
 use Rattle.session_run.specs.pam_library.specs.declared.outcome.Answer.{Answer}
-use Rattle.item_stream.specs.declared.ending.Stop.{Stop}
-use Rattle.item_stream.specs.declared.ending.Stop.TheVariants.{NoMemory, WriteFault}
+use Rattle.record_reader.specs.declared.ending.Stop.{Stop}
+use Rattle.record_reader.specs.declared.ending.Stop.TheVariants.{NoMemory, WriteFault}
 use Rattle.session_run.specs.State.{Setting, RunState, state_of}
 use Rattle.session_run.specs.Step.{CallFails}
 use Rattle.session_login.specs.Login.{answer_line, lines_of_calls, make, made_line, step_of}

@@ -4,7 +4,7 @@ use Rattle.pam_base.specs.declared.code.Code.{Code}
 use Rattle.pam_base.specs.declared.call.AppCall.{AppCall}
 use Rattle.pam_outside.specs.Streams.{SinkState}
 use Rattle.session_run.specs.pam_library.specs.declared.outcome.Answer.{Answer}
-use Rattle.item_stream.specs.declared.ending.Stop.{Stop}
+use Rattle.record_reader.specs.declared.ending.Stop.{Stop}
 use Rattle.session_run.specs.State.{Setting, RunState}
 use Rattle.session_login.specs.declared.calls.Accepted.{Accepted}
 use Rattle.session_login.specs.declared.calls.Accepted.TheVariants.{Success, SuccessOrTooOld, Any}

@@ -1,7 +1,7 @@
 -- Calls one after the other: their lines, and how far they came.
 use Rattle.std.proofs.Common.{◌≡◌, ℕ, List, [], ◌∷◌, ◌++◌, Result, Ok, Err, refl, sym, ap, ◌∙◌, append_assoc, append-nil}
 use Rattle.pam_outside.specs.Streams.{SinkState}
-use Rattle.item_stream.specs.declared.ending.Stop.{Stop}
+use Rattle.record_reader.specs.declared.ending.Stop.{Stop}
 use Rattle.session_run.specs.State.{Setting, RunState}
 use Rattle.session_login.specs.Login.{Made, lines_of_calls, made_line, state_behind}
 use Rattle.session_login.specs.Told.{MakesCalls, CallsLead}

@@ -8,7 +8,7 @@ use Rattle.pam_base.specs.declared.call.Func.TheVariants as funcs
 use Rattle.pam_base.specs.declared.call.Step.{Step}
 use Rattle.pam_base.specs.Call.{stack_call}
 use Rattle.pam_base.specs.Code.{number_of}
-use Rattle.item_stream.specs.declared.ending.Stop.{Stop}
+use Rattle.record_reader.specs.declared.ending.Stop.{Stop}
 use Rattle.session_run.specs.Ends.{IsEndStep}
 use Rattle.session_login.specs.declared.attempt.Verdict.{Verdict}
 use Rattle.session_login.specs.declared.attempt.Verdict.TheVariants as verdicts

@@ -12,8 +12,8 @@ use Rattle.session_run.specs.pam_library.specs.Slots.{PlainSlot, slot_at}
 use Rattle.session_run.specs.pam_library.specs.Sound.{IsSound}
 use Rattle.session_run.specs.pam_library.specs.declared.outcome.Answer.{Answer}
 use Rattle.session_run.specs.pam_library.specs.declared.outcome.Answer.TheVariants.{BadNumber}
-use Rattle.item_stream.specs.declared.ending.Stop.{Stop}
-use Rattle.item_stream.specs.declared.ending.Stop.TheVariants.{WriteFault}
+use Rattle.record_reader.specs.declared.ending.Stop.{Stop}
+use Rattle.record_reader.specs.declared.ending.Stop.TheVariants.{WriteFault}
 use Rattle.session_login.specs.declared.attempt.Verdict.{Verdict}
 use Rattle.session_login.specs.declared.attempt.Verdict.TheVariants.{Passed, Refused}
 use Rattle.session_login.specs.declared.calls.LoginCall.{LoginCall}

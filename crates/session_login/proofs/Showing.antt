@@ -6,8 +6,8 @@ use Rattle.pam_outside.specs.Streams.{SinkState, WritesWhole}
 use Rattle.session_run.specs.pam_library.specs.AnyWorld.{is_refused}
 use Rattle.session_run.specs.pam_library.specs.declared.outcome.Answer.{Answer}
 use Rattle.session_run.specs.pam_library.specs.declared.outcome.Answer.TheVariants as answers
-use Rattle.item_stream.specs.declared.ending.Stop.{Stop}
-use Rattle.item_stream.specs.declared.ending.Stop.TheVariants.{WriteFault}
+use Rattle.record_reader.specs.declared.ending.Stop.{Stop}
+use Rattle.record_reader.specs.declared.ending.Stop.TheVariants.{WriteFault}
 use Rattle.session_login.specs.declared.attempt.Verdict.{Verdict}
 use Rattle.session_login.specs.declared.attempt.Verdict.TheVariants.{Passed, Denied, Refused}
 use Rattle.session_login.specs.Login.{denied_line}

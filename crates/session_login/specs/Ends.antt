@@ -3,7 +3,7 @@ use Rattle.std.specs.Prelude.{◌≡◌, ◌⊎◌, ℕ, Result, Ok, Err}
 use Rattle.pam_base.specs.declared.code.Code.{Code}
 use Rattle.pam_base.specs.declared.code.Code.TheVariants.{Success}
 use Rattle.pam_base.specs.Code.{number_of}
-use Rattle.item_stream.specs.declared.ending.Stop.{Stop}
+use Rattle.record_reader.specs.declared.ending.Stop.{Stop}
 use Rattle.session_run.specs.Endings.{stop_status}
 use Rattle.session_login.specs.declared.attempt.Verdict.{Verdict}
 use Rattle.session_login.specs.declared.attempt.Verdict.TheVariants.{Passed, Denied, Refused}

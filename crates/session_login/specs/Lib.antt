@@ -1,4 +1,4 @@
-pub use Rattle.item_stream
+pub use Rattle.record_reader
 pub use Rattle.session_run
 pub mod Calls
 pub mod Login

@@ -9,7 +9,7 @@ use Rattle.pam_outside.specs.Streams.{SinkState}
 use Rattle.session_run.specs.pam_library.specs.AnyWorld.{AnswersBy, is_refused, refusal}
 use Rattle.session_run.specs.pam_library.specs.Slots.{PlainSlot}
 use Rattle.session_run.specs.pam_library.specs.declared.outcome.Answer.{Answer}
-use Rattle.item_stream.specs.declared.ending.Stop.{Stop}
+use Rattle.record_reader.specs.declared.ending.Stop.{Stop}
 use Rattle.session_login.specs.declared.attempt.Verdict.{Verdict}
 use Rattle.session_login.specs.declared.attempt.Verdict.TheVariants.{Denied, Refused}
 use Rattle.session_login.specs.declared.calls.LoginCall.{LoginCall}

@@ -5,8 +5,8 @@ use Rattle.pam_base.specs.declared.call.AppCall.{AppCall}
 use Rattle.pam_outside.specs.Streams.{SinkState}
 use Rattle.session_run.specs.pam_library.specs.declared.outcome.Answer.{Answer}
 use Rattle.session_run.specs.service_load.specs.declared.load_fault.LoadFault.{LoadFault}
-use Rattle.item_stream.specs.declared.ending.Stop.{Stop}
-use Rattle.item_stream.specs.declared.ending.Stop.TheVariants.{NoMemory, WriteFault}
+use Rattle.record_reader.specs.declared.ending.Stop.{Stop}
+use Rattle.record_reader.specs.declared.ending.Stop.TheVariants.{NoMemory, WriteFault}
 use Rattle.session_run.specs.session_report.specs.Fault.{refused_text}
 use Rattle.session_run.specs.Endings.{stop_status}
 use Rattle.session_run.specs.Reported.{CutBy}

@@ -2,7 +2,7 @@ ghost use Rattle.std.specs.Prelude.{◌≡◌, ℕ, Ok, Some, IsTrue};
 ghost use Rattle.pam_base.specs.declared.code.Code.{Code};
 ghost use Rattle.pam_outside.specs.Counts.{RisesIf};
 ghost use Rattle.session_run.specs.pam_library.specs.Slots.{slot_at};
-ghost use Rattle.item_stream.specs.Turns.{has_write_fault};
+ghost use Rattle.record_reader.specs.Turns.{has_write_fault};
 ghost use Rattle.session_run.specs.Seen.{AllTell, IsSoundIn, Went, setting_in, state};
 ghost use Rattle.session_login.specs.Ends.{IsDenial, IsNoEnd};
 ghost use Rattle.session_login.specs.Login.{course};
@@ -11,9 +11,9 @@ ghost use Rattle.session_login.specs.Told.{MakesCourse, SaysAnything, WritesLine
 
 use crate::calls::{LoginCall, code_in};
 use crate::making::make;
-use item_stream::Stop;
 use pam_base::Code;
 use pam_outside::Sink;
+use record_reader::Stop;
 use session_run::pam_library::{Library, Session, Told};
 use session_run::pam_room::World;
 use std::alloc::Global;

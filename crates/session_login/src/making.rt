@@ -4,16 +4,16 @@ ghost use Rattle.pam_base.specs.declared.call.AppCall.{AppCall};
 ghost use Rattle.pam_base.specs.Call.{is_fit};
 ghost use Rattle.pam_outside.specs.Counts.{RisesIf};
 ghost use Rattle.session_run.specs.pam_library.specs.Slots.{slot_at};
-ghost use Rattle.item_stream.specs.Turns.{has_write_fault};
+ghost use Rattle.record_reader.specs.Turns.{has_write_fault};
 ghost use Rattle.session_run.specs.Ends.{IsEndStep};
 ghost use Rattle.session_run.specs.Seen.{AllTell, IsSoundIn, Went, setting_in, state};
 ghost use Rattle.session_login.specs.Login.{answer_line, make};
 ghost use Rattle.session_login.specs.Reported.{Reports, SaysResult};
 ghost use Rattle.session_login.specs.Told.{Makes, SaysAnswer, WritesLines};
 
-use item_stream::Stop;
 use pam_base::{AppCall, Failed, NoMemory, Step};
 use pam_outside::{Sink, write_all};
+use record_reader::Stop;
 use session_run::pam_library::{Answer, Library, Session, Told};
 use session_run::pam_room::World;
 use session_run::session_report::{refused_report, result_report};

@@ -1,10 +1,10 @@
 -- What is known of a run if only the source or only the sink is modelled, by its status.
 use Rattle.std.proofs.Common.{◌≡◌, ℕ, [], Result, Ok, Err, refl, sym, append-nil, arith}
 use Rattle.pam_outside.specs.Streams.{SourceState, SinkState}
-use Rattle.item_stream.specs.LineTurns.{Ending}
-use Rattle.item_stream.specs.declared.ending.Ending.TheVariants.{Done, ReadFault, Refused}
-use Rattle.item_stream.specs.declared.ending.Stop.{Stop}
-use Rattle.item_stream.specs.declared.ending.Stop.TheVariants.{NoMemory, WriteFault}
+use Rattle.record_reader.specs.LineTurns.{Ending}
+use Rattle.record_reader.specs.declared.ending.Ending.TheVariants.{Done, ReadFault, Refused}
+use Rattle.record_reader.specs.declared.ending.Stop.{Stop}
+use Rattle.record_reader.specs.declared.ending.Stop.TheVariants.{NoMemory, WriteFault}
 use Rattle.session_login.specs.session_run.specs.Reading.{ReadsScript, WritesScript}
 use Rattle.session_program.specs.Run.{HasRefused, IsAccepted, ReadsBy, status_of}
 

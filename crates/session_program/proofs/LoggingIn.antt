@@ -5,13 +5,13 @@ use Rattle.pam_outside.specs.Streams.{SinkState}
 use Rattle.pam_room.specs.Module.{Player}
 use Rattle.pam_room.specs.State.{PlainWorld}
 use Rattle.session_check.specs.pam_library.specs.Slots.{PlainSlot}
-use Rattle.item_stream.specs.declared.ending.Stop.{Stop}
+use Rattle.record_reader.specs.declared.ending.Stop.{Stop}
 use Rattle.session_generate.specs.declared.generating.Generated.{Generated}
 use Rattle.session_generate.specs.Generated.{Generates, IsEndOfGenerate, generation}
 use Rattle.session_login.specs.declared.attempt.Verdict.{Verdict}
 use Rattle.session_login.specs.Ends.{IsEndOfLogin}
 use Rattle.session_login.specs.Login.{login_of}
-use Rattle.item_stream.specs.declared.ending.Stop.TheVariants.{NoMemory}
+use Rattle.record_reader.specs.declared.ending.Stop.TheVariants.{NoMemory}
 use Rattle.session_login.specs.Told.{LogsIn}
 use Rattle.session_login.specs.session_run.specs.Seen.{Seen}
 use Rattle.session_login.specs.session_run.specs.State.{Setting, setting_of, state_of}

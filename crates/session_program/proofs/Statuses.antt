@@ -5,10 +5,10 @@ use Rattle.pam_outside.specs.Streams.{SourceState, SinkState}
 use Rattle.data_cleanup.specs.Stands.{StandFor}
 use Rattle.pam_room.specs.Module.{notes_of}
 use Rattle.session_check.specs.pam_library.specs.Slots.{lists_of}
-use Rattle.item_stream.specs.Run.{come_to}
-use Rattle.item_stream.specs.LineRun.{Run}
-use Rattle.item_stream.specs.LineTurns.{Ending}
-use Rattle.item_stream.specs.declared.ending.Ending.TheVariants.{Done, ReadFault, Refused}
+use Rattle.record_reader.specs.Run.{come_to}
+use Rattle.record_reader.specs.LineRun.{Run}
+use Rattle.record_reader.specs.LineTurns.{Ending}
+use Rattle.record_reader.specs.declared.ending.Ending.TheVariants.{Done, ReadFault, Refused}
 use Rattle.session_login.specs.session_run.specs.State.{Setting, RunState}
 use Rattle.session_login.specs.session_run.specs.Events.{AreDue, StandOn, run_events}
 use Rattle.session_login.specs.session_run.specs.Whole.{RunsScript, ending_status}

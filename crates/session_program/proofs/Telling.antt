@@ -10,11 +10,11 @@ use Rattle.pam_room.specs.Module.{Player, notes_of}
 use Rattle.pam_room.specs.State.{PlainWorld}
 use Rattle.session_check.specs.pam_library.specs.Slots.{NoneIsOpen, PlainSlot, closed, lists_of}
 use Rattle.session_check.specs.pam_library.specs.Sound.{IsSound}
-use Rattle.item_stream.specs.LineTurns.{Ending}
-use Rattle.item_stream.specs.declared.ending.Ending.{Ending as StreamEnding}
-use Rattle.item_stream.specs.declared.ending.Ending.TheVariants.{Done, ReadFault, Refused}
-use Rattle.item_stream.specs.declared.ending.Stop.{Stop}
-use Rattle.item_stream.specs.declared.ending.Stop.TheVariants.{NoMemory, WriteFault}
+use Rattle.record_reader.specs.LineTurns.{Ending}
+use Rattle.record_reader.specs.declared.ending.Ending.{Ending as StreamEnding}
+use Rattle.record_reader.specs.declared.ending.Ending.TheVariants.{Done, ReadFault, Refused}
+use Rattle.record_reader.specs.declared.ending.Stop.{Stop}
+use Rattle.record_reader.specs.declared.ending.Stop.TheVariants.{NoMemory, WriteFault}
 use Rattle.session_login.specs.session_run.specs.Run.{RunTold}
 use Rattle.session_login.specs.session_run.specs.State.{Setting, RunState, setting_of, state_of}
 use Rattle.session_login.specs.session_run.specs.Whole.{RunsScript}

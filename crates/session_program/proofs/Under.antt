@@ -5,12 +5,12 @@ use Rattle.pam_outside.specs.Counts.{RisesIf, Rose}
 use Rattle.pam_outside.specs.Streams.{SourceState, SinkState}
 use Rattle.pam_room.specs.State.{PlainWorld}
 use Rattle.session_check.specs.pam_library.specs.Slots.{PlainSlot}
-use Rattle.item_stream.specs.declared.ending.Ending.{Ending}
-use Rattle.item_stream.specs.declared.ending.Ending.TheVariants.{Done, ReadFault, Refused}
-use Rattle.item_stream.specs.declared.ending.Stop.{Stop}
-use Rattle.item_stream.specs.declared.ending.Stop.TheVariants.{NoMemory, WriteFault}
-use Rattle.item_stream.specs.Object.{Object}
-use Rattle.item_stream.specs.Turns.{has_read_fault, has_write_fault}
+use Rattle.record_reader.specs.declared.ending.Ending.{Ending}
+use Rattle.record_reader.specs.declared.ending.Ending.TheVariants.{Done, ReadFault, Refused}
+use Rattle.record_reader.specs.declared.ending.Stop.{Stop}
+use Rattle.record_reader.specs.declared.ending.Stop.TheVariants.{NoMemory, WriteFault}
+use Rattle.record_reader.specs.Object.{Object}
+use Rattle.record_reader.specs.Turns.{has_read_fault, has_write_fault}
 use Rattle.session_login.specs.session_run.specs.Ends.{IsEndOfRun}
 use Rattle.session_login.specs.session_run.specs.Reading.{ReadsScript}
 use Rattle.session_login.specs.session_run.specs.SideBySide.{NumbersStandApart}

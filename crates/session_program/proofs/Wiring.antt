@@ -8,11 +8,11 @@ use Rattle.session_check.specs.pam_library.specs.Slots.{PlainSlot}
 use Rattle.session_wire.specs.pam_wire.specs.Frame.{sized}
 use Rattle.session_wire.specs.pam_wire.specs.Stream.{IsOpen}
 use Rattle.pam_outside.specs.Counts.{RisesIf}
-use Rattle.item_stream.specs.Turns.{has_read_fault}
-use Rattle.item_stream.specs.declared.ending.Ending.{Ending}
-use Rattle.item_stream.specs.declared.ending.Ending.TheVariants.{Done, ReadFault, Refused}
-use Rattle.item_stream.specs.declared.ending.Stop.{Stop}
-use Rattle.item_stream.specs.declared.ending.Stop.TheVariants.{NoMemory, WriteFault}
+use Rattle.record_reader.specs.Turns.{has_read_fault}
+use Rattle.record_reader.specs.declared.ending.Ending.{Ending}
+use Rattle.record_reader.specs.declared.ending.Ending.TheVariants.{Done, ReadFault, Refused}
+use Rattle.record_reader.specs.declared.ending.Stop.{Stop}
+use Rattle.record_reader.specs.declared.ending.Stop.TheVariants.{NoMemory, WriteFault}
 use Rattle.session_wire.specs.frame_stream.specs.declared.fault.FrameFault.{FrameFault}
 use Rattle.session_wire.specs.frame_stream.specs.declared.fault.FrameFault.TheVariants.{BadFrame, TooManyFrames}
 use Rattle.session_login.specs.session_run.specs.State.{Setting}

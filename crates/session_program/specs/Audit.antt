@@ -1,8 +1,8 @@
 -- The statuses of an audit (this project's own).
 use Rattle.std.specs.Prelude.{◌≡◌, ◌⊎◌, ℕ, List, Option, Some, None, Result, Ok, Err, IfOk}
 use Rattle.pam_outside.specs.Streams.{SinkState}
-use Rattle.item_stream.specs.declared.ending.Stop.{Stop}
-use Rattle.item_stream.specs.declared.ending.Stop.TheVariants.{NoMemory, WriteFault}
+use Rattle.record_reader.specs.declared.ending.Stop.{Stop}
+use Rattle.record_reader.specs.declared.ending.Stop.TheVariants.{NoMemory, WriteFault}
 use Rattle.transcript_audit.specs.declared.finding.Audited.{Audited}
 use Rattle.transcript_audit.specs.declared.finding.Audited.TheVariants.{Fits, Differs, Refused, TooLong, Unread}
 use Rattle.transcript_audit.specs.Audit.{Audit, Audits, ReadsUpTo}

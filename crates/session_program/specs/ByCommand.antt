@@ -10,8 +10,8 @@ use Rattle.pam_outside.specs.Files.{VaultState}
 use Rattle.pam_outside.specs.Streams.{SourceState, SinkState}
 use Rattle.pam_room.specs.Module.{Player}
 use Rattle.pam_room.specs.State.{PlainWorld}
-pub use Rattle.item_stream.specs.Object.{Object, object_of}
-use Rattle.item_stream.specs.Written.{WritesText}
+pub use Rattle.record_reader.specs.Object.{Object, object_of}
+use Rattle.record_reader.specs.Written.{WritesText}
 use Rattle.session_check.specs.Check.{check_of}
 use Rattle.session_check.specs.pam_library.specs.Slots.{PlainSlot}
 use Rattle.session_generate.specs.service_load.specs.Loading.{OnlyCalls}

@@ -6,7 +6,7 @@ use Rattle.data_cleanup.specs.Due.{Event, due}
 use Rattle.data_cleanup.specs.Ledger.{PlainLedger}
 use Rattle.data_cleanup.specs.Tidy.{Tidy}
 use Rattle.data_cleanup.specs.Stands.{births_of, receipts_in, times_filed}
-use Rattle.item_stream.specs.declared.ending.Stop.{Stop}
+use Rattle.record_reader.specs.declared.ending.Stop.{Stop}
 use Rattle.session_generate.specs.declared.generating.Generated.{Generated}
 use Rattle.session_generate.specs.Generated.{IsEndOfGenerate}
 use Rattle.session_login.specs.declared.attempt.Verdict.{Verdict}

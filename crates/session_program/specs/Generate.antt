@@ -3,27 +3,27 @@ use Rattle.std.specs.Prelude.{◌≡◌, ◌⊎◌, ℕ, List, Result, Ok, Err}
 use Rattle.pam_outside.specs.Streams.{SinkState}
 use Rattle.pam_room.specs.State.{PlainWorld}
 use Rattle.session_check.specs.pam_library.specs.Slots.{PlainSlot}
-use Rattle.item_stream.specs.declared.ending.Stop.{Stop}
-use Rattle.item_stream.specs.declared.ending.Stop.TheVariants.{NoMemory, WriteFault}
-use Rattle.session_generate.specs.declared.generating.Generated.{Generated as Drawn}
+use Rattle.record_reader.specs.declared.ending.Stop.{Stop}
+use Rattle.record_reader.specs.declared.ending.Stop.TheVariants.{NoMemory, WriteFault}
+use Rattle.session_generate.specs.declared.generating.Generated.{Generated as GenerateResult}
 use Rattle.session_generate.specs.declared.generating.Generated.TheVariants.{Written, Refused}
 use Rattle.session_generate.specs.Generated.{Generates, Generation, generation}
 use Rattle.session_login.specs.session_run.specs.State.{RunState, Setting, state_of}
 
 -- 0 if the line is written, 3 if a file or the service is refused
-abbrev pub generate_status : Result Drawn Stop → ℕ
+abbrev pub generate_status : Result GenerateResult Stop → ℕ
 generate_status (Ok Written) = 0
 generate_status (Ok Refused) = 3
 generate_status (Err NoMemory) = 4
 generate_status (Err WriteFault) = 6
 
 abbrev pub IsGenerateStatus : ℕ → Type 0
-IsGenerateStatus n = (result : Result Drawn Stop) × (n ≡ generate_status result)
+IsGenerateStatus n = (result : Result GenerateResult Stop) × (n ≡ generate_status result)
 
 -- the line of a generation is written, or a prefix of it, and the world is the one after it
 pub record IsGenerated (status : ℕ) (g : Generation) (world : PlainWorld) (p q : SinkState) : Type
     0 where
-  pub result : Result Drawn Stop
+  pub result : Result GenerateResult Stop
   pub is : status ≡ generate_status result
   pub end : RunState
   pub world_is : world ≡ end.world

@@ -6,11 +6,11 @@ use Rattle.pam_outside.specs.Streams.{SourceState, SinkState}
 use Rattle.pam_room.specs.Module.{notes_of}
 use Rattle.pam_room.specs.State.{PlainWorld}
 use Rattle.session_check.specs.pam_library.specs.Slots.{PlainSlot, handle_limit, lists_of, slot_at}
-use Rattle.item_stream.specs.LineTurns.{Ending}
-use Rattle.item_stream.specs.declared.ending.Ending.TheVariants.{Done, ReadFault, Refused}
-use Rattle.item_stream.specs.declared.ending.Stop.{Stop}
-use Rattle.item_stream.specs.declared.ending.Stop.TheVariants.{NoMemory, WriteFault}
-use Rattle.item_stream.specs.LineRun.{Run, run_of}
+use Rattle.record_reader.specs.LineTurns.{Ending}
+use Rattle.record_reader.specs.declared.ending.Ending.TheVariants.{Done, ReadFault, Refused}
+use Rattle.record_reader.specs.declared.ending.Stop.{Stop}
+use Rattle.record_reader.specs.declared.ending.Stop.TheVariants.{NoMemory, WriteFault}
+use Rattle.record_reader.specs.LineRun.{Run, run_of}
 use Rattle.data_cleanup.specs.Due.{Event}
 use Rattle.session_login.specs.session_run.specs.Events.{AreDue, run_events}
 use Rattle.session_login.specs.session_run.specs.Reading.{ReadsScript, refused_in}

@@ -3,8 +3,8 @@ use Rattle.std.specs.Prelude.{◌≡◌, ◌⊎◌, ℕ, ◌+◌, ◌≤◌, Lis
 use Rattle.pam_outside.specs.Counts.{Rose}
 use Rattle.pam_outside.specs.Files.{VaultState, counted}
 use Rattle.pam_outside.specs.Streams.{SinkState}
-use Rattle.item_stream.specs.declared.ending.Stop.{Stop}
-use Rattle.item_stream.specs.declared.ending.Stop.TheVariants.{NoMemory, WriteFault}
+use Rattle.record_reader.specs.declared.ending.Stop.{Stop}
+use Rattle.record_reader.specs.declared.ending.Stop.TheVariants.{NoMemory, WriteFault}
 use Rattle.session_check.specs.declared.finding.Checked.{Checked}
 use Rattle.session_check.specs.declared.finding.Checked.TheVariants.{Configured, Refused}
 use Rattle.session_check.specs.Check.{Check, Checks, Finds}

@@ -6,11 +6,11 @@ use Rattle.pam_outside.specs.Streams.{SourceState, SinkState}
 use Rattle.pam_room.specs.Module.{notes_of}
 use Rattle.pam_room.specs.State.{PlainWorld}
 use Rattle.session_check.specs.pam_library.specs.Slots.{handle_limit, lists_of}
-use Rattle.item_stream.specs.declared.ending.Ending.{Ending}
-use Rattle.item_stream.specs.declared.ending.Stop.{Stop}
-use Rattle.item_stream.specs.declared.ending.Stop.TheVariants.{NoMemory}
-use Rattle.item_stream.specs.Object.{Object}
-use Rattle.item_stream.specs.Turns.{has_read_fault, has_write_fault}
+use Rattle.record_reader.specs.declared.ending.Ending.{Ending}
+use Rattle.record_reader.specs.declared.ending.Stop.{Stop}
+use Rattle.record_reader.specs.declared.ending.Stop.TheVariants.{NoMemory}
+use Rattle.record_reader.specs.Object.{Object}
+use Rattle.record_reader.specs.Turns.{has_read_fault, has_write_fault}
 use Rattle.session_login.specs.session_run.specs.Reading.{WritesScript}
 use Rattle.session_login.specs.session_run.specs.Run.{RunComplete, RunEnd, RunRead, RunTold}
 use Rattle.session_login.specs.session_run.specs.State.{RunState, Setting}

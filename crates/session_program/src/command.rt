@@ -2,9 +2,9 @@ ghost use Rattle.std.specs.Prelude.{◌≡◌, false, IfNone, IfSome, string_byt
 ghost use Rattle.session_program.specs.Command.{audit_command, check_command, lines_command, generate_command, is_operand, is_target, is_service, is_user, login_command, number_operand, command_of, run_command, tally_command, wire_command};
 ghost use Rattle.session_program.specs.Asked.{IsTarget, asked};
 
-use crate::operand::{Draw, Target};
+use crate::operand::{GenerateArgs, Target};
 use pam_base::{is_service_name, number_in};
-use session_generate::drawn_files::MAX_DRAWN;
+use session_generate::random_config::MAX_RANDOM_LINES;
 use session_tally::mod_tally::is_no_file;
 
 /// What the arguments of the command line ask for.
@@ -19,7 +19,7 @@ pub enum Command<'a> {
     /// A login of this user.
     LoginAs(Target<'a>, &'a [u8]),
     /// Lines generated from a seed.
-    Generate(Draw),
+    Generate(GenerateArgs),
     /// The failures of a user, under this root.
     Tally(&'a [u8], &'a [u8]),
     /// Whether a transcript fits a service, under this root.
@@ -109,8 +109,8 @@ fn lines_command<'a>(seed: Option<u32>, lines: Option<u32>) -> Option<Command<'a
     ensures { asked result ≡ lines_command seed lines }
 {
     match (seed, lines) {
-        (Some(seed), Some(lines)) if 1 <= lines && lines <= MAX_DRAWN => {
-            Some(Command::Generate(Draw { seed, lines }))
+        (Some(seed), Some(lines)) if 1 <= lines && lines <= MAX_RANDOM_LINES => {
+            Some(Command::Generate(GenerateArgs { seed, lines }))
         }
         _ => None,
     }

@@ -6,27 +6,27 @@ ghost use Rattle.session_program.specs.Generate.{generate_status};
 
 use crate::desk::{Desk, DeskTold};
 use crate::opening::library_of;
-use crate::operand::Draw;
+use crate::operand::GenerateArgs;
 use crate::outside::{Outside, OutsideTold};
 use fail_delay::DelayRule;
-use item_stream::Stop;
 use pam_base::NoMemory;
 use pam_outside::Sink;
 use pam_room::World;
+use record_reader::Stop;
 use session_generate::{Generated, generate};
 use std::alloc::Global;
 
 /// Generates a service, and authenticates with it. Returns the exit status.
 pub(crate) fn generate_lines<K: Sink>(
     alloc: Global,
-    draw: Draw,
+    generate_args: GenerateArgs,
     out: &mut K,
     world: &mut World,
     desk: Desk,
 ) -> u8
     requires { IsReady (length desk.convs.items) (length desk.mods.items)
         (DelayRule.pre desk.delay) (DelayRule.post desk.delay) world.old.process.ledger }
-    ensures generate { GeneratesSo draw.seed draw.lines result
+    ensures generate { GeneratesSo generate_args.seed generate_args.lines result
         (⟦<Desk as DeskTold>⟧.given desk)
         (⟦<Outside as OutsideTold>⟧.around world.old world.new)
         (object_of K.sink_tells K.sink_holds K.sink_faults out.old out.new) }
@@ -41,7 +41,14 @@ pub(crate) fn generate_lines<K: Sink>(
         Err(NoMemory) => status_of_generate(Err(Stop::NoMemory)),
         Ok(library) => {
             let mut library = library;
-            let generated = generate(alloc, &mut library, draw.seed, draw.lines, out, world);
+            let generated = generate(
+                alloc,
+                &mut library,
+                generate_args.seed,
+                generate_args.lines,
+                out,
+                world,
+            );
             library.dismiss();
             status_of_generate(generated)
         }

@@ -10,10 +10,10 @@ use crate::desk::{Desk, DeskTold, with_terminal};
 use crate::opening::library_under;
 use crate::outside::{Outside, OutsideTold};
 use fail_delay::DelayRule;
-use item_stream::Stop;
 use pam_base::NoMemory;
 use pam_outside::Sink;
 use pam_room::World;
+use record_reader::Stop;
 use session_login::{Verdict, login};
 use std::alloc::Global;
 

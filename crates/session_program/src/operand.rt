@@ -1,9 +1,9 @@
 ghost use Rattle.std.specs.Prelude.{◌≤◌, IsTrue};
 ghost use Rattle.pam_base.specs.ServiceName.{is_service_name};
 
-/// A number of lines to generate from a seed: at most `session_generate::drawn_files::MAX_DRAWN`.
+/// A number of lines to generate from a seed: at most `session_generate::random_config::MAX_RANDOM_LINES`.
 #[derive(Clone, Copy)]
-pub struct Draw {
+pub struct GenerateArgs {
     pub seed: u32,
     pub lines: u32,
     ghost few: { lines ≤ 4096 },

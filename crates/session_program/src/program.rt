@@ -149,7 +149,13 @@ pub fn pamsess<S: Source, K: Sink>(
             world,
             desk,
         ),
-        Some(Command::Generate(draw)) => generate_lines(alloc, draw, out, world, desk),
+        Some(Command::Generate(generate_args)) => generate_lines(
+            alloc,
+            generate_args,
+            out,
+            world,
+            desk,
+        ),
         Some(Command::Tally(root, user)) => tally_user(alloc, root, user, out, world),
         Some(Command::Audit(root, service)) => {
             audit_service(alloc, root, service, script, out, world)

@@ -4,8 +4,8 @@ ghost use Rattle.session_program.specs.Run.{status_of};
 ghost use Rattle.session_program.specs.Status.{check_status, tally_status};
 ghost use Rattle.session_program.specs.Wire.{wire_status};
 
-use item_stream::{Ending, Stop};
 use pam_base::ScriptKind;
+use record_reader::{Ending, Stop};
 use session_check::Checked;
 use session_tally::Tallied;
 use session_wire::frame_stream::FrameFault;

@@ -6,10 +6,10 @@ use crate::desk::{Desk, DeskTold};
 use crate::opening::{library_under, reset_clock};
 use crate::outside::{Outside, OutsideTold};
 use fail_delay::DelayRule;
-use item_stream::{Ending, Stop};
 use pam_base::NoMemory;
 use pam_outside::{Sink, Source};
 use pam_room::World;
+use record_reader::{Ending, Stop};
 use session_login::session_run::{Protocol, run_stream};
 use std::alloc::Global;
 

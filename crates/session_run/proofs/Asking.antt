@@ -12,15 +12,15 @@ use Rattle.pam_base.specs.declared.fault.ScriptKind.TheVariants.{TooManyLines}
 use Rattle.pam_outside.specs.Streams.{SourceState}
 use Rattle.script_lang.specs.declared.line.Line.{Line}
 use Rattle.script_lang.specs.Line.{parsed}
-use Rattle.item_stream.specs.declared.ending.Stop.{Stop}
-use Rattle.item_stream.specs.declared.reader.NextItem.{NextItem}
-use Rattle.item_stream.specs.declared.reader.NextItem.TheVariants.{Rest}
-use Rattle.item_stream.specs.Cutting.{Keeps}
-use Rattle.item_stream.specs.Front.{IsItem}
-use Rattle.item_stream.specs.Run.{ItemStep, Looks, Refuses}
-use Rattle.item_stream.specs.Taking.{Finds}
-use Rattle.item_stream.specs.Looked.{looked as looked_lines}
-use Rattle.item_stream.specs.LineTurns.{Ending}
+use Rattle.record_reader.specs.declared.ending.Stop.{Stop}
+use Rattle.record_reader.specs.declared.reader.NextItem.{NextItem}
+use Rattle.record_reader.specs.declared.reader.NextItem.TheVariants.{Rest}
+use Rattle.record_reader.specs.Cutting.{Keeps}
+use Rattle.record_reader.specs.FirstItem.{IsItem}
+use Rattle.record_reader.specs.Run.{ItemStep, Looks, Refuses}
+use Rattle.record_reader.specs.Taking.{Finds}
+use Rattle.record_reader.specs.Looked.{looked as looked_lines}
+use Rattle.record_reader.specs.LineTurns.{Ending}
 use Rattle.session_run.specs.Asked.{AreAccepted, Asking, FirstAsks, HasEndAmong, IsEnd, IsEndAmong, LeadsOn}
 use Rattle.session_run.specs.Ends.{HasEnd, IsStatusOf, IsEndOfRun}
 use Rattle.session_run.specs.Endings.{ending_status, stop_status}

@@ -9,9 +9,9 @@ use Rattle.session_report.specs.pam_library.specs.Step.{stepped}
 use Rattle.script_lang.specs.declared.line.Line.{Line}
 use Rattle.script_lang.specs.declared.line.Line.TheVariants as lines
 use Rattle.script_lang.specs.Line.{parsed}
-use Rattle.item_stream.specs.Run.{after, run_items, run_of as run_of_items}
-use Rattle.item_stream.specs.LineRun.{Run, run_lines, run_of, step_at}
-use Rattle.item_stream.specs.Looked.{looked}
+use Rattle.record_reader.specs.Run.{after, run_items, run_of as run_of_items}
+use Rattle.record_reader.specs.LineRun.{Run, run_lines, run_of, step_at}
+use Rattle.record_reader.specs.Looked.{looked}
 use Rattle.session_report.specs.Step.{step_text}
 use Rattle.session_run.specs.State.{Setting, RunState}
 use Rattle.session_run.specs.Step.{applied_or_refused, line_step}

@@ -5,13 +5,13 @@ use Rattle.pam_base.specs.declared.fault.ScriptKind.{ScriptKind}
 use Rattle.pam_outside.specs.Counts.{RisesIf, Rose}
 use Rattle.pam_outside.specs.Streams.{SourceState, SinkState}
 use Rattle.session_report.specs.pam_library.specs.Slots.{lists_of}
-use Rattle.item_stream.specs.Looked.{looked}
-use Rattle.item_stream.specs.LineRun.{step_at}
-use Rattle.item_stream.specs.LineTurns.{Ending}
-use Rattle.item_stream.specs.declared.ending.Ending.TheVariants.{Done, ReadFault, Refused}
-use Rattle.item_stream.specs.declared.ending.Stop.{Stop}
-use Rattle.item_stream.specs.declared.ending.Stop.TheVariants.{NoMemory, WriteFault}
-use Rattle.item_stream.specs.Turns.{has_read_fault, has_write_fault}
+use Rattle.record_reader.specs.Looked.{looked}
+use Rattle.record_reader.specs.LineRun.{step_at}
+use Rattle.record_reader.specs.LineTurns.{Ending}
+use Rattle.record_reader.specs.declared.ending.Ending.TheVariants.{Done, ReadFault, Refused}
+use Rattle.record_reader.specs.declared.ending.Stop.{Stop}
+use Rattle.record_reader.specs.declared.ending.Stop.TheVariants.{NoMemory, WriteFault}
+use Rattle.record_reader.specs.Turns.{has_read_fault, has_write_fault}
 use Rattle.session_run.specs.Endings.{ending_status, stop_status}
 use Rattle.session_run.specs.Ends.{IsEndOfRun}
 use Rattle.session_run.specs.Reading.{ReadsAll, ReadsScript, line_read}

@@ -6,15 +6,15 @@ use Rattle.std.proofs.Math.Seq.{drop-append_seam}
 use Rattle.pam_base.specs.declared.fault.Failed.{Failed}
 use Rattle.pam_outside.specs.Streams.{SourceState, SinkState, WritesWhole}
 use Rattle.script_lang.specs.declared.line.Line.{Line}
-use Rattle.item_stream.specs.Looked.{looked}
-use Rattle.item_stream.specs.LineTurns.{Ending}
-use Rattle.item_stream.specs.declared.ending.Ending.TheVariants.{Done, ReadFault, Refused}
-use Rattle.item_stream.specs.declared.ending.Stop.{Stop}
-use Rattle.item_stream.specs.declared.ending.Stop.TheVariants.{NoMemory, WriteFault}
-use Rattle.item_stream.specs.declared.reader.NextItem.{NextItem}
-use Rattle.item_stream.specs.Run.{ItemStep, Looks, Refuses}
-use Rattle.item_stream.specs.Taking.{Finds}
-use Rattle.item_stream.specs.LineRun.{Run, step_at}
+use Rattle.record_reader.specs.Looked.{looked}
+use Rattle.record_reader.specs.LineTurns.{Ending}
+use Rattle.record_reader.specs.declared.ending.Ending.TheVariants.{Done, ReadFault, Refused}
+use Rattle.record_reader.specs.declared.ending.Stop.{Stop}
+use Rattle.record_reader.specs.declared.ending.Stop.TheVariants.{NoMemory, WriteFault}
+use Rattle.record_reader.specs.declared.reader.NextItem.{NextItem}
+use Rattle.record_reader.specs.Run.{ItemStep, Looks, Refuses}
+use Rattle.record_reader.specs.Taking.{Finds}
+use Rattle.record_reader.specs.LineRun.{Run, step_at}
 use Rattle.session_run.specs.Asked.{Asking}
 use Rattle.session_run.specs.Serve.{Does}
 use Rattle.session_run.specs.State.{RunState, Setting}

@@ -12,7 +12,7 @@ use Rattle.session_report.specs.pam_library.specs.Calls.{Moved, births_added, ev
 use Rattle.session_report.specs.pam_library.specs.Slots.{lists_of}
 use Rattle.session_run.specs.AnyWorld.{AllEndsAre, ProceedsBy}
 use Rattle.session_run.specs.Ends.{EndsAre, IsStatusOf}
-use Rattle.item_stream.specs.Looked.{looked}
+use Rattle.record_reader.specs.Looked.{looked}
 use Rattle.session_run.specs.Asked.{FirstAsks}
 use Rattle.session_run.specs.Script.{line_asked, script_step}
 use Rattle.session_run.specs.Events.{Broken, IsAskedBy, IsLaterEnd, StandOn, StandsBehind, StandsCut, line_events}

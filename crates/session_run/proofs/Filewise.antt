@@ -15,8 +15,8 @@ use Rattle.session_report.specs.pam_library.specs.Step.{stepped}
 use Rattle.script_lang.specs.declared.line.Line.{Line}
 use Rattle.script_lang.specs.declared.line.Line.TheVariants as lines
 use Rattle.script_lang.specs.Line.{parsed}
-use Rattle.item_stream.specs.Run.{after, run_items}
-use Rattle.item_stream.specs.LineRun.{run_lines, step_at}
+use Rattle.record_reader.specs.Run.{after, run_items}
+use Rattle.record_reader.specs.LineRun.{run_lines, step_at}
 use Rattle.session_run.specs.Closings.{all_closed, closings_behind, last_state, world_behind}
 use Rattle.session_run.specs.SideBySide.{step_of, steps_behind, steps_in}
 use Rattle.session_run.specs.State.{RunState, Setting, state_of}

@@ -15,10 +15,10 @@ use Rattle.session_report.specs.pam_room.specs.State.{PlainWorld}
 use Rattle.session_report.specs.pam_library.specs.Calls.{MoveOn, Moved, events_of, last_ledger, last_lists}
 use Rattle.session_report.specs.pam_library.specs.Slots.{PlainSlot, closed, data_in, lists_of, opened}
 use Rattle.pam_outside.specs.Streams.{SinkState}
-use Rattle.item_stream.specs.Run.{come_to, run_items}
-use Rattle.item_stream.specs.LineRun.{run_lines}
+use Rattle.record_reader.specs.Run.{come_to, run_items}
+use Rattle.record_reader.specs.LineRun.{run_lines}
 use Rattle.session_run.specs.State.{Setting, RunState, state_of}
-use Rattle.item_stream.specs.Looked.{looked}
+use Rattle.record_reader.specs.Looked.{looked}
 use Rattle.session_run.specs.Script.{line_asked, script_step}
 use Rattle.session_run.specs.Step.{line_step}
 use Rattle.session_run.specs.Closings.{all_closed, closings_behind, last_state, world_behind}

@@ -25,8 +25,8 @@ use Rattle.script_lang.specs.Command.{word_of_call}
 use Rattle.script_lang.specs.declared.line.Line.{Line}
 use Rattle.script_lang.specs.declared.line.Line.TheVariants as lines
 use Rattle.script_lang.specs.Line.{parsed}
-use Rattle.item_stream.specs.Run.{after, run_items, with_text}
-use Rattle.item_stream.specs.LineRun.{Run, run_lines, step_at}
+use Rattle.record_reader.specs.Run.{after, run_items, with_text}
+use Rattle.record_reader.specs.LineRun.{Run, run_lines, step_at}
 use Rattle.session_report.specs.Answered.{answer_text}
 use Rattle.session_report.specs.Cleaned.{receipt_text}
 use Rattle.session_report.specs.Missing.{all_missing_text}

@@ -24,7 +24,7 @@ use Rattle.session_run.specs.Closings.{all_closed, closings, closings_behind, cl
 use Rattle.session_run.specs.Isolation.{MadeStep, GoesAsAlone, IsQuietStart, LeaveFiles, all_closing_texts, alone, steps_among, closed_text_with, closing_text_with, closing_without_ids, filed_text_with, receipt_text_with, state_behind, world_after_places, world_left}
 use Rattle.session_run.specs.State.{RunState, Setting, state_of}
 use Rattle.session_run.specs.Step.{line_step}
-use Rattle.item_stream.specs.LineRun.{run_lines}
+use Rattle.record_reader.specs.LineRun.{run_lines}
 use Rattle.session_run.proofs.Departing.{at_front, closed_alike, end_step, ends_alike, ends_from, ends_next, left_behind, one_longer}
 use Rattle.session_run.proofs.Isolating.{Alike, GoAlike, OtherCalls, OwnCalls, cleaned_text, cleanups_seen, from_start, outcomes_seen, report_seen}
 

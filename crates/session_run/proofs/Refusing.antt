@@ -4,9 +4,9 @@ use Rattle.pam_base.specs.declared.fault.ScriptKind.{ScriptKind}
 use Rattle.pam_base.specs.declared.fault.ScriptKind.TheVariants.{LineTooLong, TooManyLines}
 use Rattle.script_lang.specs.declared.line.Line.{Line}
 use Rattle.script_lang.specs.Line.{parsed}
-use Rattle.item_stream.specs.Run.{after, run_items, run_of as run_looked}
-use Rattle.item_stream.specs.Looked.{looked}
-use Rattle.item_stream.specs.LineRun.{Run, run_of, step_at}
+use Rattle.record_reader.specs.Run.{after, run_items, run_of as run_looked}
+use Rattle.record_reader.specs.Looked.{looked}
+use Rattle.record_reader.specs.LineRun.{Run, run_of, step_at}
 use Rattle.session_run.specs.Reading.{line_read, read_as}
 use Rattle.session_run.specs.State.{Setting, RunState}
 use Rattle.session_run.specs.Step.{applied, applied_or_refused, line_step}

@@ -4,8 +4,8 @@ use Rattle.pam_base.specs.declared.code.Code.{Code}
 use Rattle.pam_outside.specs.Streams.{SinkState}
 use Rattle.session_report.specs.pam_room.specs.Module.{Player}
 use Rattle.session_report.specs.pam_library.specs.Slots.{NoneIsOpen}
-use Rattle.item_stream.specs.declared.ending.Stop.{Stop}
-use Rattle.item_stream.specs.declared.ending.Stop.TheVariants.{NoMemory, WriteFault}
+use Rattle.record_reader.specs.declared.ending.Stop.{Stop}
+use Rattle.record_reader.specs.declared.ending.Stop.TheVariants.{NoMemory, WriteFault}
 use Rattle.session_report.specs.dispatch_core.specs.Lines.{names_of}
 use Rattle.session_report.specs.Closing.{closing_text}
 use Rattle.session_run.specs.State.{RunState}

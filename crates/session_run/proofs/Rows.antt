@@ -21,10 +21,10 @@ use Rattle.session_report.specs.service_load.specs.Order.{items}
 use Rattle.session_report.specs.service_load.specs.Tree.{nodes}
 use Rattle.session_report.specs.pam_library.specs.Slots.{PlainSlot, closed}
 use Rattle.session_report.specs.pam_library.specs.Step.{stepped}
-use Rattle.item_stream.specs.declared.ending.Ending.TheVariants.{ReadFault, Refused}
-use Rattle.item_stream.specs.Looked.{last_looked, looked}
-use Rattle.item_stream.specs.Run.{come_to, run_items, run_of as run_of_items}
-use Rattle.item_stream.specs.LineRun.{step_at, run_of}
+use Rattle.record_reader.specs.declared.ending.Ending.TheVariants.{ReadFault, Refused}
+use Rattle.record_reader.specs.Looked.{last_looked, looked}
+use Rattle.record_reader.specs.Run.{come_to, run_items, run_of as run_of_items}
+use Rattle.record_reader.specs.LineRun.{step_at, run_of}
 use Rattle.session_run.specs.State.{Setting, RunState, state_of}
 use Rattle.session_run.specs.Ends.{HasEnd, IsEndOfRun}
 use Rattle.session_run.specs.Isolation.{LeaveFiles, alone, texts_among}

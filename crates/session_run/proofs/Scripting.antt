@@ -6,7 +6,7 @@ use Rattle.pam_base.specs.declared.fault.ScriptKind.TheVariants.{LineTooLong, To
 use Rattle.script_lang.specs.declared.line.Line.{Line}
 use Rattle.script_lang.specs.declared.line.Line.TheVariants as lines
 use Rattle.script_lang.specs.Line.{parsed}
-use Rattle.item_stream.specs.LineRun.{step_at}
+use Rattle.record_reader.specs.LineRun.{step_at}
 use Rattle.session_run.specs.Reading.{line_read, read_as}
 use Rattle.session_run.specs.Script.{as_it_is, line_asked, script_step}
 use Rattle.session_run.specs.Serve.{Does, served_line}

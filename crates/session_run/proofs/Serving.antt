@@ -18,11 +18,11 @@ use Rattle.script_lang.specs.declared.line.Line.{Line}
 use Rattle.script_lang.specs.declared.line.Line.TheVariants as lines
 use Rattle.script_lang.specs.Line.{without_return, parsed}
 use Rattle.pam_outside.specs.Streams.{SinkState}
-use Rattle.item_stream.specs.declared.ending.Stop.{Stop}
-use Rattle.item_stream.specs.declared.ending.Stop.TheVariants.{NoMemory, WriteFault}
-use Rattle.item_stream.specs.Laws.{BegunIsServed, WrittenIsServed}
-use Rattle.item_stream.specs.Run.{ItemStep}
-use Rattle.item_stream.specs.Turns.{IsBegun, ServesItem}
+use Rattle.record_reader.specs.declared.ending.Stop.{Stop}
+use Rattle.record_reader.specs.declared.ending.Stop.TheVariants.{NoMemory, WriteFault}
+use Rattle.record_reader.specs.Laws.{BegunIsServed, WrittenIsServed}
+use Rattle.record_reader.specs.Run.{ItemStep}
+use Rattle.record_reader.specs.Turns.{IsBegun, ServesItem}
 use Rattle.session_report.specs.Step.{step_text}
 use Rattle.session_run.specs.Asked.{Asking}
 use Rattle.session_run.specs.Report.{WritesReport}

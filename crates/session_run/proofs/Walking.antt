@@ -3,8 +3,8 @@ use Rattle.std.proofs.Common.{◌≡◌, ℕ, ◌+◌, true, List, [], ◌∷◌
 use Rattle.pam_outside.specs.Streams.{SinkState}
 use Rattle.session_report.specs.pam_room.specs.Module.{notes_of}
 use Rattle.session_report.specs.pam_library.specs.Slots.{lists_of}
-use Rattle.item_stream.specs.Run.{ItemStep, Looks}
-use Rattle.item_stream.specs.Turns.{ServesItem}
+use Rattle.record_reader.specs.Run.{ItemStep, Looks}
+use Rattle.record_reader.specs.Turns.{ServesItem}
 use Rattle.session_run.specs.Asked.{Asking, FirstAsks}
 use Rattle.session_run.specs.State.{Setting, RunState}
 use Rattle.session_run.specs.Events.{Broken, LeadOn, MovesBy, Served}

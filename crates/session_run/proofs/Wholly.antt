@@ -4,10 +4,10 @@ use Rattle.std.proofs.Math.Seq.{take-append_seam}
 use Rattle.pam_base.specs.Lines.{lines_of}
 use Rattle.pam_outside.specs.Streams.{SourceState, SinkState}
 use Rattle.session_report.specs.pam_room.specs.Module.{Player, notes_of}
-use Rattle.item_stream.specs.LineTurns.{Ending, Runs}
-use Rattle.item_stream.specs.declared.ending.Stop.{Stop}
-use Rattle.item_stream.specs.Turns.{begun_items}
-use Rattle.item_stream.specs.Looked.{looked}
+use Rattle.record_reader.specs.LineTurns.{Ending, Runs}
+use Rattle.record_reader.specs.declared.ending.Stop.{Stop}
+use Rattle.record_reader.specs.Turns.{begun_items}
+use Rattle.record_reader.specs.Looked.{looked}
 use Rattle.session_run.specs.State.{Setting, RunState}
 use Rattle.session_run.specs.Step.{line_step, Fails}
 use Rattle.session_run.specs.Events.{StandOn, StandsBehind, StandsCut, run_events}

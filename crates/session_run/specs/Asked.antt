@@ -3,7 +3,7 @@ use Rattle.std.specs.Prelude.{◌≡◌, ℕ, ◌+◌, ◌<◌, All, Bool, true,
 use Rattle.pam_base.specs.declared.call.AppCall.TheVariants.{End}
 use Rattle.script_lang.specs.declared.line.Line.{Line}
 use Rattle.script_lang.specs.declared.line.Line.TheVariants.{Step}
-use Rattle.item_stream.specs.Run.{Looks}
+use Rattle.record_reader.specs.Run.{Looks}
 
 -- what an item asks for that follows n others, as a line of a script says it, or why it is refused
 abbrev pub Asking : Type 0 → Type 0

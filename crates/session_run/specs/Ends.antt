@@ -8,8 +8,8 @@ use Rattle.pam_base.specs.declared.call.Step.{Step as Asked}
 use Rattle.data_cleanup.specs.Due.{Event, birth, ends}
 use Rattle.script_lang.specs.declared.line.Line.TheVariants.{Step}
 use Rattle.script_lang.specs.Line.{parsed}
-use Rattle.item_stream.specs.LineTurns.{Ending}
-use Rattle.item_stream.specs.declared.ending.Stop.{Stop}
+use Rattle.record_reader.specs.LineTurns.{Ending}
+use Rattle.record_reader.specs.declared.ending.Stop.{Stop}
 use Rattle.session_run.specs.Endings.{ending_status, stop_status}
 
 -- ---- by a line of the script

@@ -17,12 +17,12 @@ use Rattle.session_report.specs.pam_library.specs.Slots.{PlainSlot, closed, hand
 use Rattle.script_lang.specs.declared.line.Line.{Line}
 use Rattle.script_lang.specs.declared.line.Line.TheVariants as lines
 use Rattle.script_lang.specs.Line.{parsed}
-use Rattle.item_stream.specs.declared.ending.Ending.{Ending}
-use Rattle.item_stream.specs.declared.ending.Stop.{Stop}
-use Rattle.item_stream.specs.Run.{ItemStep, Looks, come_to}
-use Rattle.item_stream.specs.Turns.{Turns}
-use Rattle.item_stream.specs.Whole.{Runs}
-use Rattle.item_stream.specs.LineRun.{run_lines, step_at}
+use Rattle.record_reader.specs.declared.ending.Ending.{Ending}
+use Rattle.record_reader.specs.declared.ending.Stop.{Stop}
+use Rattle.record_reader.specs.Run.{ItemStep, Looks, come_to}
+use Rattle.record_reader.specs.Turns.{Turns}
+use Rattle.record_reader.specs.Whole.{Runs}
+use Rattle.record_reader.specs.LineRun.{run_lines, step_at}
 use Rattle.pam_outside.specs.Streams.{SinkState, SourceState}
 use Rattle.session_run.specs.AnyWorld.{ProceedsBy}
 use Rattle.session_run.specs.Asked.{Asking, FirstAsks}

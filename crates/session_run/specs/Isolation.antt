@@ -23,7 +23,7 @@ use Rattle.script_lang.specs.Command.{word_of_call}
 use Rattle.script_lang.specs.declared.line.Line.{Line}
 use Rattle.script_lang.specs.declared.line.Line.TheVariants as lines
 use Rattle.script_lang.specs.Line.{parsed}
-use Rattle.item_stream.specs.LineRun.{run_lines, step_at}
+use Rattle.record_reader.specs.LineRun.{run_lines, step_at}
 use Rattle.session_report.specs.Answered.{answer_text}
 use Rattle.session_report.specs.report_lines.specs.Line.{code_words, number_words, status_words, words_text}
 use Rattle.session_report.specs.Missing.{all_missing_text}

@@ -2,7 +2,7 @@ pub use Rattle.session_report.specs.conf_lex
 pub use Rattle.session_report.specs.conv_port
 pub use Rattle.data_cleanup
 pub use Rattle.session_report.specs.dispatch_core
-pub use Rattle.item_stream
+pub use Rattle.record_reader
 pub use Rattle.session_report.specs.pam_handle
 pub use Rattle.session_report.specs.pam_library
 pub use Rattle.session_report.specs.pam_room

@@ -5,15 +5,15 @@ use Rattle.pam_base.specs.declared.fault.ScriptKind.{ScriptKind}
 use Rattle.pam_outside.specs.Streams.{SourceState, SinkState}
 use Rattle.script_lang.specs.declared.line.Line.{Line}
 use Rattle.script_lang.specs.Line.{parsed}
-use Rattle.item_stream.specs.declared.ending.Ending.{Ending as StreamEnding}
-use Rattle.item_stream.specs.declared.ending.Ending.TheVariants.{Done, ReadFault, Refused}
-use Rattle.item_stream.specs.declared.ending.Stop.{Stop}
-use Rattle.item_stream.specs.Laws.{EndIsTurn, FaultIsTurn, ItemIsTurn, NoTurnYet, RestIsTurn, StopsAtOnce, TurnsAreRun, TurnsGoOn}
-use Rattle.item_stream.specs.Run.{ItemStep, Looks, Refuses}
-use Rattle.item_stream.specs.Turns.{ServesItem, Turns}
-use Rattle.item_stream.specs.Whole.{Runs}
-use Rattle.item_stream.specs.LineRun.{LineStep, run_of}
-use Rattle.item_stream.specs.LineTurns.{Ending}
+use Rattle.record_reader.specs.declared.ending.Ending.{Ending as StreamEnding}
+use Rattle.record_reader.specs.declared.ending.Ending.TheVariants.{Done, ReadFault, Refused}
+use Rattle.record_reader.specs.declared.ending.Stop.{Stop}
+use Rattle.record_reader.specs.Laws.{EndIsTurn, FaultIsTurn, ItemIsTurn, NoTurnYet, RestIsTurn, StopsAtOnce, TurnsAreRun, TurnsGoOn}
+use Rattle.record_reader.specs.Run.{ItemStep, Looks, Refuses}
+use Rattle.record_reader.specs.Turns.{ServesItem, Turns}
+use Rattle.record_reader.specs.Whole.{Runs}
+use Rattle.record_reader.specs.LineRun.{LineStep, run_of}
+use Rattle.record_reader.specs.LineTurns.{Ending}
 use Rattle.session_run.specs.State.{RunState, Setting}
 use Rattle.session_run.specs.Step.{line_step}
 

@@ -2,8 +2,8 @@
 use Rattle.std.specs.Prelude.{◌≡◌, ℕ, List, Result, Ok, Err}
 use Rattle.pam_base.specs.declared.fault.Failed.{Failed}
 use Rattle.pam_outside.specs.Streams.{SinkState, WritesWhole}
-use Rattle.item_stream.specs.declared.ending.Stop.{Stop}
-use Rattle.item_stream.specs.declared.ending.Stop.TheVariants.{NoMemory, WriteFault}
+use Rattle.record_reader.specs.declared.ending.Stop.{Stop}
+use Rattle.record_reader.specs.declared.ending.Stop.TheVariants.{NoMemory, WriteFault}
 
 -- All of its bytes are written; or those before a write that failed; or none, if an allocation failed.
 abbrev pub WritesReport : Result (Unit {0}) Stop → List ℕ → SinkState → SinkState → Type 0

@@ -3,8 +3,8 @@ use Rattle.std.specs.Prelude.{◌≡◌, ℕ, ◌+◌, ◌≤◌, Bool, true, fa
 use Rattle.pam_base.specs.declared.code.Code.{Code}
 use Rattle.pam_outside.specs.Streams.{SinkState}
 use Rattle.session_report.specs.pam_room.specs.Module.{Player}
-use Rattle.item_stream.specs.declared.ending.Stop.{Stop}
-use Rattle.item_stream.specs.declared.ending.Stop.TheVariants.{NoMemory, WriteFault}
+use Rattle.record_reader.specs.declared.ending.Stop.{Stop}
+use Rattle.record_reader.specs.declared.ending.Stop.TheVariants.{NoMemory, WriteFault}
 use Rattle.session_run.specs.State.{RunState}
 use Rattle.session_run.specs.Closings.{Closing, closings, closings_text, last_state}
 

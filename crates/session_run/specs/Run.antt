@@ -7,12 +7,12 @@ use Rattle.pam_outside.specs.Counts.{RisesIf, Rose}
 use Rattle.pam_outside.specs.Streams.{SourceState, SinkState}
 use Rattle.session_report.specs.pam_room.specs.Module.{Player, notes_of}
 use Rattle.session_report.specs.pam_library.specs.Slots.{NoneIsOpen, lists_of}
-use Rattle.item_stream.specs.declared.ending.Ending.{Ending}
-use Rattle.item_stream.specs.declared.ending.Stop.{Stop}
-use Rattle.item_stream.specs.Object.{Object}
-use Rattle.item_stream.specs.Run.{ItemStep, Looks}
-use Rattle.item_stream.specs.Turns.{has_read_fault, has_write_fault}
-use Rattle.item_stream.specs.Whole.{at_last}
+use Rattle.record_reader.specs.declared.ending.Ending.{Ending}
+use Rattle.record_reader.specs.declared.ending.Stop.{Stop}
+use Rattle.record_reader.specs.Object.{Object}
+use Rattle.record_reader.specs.Run.{ItemStep, Looks}
+use Rattle.record_reader.specs.Turns.{has_read_fault, has_write_fault}
+use Rattle.record_reader.specs.Whole.{at_last}
 use Rattle.session_run.specs.AnyWorld.{ProceedsBy}
 use Rattle.session_run.specs.Asked.{Asking, IsEndAmong}
 use Rattle.session_run.specs.Closings.{Closing, all_closed, closings_text, last_state}

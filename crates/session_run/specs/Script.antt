@@ -4,8 +4,8 @@ use Rattle.pam_base.specs.declared.fault.ScriptKind.{ScriptKind}
 use Rattle.pam_base.specs.declared.fault.ScriptKind.TheVariants.{TooManyLines}
 use Rattle.script_lang.specs.declared.line.Line.{Line}
 use Rattle.script_lang.specs.Line.{parsed}
-use Rattle.item_stream.specs.Run.{ItemStep}
-use Rattle.item_stream.specs.LineRun.{step_at}
+use Rattle.record_reader.specs.Run.{ItemStep}
+use Rattle.record_reader.specs.LineRun.{step_at}
 use Rattle.session_run.specs.State.{RunState, Setting}
 use Rattle.session_run.specs.Step.{line_step}
 

@@ -4,7 +4,7 @@ use Rattle.std.specs.Prelude.{◌≡◌, ℕ, List, [], Result, Ok, Err}
 use Rattle.pam_base.specs.declared.call.Step.{Step}
 use Rattle.script_lang.specs.declared.line.Line.{Line}
 use Rattle.script_lang.specs.declared.line.Line.TheVariants as lines
-use Rattle.item_stream.specs.Run.{ItemStep}
+use Rattle.record_reader.specs.Run.{ItemStep}
 use Rattle.session_run.specs.Asked.{Asking}
 use Rattle.session_run.specs.Reading.{read_as}
 use Rattle.session_run.specs.State.{Setting, RunState}

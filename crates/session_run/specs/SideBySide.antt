@@ -8,8 +8,8 @@ use Rattle.session_report.specs.pam_library.specs.Step.{stepped}
 use Rattle.script_lang.specs.declared.line.Line.{Line}
 use Rattle.script_lang.specs.declared.line.Line.TheVariants as lines
 use Rattle.script_lang.specs.Line.{parsed}
-use Rattle.item_stream.specs.Looked.{looked}
-use Rattle.item_stream.specs.LineRun.{run_of, step_at}
+use Rattle.record_reader.specs.Looked.{looked}
+use Rattle.record_reader.specs.LineRun.{run_of, step_at}
 use Rattle.session_report.specs.Step.{step_text}
 use Rattle.session_run.specs.State.{Setting, RunState}
 use Rattle.session_run.specs.Step.{line_step}

@@ -11,7 +11,7 @@ use Rattle.session_report.specs.pam_library.specs.Step.{Stepped, stepped}
 use Rattle.script_lang.specs.declared.line.Line.{Line}
 use Rattle.script_lang.specs.declared.line.Line.TheVariants as lines
 use Rattle.script_lang.specs.Line.{parsed}
-use Rattle.item_stream.specs.LineRun.{LineStep}
+use Rattle.record_reader.specs.LineRun.{LineStep}
 use Rattle.session_report.specs.Step.{step_text}
 use Rattle.session_run.specs.State.{Setting, RunState, state_of}
 

@@ -7,7 +7,7 @@ use Rattle.session_report.specs.pam_library.specs.Step.{stepped}
 use Rattle.pam_base.specs.declared.code.Code.{Code}
 use Rattle.pam_outside.specs.Time.{time_of}
 use Rattle.session_report.specs.pam_room.specs.Module.{Player}
-use Rattle.item_stream.specs.LineRun.{run_lines}
+use Rattle.record_reader.specs.LineRun.{run_lines}
 use Rattle.session_run.specs.Closings.{all_closed}
 use Rattle.session_run.specs.SideBySide.{steps_in}
 use Rattle.session_run.specs.State.{RunState, Setting}

@@ -3,10 +3,10 @@ use Rattle.std.specs.Prelude.{◌≡◌, ◌⊎◌, ℕ, ◌+◌, ◌≤◌, Lis
 use Rattle.pam_base.specs.Lines.{lines_of}
 use Rattle.pam_outside.specs.Streams.{SourceState, SinkState}
 use Rattle.session_report.specs.pam_room.specs.Module.{Player, notes_of}
-use Rattle.item_stream.specs.LineTurns.{Ending, StopsBy, LastRead, Reports}
-use Rattle.item_stream.specs.declared.ending.Ending.TheVariants.{Done, ReadFault, Refused}
-use Rattle.item_stream.specs.declared.ending.Stop.{Stop}
-use Rattle.item_stream.specs.declared.ending.Stop.TheVariants.{NoMemory}
+use Rattle.record_reader.specs.LineTurns.{Ending, StopsBy, LastRead, Reports}
+use Rattle.record_reader.specs.declared.ending.Ending.TheVariants.{Done, ReadFault, Refused}
+use Rattle.record_reader.specs.declared.ending.Stop.{Stop}
+use Rattle.record_reader.specs.declared.ending.Stop.TheVariants.{NoMemory}
 use Rattle.session_report.specs.report_lines.specs.Line.{script_text}
 use Rattle.session_report.specs.Script.{read_fault_text}
 pub use Rattle.session_run.specs.Endings.{ending_status, stop_status}

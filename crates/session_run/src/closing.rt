@@ -1,16 +1,16 @@
 ghost use Rattle.std.specs.Prelude.{◌≡◌, ◌<◌, ◌≤◌, true, false, Ok, IsTrue, OnOk, IfSome, IfNone, length};
 ghost use Rattle.pam_outside.specs.Counts.{RisesIf};
 ghost use Rattle.session_run.specs.Ends.{IsStatusOf};
-ghost use Rattle.item_stream.specs.Turns.{has_write_fault};
+ghost use Rattle.record_reader.specs.Turns.{has_write_fault};
 ghost use Rattle.session_run.specs.Seen.{IsSoundIn, NoneIsOpenIn, Went, state};
 ghost use Rattle.session_run.specs.Closings.{EndsNext, all_closed, open_count};
 ghost use Rattle.session_run.specs.Reported.{Closes, ClosesNext};
 
 use crate::protocol::Protocol;
 use crate::report::write_report;
-use item_stream::Stop;
 use pam_base::{Code, NoMemory, code_number};
 use pam_outside::Sink;
+use record_reader::Stop;
 use session_report::closing_report;
 use session_report::pam_library::{Library, Session, Told};
 use session_report::pam_room::World;

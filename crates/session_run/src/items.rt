@@ -1,9 +1,9 @@
 ghost use Rattle.std.specs.Prelude.{◌≡◌, ◌≤◌, ◌<◌, ◌+◌, ◌++◌, ℕ, None, Ok, IsTrue, All, is_err};
 ghost use Rattle.pam_base.specs.declared.code.Code.{Code};
 ghost use Rattle.pam_outside.specs.Counts.{RisesIf};
-ghost use Rattle.item_stream.specs.Object.{object_of};
-ghost use Rattle.item_stream.specs.Taking.{Finds, IsFound};
-ghost use Rattle.item_stream.specs.Turns.{has_read_fault, has_write_fault};
+ghost use Rattle.record_reader.specs.Object.{object_of};
+ghost use Rattle.record_reader.specs.Taking.{Finds, IsFound};
+ghost use Rattle.record_reader.specs.Turns.{has_read_fault, has_write_fault};
 ghost use Rattle.session_run.specs.Asked.{IsEndAmong, LeadsOn};
 ghost use Rattle.session_run.specs.Events.{TellsTurn};
 ghost use Rattle.session_run.specs.Reading.{ReadsTurn, WritesSome};
@@ -13,9 +13,9 @@ ghost use Rattle.session_run.specs.Seen.{AllTell, IsSoundIn, Went, setting_in, s
 use crate::protocol::{Items, Protocol};
 use crate::reading::reading_is_turns;
 use crate::serve::serve;
-use item_stream::{Ending, NextItem, Reader, Stop, laws};
 use pam_base::{Failed, NoMemory};
 use pam_outside::{Sink, Source};
+use record_reader::{Ending, NextItem, Reader, Stop, laws};
 use session_report::pam_library::{Library, Session, Told};
 use session_report::pam_room::World;
 use std::alloc::Global;

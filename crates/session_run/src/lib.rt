@@ -19,8 +19,8 @@ mod world;
 
 pub use closing::end_next;
 pub use data_cleanup;
-pub use item_stream;
 pub use protocol::Protocol;
+pub use record_reader;
 pub use run::run_stream;
 pub use script::Script;
 pub use script_lang;

@@ -1,7 +1,7 @@
 ghost use Rattle.std.specs.Prelude.{◌≡◌, ◌≤◌, ◌<◌, ℕ, Bool, List, Option, Result, IfOk, IsTrue, OnErr, is_some, string_bytes};
-ghost use Rattle.item_stream.specs.declared.ending.Ending.{Ending as PlainEnding};
-ghost use Rattle.item_stream.specs.Cutting.{Cuts, Keeps};
-ghost use Rattle.item_stream.specs.Front.{IsFront};
+ghost use Rattle.record_reader.specs.declared.ending.Ending.{Ending as PlainEnding};
+ghost use Rattle.record_reader.specs.Cutting.{Cuts, Keeps};
+ghost use Rattle.record_reader.specs.FirstItem.{IsFirstItem};
 ghost use Rattle.script_lang.specs.declared.line.Line.{Line as PlainLine};
 ghost use Rattle.script_lang.specs.Fit.{IsFit};
 ghost use Rattle.session_run.specs.Read.{ReadsAs};
@@ -9,8 +9,8 @@ ghost use Rattle.session_run.specs.Run.{CompletesSo, EndsSo, ReadsSo, RunComplet
 ghost use Rattle.session_run.specs.Serve.{Does};
 ghost use Rattle.session_run.specs.State.{RunState, Setting};
 
-use item_stream::{Ending, Front, Stepping};
 use pam_base::{NoMemory, Refuse, Text};
+use record_reader::{Ending, FirstItem, Stepping};
 use script_lang::Line;
 use std::alloc::Global;
 use std::marker::PhantomData;
@@ -58,8 +58,8 @@ pub trait Protocol {
     ghost is_end: { RunEnd };
 
     /// What bytes begin with after `before` items. It waits for at most 581 bytes.
-    fn front(before: u32, held: &[u8]) -> Front
-        ensures { IsFront looked refuses result before held.now };
+    fn first_item(before: u32, held: &[u8]) -> FirstItem
+        ensures { IsFirstItem looked refuses result before held.now };
 
     /// A law: bytes that wait for more are an item if the input ends there.
     fn cuts()
@@ -124,8 +124,8 @@ impl<P: Protocol> Stepping for Items<P> {
 
     ghost fails = { P.fails };
 
-    fn front(before: u32, held: &[u8]) -> Front {
-        P::front(before, held)
+    fn first_item(before: u32, held: &[u8]) -> FirstItem {
+        P::first_item(before, held)
     }
 
     fn cuts() {
@@ -159,8 +159,8 @@ impl<P: Protocol> Stepping for Reading<P> {
 
     ghost fails = { λ _. AnyState };
 
-    fn front(before: u32, held: &[u8]) -> Front {
-        P::front(before, held)
+    fn first_item(before: u32, held: &[u8]) -> FirstItem {
+        P::first_item(before, held)
     }
 
     fn cuts() {

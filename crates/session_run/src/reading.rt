@@ -1,7 +1,7 @@
 ghost use Rattle.session_run.specs.Reading.{ReadingIsTurns};
 
 use crate::protocol::{Protocol, Reading};
-use item_stream::laws;
+use record_reader::laws;
 
 /// The laws on turns, for a stream of which only the source is modelled.
 pub(crate) fn reading_is_turns<P: Protocol>()

@@ -1,12 +1,12 @@
 ghost use Rattle.std.specs.Prelude.{◌≡◌, IsTrue, string_bytes};
 ghost use Rattle.pam_outside.specs.Counts.{RisesIf};
-ghost use Rattle.item_stream.specs.Turns.{has_write_fault};
+ghost use Rattle.record_reader.specs.Turns.{has_write_fault};
 ghost use Rattle.session_run.specs.Report.{WritesReport};
 
 use crate::protocol::Protocol;
-use item_stream::Stop;
 use pam_base::{Failed, NoMemory};
 use pam_outside::{Sink, write_all};
+use record_reader::Stop;
 use std::alloc::Global;
 
 /// Writes a report, in the form that its protocol has for it.

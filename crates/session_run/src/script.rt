@@ -1,8 +1,8 @@
 ghost use Rattle.std.specs.Prelude.{◌≡◌, ◌≤◌, IfOk, IsTrue, OnErr, is_some};
 
 use crate::protocol::Protocol;
-use item_stream::{Ending, Front, LineStepping, Lines, MAX_LINES, Stepping, front_of_lines};
 use pam_base::{NoMemory, Refuse, ScriptKind, Text};
+use record_reader::{Ending, FirstItem, LineStepping, Lines, MAX_LINES, Stepping, first_line};
 use script_lang::{Line, parse};
 use session_report::{read_fault_report, script_report};
 use std::alloc::Global;
@@ -42,8 +42,8 @@ impl LineStepping for Refusing {
 }
 
 impl Protocol for Script {
-    ghost use Rattle.item_stream.specs.Looked.{IsOver, looked};
-    ghost use Rattle.item_stream.specs.LineRun.{step_at};
+    ghost use Rattle.record_reader.specs.Looked.{IsOver, looked};
+    ghost use Rattle.record_reader.specs.LineRun.{step_at};
     ghost use Rattle.session_run.specs.Ends.{IsEndOfRun};
     ghost use Rattle.session_run.specs.Reading.{ReadsScript, line_read};
     ghost use Rattle.session_run.specs.Script.{as_it_is, line_asked, script_step};
@@ -76,8 +76,8 @@ impl Protocol for Script {
 
     ghost is_end = { IsEndOfRun };
 
-    fn front(before: u32, held: &[u8]) -> Front {
-        front_of_lines(before, held)
+    fn first_item(before: u32, held: &[u8]) -> FirstItem {
+        first_line(before, held)
     }
 
     fn cuts() {
@@ -94,7 +94,7 @@ impl Protocol for Script {
     fn ends() {
         session_report::pam_library::laws::calls_stand_for_their_events();
         data_cleanup::due_laws::end_stands();
-        item_stream::laws::whole_input_is_looked_at();
+        record_reader::laws::whole_input_is_looked_at();
     }
 
     fn read(alloc: Global, taken: u32, item: &[u8]) -> Result<Line, Refuse<ScriptKind>> {

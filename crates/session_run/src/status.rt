@@ -1,8 +1,8 @@
 ghost use Rattle.std.specs.Prelude.{◌≡◌};
 ghost use Rattle.session_run.specs.Whole.{ending_status, stop_status};
 
-use item_stream::{Ending, Stop};
 use pam_base::Code;
+use record_reader::{Ending, Stop};
 
 /// The status passed to pam_end for the transactions that are open when the input ends in this way.
 pub(crate) fn ending_status<F: Copy + Drop>(ending: Ending<F>) -> Code

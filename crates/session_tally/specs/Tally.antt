@@ -4,7 +4,7 @@ use Rattle.std.specs.Prelude.{◌≡◌, ℕ, ◌+◌, ◌≤◌, nat_lt, if◌t
 use Rattle.std.specs.List.{flat_map}
 use Rattle.pam_outside.specs.Files.{VaultState, file_at, is_failing}
 use Rattle.pam_outside.specs.Streams.{SinkState}
-use Rattle.item_stream.specs.declared.ending.Stop.{Stop}
+use Rattle.record_reader.specs.declared.ending.Stop.{Stop}
 use Rattle.pam_outside.specs.Paths.{path_of}
 use Rattle.mod_tally.specs.declared.tally.Failure.{Failure}
 use Rattle.mod_tally.specs.Tally.{failure_line, failures_of}

@@ -1,13 +1,13 @@
 ghost use Rattle.std.specs.Prelude.{◌≡◌, ◌≢◌, ◌⊎◌, ◌≤◌, IsTrue, IfOk, Ok, Err};
 ghost use Rattle.pam_outside.specs.Counts.{RisesIf, Rose};
 ghost use Rattle.pam_outside.specs.Files.{counted};
-ghost use Rattle.item_stream.specs.Turns.{has_write_fault};
-ghost use Rattle.item_stream.specs.Written.{WritesText};
+ghost use Rattle.record_reader.specs.Turns.{has_write_fault};
+ghost use Rattle.record_reader.specs.Written.{WritesText};
 ghost use Rattle.session_tally.specs.Tally.{Lists, tally_of};
 
 use crate::finding::{Tallied, find};
-use item_stream::Stop;
 use pam_outside::{Sink, Vault, write_all};
+use record_reader::Stop;
 use std::alloc::Global;
 
 /// Lists the failures in the file of a user under a root, `/var/run/faillock/USER`: each in the

@@ -9,8 +9,8 @@ use Rattle.pam_wire.specs.Frame.{IsFrame, has_frame, frame_of, frames_of}
 use Rattle.pam_wire.specs.Laws.{ReadsTable}
 use Rattle.pam_wire.specs.Read.{step_of}
 use Rattle.pam_wire.specs.Stream.{AreFramesOf}
-use Rattle.item_stream.specs.declared.ending.Ending.{Ending}
-use Rattle.item_stream.specs.declared.ending.Stop.{Stop}
+use Rattle.record_reader.specs.declared.ending.Ending.{Ending}
+use Rattle.record_reader.specs.declared.ending.Stop.{Stop}
 use Rattle.frame_stream.specs.declared.fault.FrameFault.{FrameFault}
 use Rattle.frame_stream.specs.declared.fault.FrameFault.TheVariants.{TooManyFrames}
 use Rattle.frame_stream.specs.Laws.{AllAreLookedAt}

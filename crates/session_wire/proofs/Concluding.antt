@@ -4,8 +4,8 @@ use Rattle.pam_outside.specs.Counts.{Rose}
 use Rattle.pam_outside.specs.Streams.{SourceState, SinkState}
 use Rattle.pam_wire.specs.Frame.{answer_of}
 use Rattle.pam_wire.specs.Laws.{ReadsTable}
-use Rattle.item_stream.specs.declared.ending.Ending.{Ending}
-use Rattle.item_stream.specs.declared.ending.Stop.{Stop}
+use Rattle.record_reader.specs.declared.ending.Ending.{Ending}
+use Rattle.record_reader.specs.declared.ending.Stop.{Stop}
 use Rattle.frame_stream.specs.declared.fault.FrameFault.{FrameFault}
 use Rattle.frame_stream.specs.Laws.{AllAreLookedAt, BytesSpell, RunIsOfSteps, ServedAreSteps}
 use Rattle.frame_stream.specs.Looked.{looked}

@@ -8,13 +8,13 @@ use Rattle.pam_outside.specs.Counts.{RisesIf, Rose}
 use Rattle.pam_outside.specs.Streams.{SourceState, SinkState}
 use Rattle.pam_wire.specs.Frame.{AreBytes, frame_of, frames_of}
 use Rattle.pam_wire.specs.Stream.{AreFramesOf}
-use Rattle.item_stream.specs.declared.ending.Ending.{Ending}
-use Rattle.item_stream.specs.declared.ending.Ending.TheVariants.{Done, ReadFault, Refused}
-use Rattle.item_stream.specs.declared.ending.Stop.{Stop}
-use Rattle.item_stream.specs.declared.ending.Stop.TheVariants.{NoMemory, WriteFault}
-use Rattle.item_stream.specs.Run.{Run, after, come_to, run_items, run_of}
-use Rattle.item_stream.specs.Turns.{EndsBy, StopsAt, begun_items, has_read_fault, has_write_fault, refusal_of}
-use Rattle.item_stream.specs.Whole.{Reports, Runs}
+use Rattle.record_reader.specs.declared.ending.Ending.{Ending}
+use Rattle.record_reader.specs.declared.ending.Ending.TheVariants.{Done, ReadFault, Refused}
+use Rattle.record_reader.specs.declared.ending.Stop.{Stop}
+use Rattle.record_reader.specs.declared.ending.Stop.TheVariants.{NoMemory, WriteFault}
+use Rattle.record_reader.specs.Run.{Run, after, come_to, run_items, run_of}
+use Rattle.record_reader.specs.Turns.{EndsBy, StopsAt, begun_items, has_read_fault, has_write_fault, refusal_of}
+use Rattle.record_reader.specs.Whole.{Reports, Runs}
 use Rattle.frame_stream.specs.declared.fault.FrameFault.{FrameFault}
 use Rattle.frame_stream.specs.Laws.{BytesSpell, RunIsOfSteps, ServedAreSteps}
 use Rattle.frame_stream.specs.Looked.{looked}

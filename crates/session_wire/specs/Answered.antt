@@ -4,8 +4,8 @@ use Rattle.pam_base.specs.declared.code.Code.{Code}
 use Rattle.pam_outside.specs.Streams.{SinkState}
 use Rattle.session_run.specs.pam_room.specs.Module.{Player}
 use Rattle.pam_wire.specs.Frame.{answer_of}
-use Rattle.item_stream.specs.declared.ending.Ending.{Ending}
-use Rattle.item_stream.specs.declared.ending.Stop.{Stop}
+use Rattle.record_reader.specs.declared.ending.Ending.{Ending}
+use Rattle.record_reader.specs.declared.ending.Stop.{Stop}
 use Rattle.frame_stream.specs.declared.fault.FrameFault.{FrameFault}
 use Rattle.session_run.specs.State.{RunState}
 use Rattle.session_run.specs.Closings.{Closing}

@@ -5,8 +5,8 @@ use Rattle.pam_base.specs.declared.call.AppCall.TheVariants.{End}
 use Rattle.pam_base.specs.declared.call.Step.{Step}
 use Rattle.pam_wire.specs.Frame.{IsFrame}
 use Rattle.pam_wire.specs.Stream.{AreFramesOf}
-use Rattle.item_stream.specs.declared.ending.Ending.{Ending}
-use Rattle.item_stream.specs.declared.ending.Stop.{Stop}
+use Rattle.record_reader.specs.declared.ending.Ending.{Ending}
+use Rattle.record_reader.specs.declared.ending.Stop.{Stop}
 use Rattle.frame_stream.specs.declared.fault.FrameFault.{FrameFault}
 use Rattle.session_wire.specs.Endings.{ending_status, stop_status}
 

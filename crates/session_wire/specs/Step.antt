@@ -1,7 +1,7 @@
 -- What one call of a front end does (this project's own).
 use Rattle.std.specs.Prelude.{◌≡◌, ℕ, List, Option, Some, None, Result, Ok, Err, nat_le, if◌then◌else◌}
 use Rattle.pam_base.specs.declared.call.Step.{Step}
-use Rattle.item_stream.specs.Run.{ItemStep}
+use Rattle.record_reader.specs.Run.{ItemStep}
 use Rattle.frame_stream.specs.declared.fault.FrameFault.{FrameFault}
 use Rattle.frame_stream.specs.declared.fault.FrameFault.TheVariants.{BadFrame, TooManyFrames}
 use Rattle.frame_stream.specs.Run.{CallStep, step_at}

@@ -6,11 +6,11 @@ use Rattle.pam_outside.specs.Streams.{SourceState, SinkState}
 use Rattle.session_run.specs.pam_room.specs.Module.{Player}
 use Rattle.pam_wire.specs.Frame.{AreBytes, frame_of}
 use Rattle.pam_wire.specs.Stream.{AreFramesOf}
-use Rattle.item_stream.specs.declared.ending.Ending.{Ending}
-use Rattle.item_stream.specs.declared.ending.Ending.TheVariants.{Done, Refused}
-use Rattle.item_stream.specs.declared.ending.Stop.{Stop}
-use Rattle.item_stream.specs.declared.ending.Stop.TheVariants.{NoMemory, WriteFault}
-use Rattle.item_stream.specs.Whole.{Runs}
+use Rattle.record_reader.specs.declared.ending.Ending.{Ending}
+use Rattle.record_reader.specs.declared.ending.Ending.TheVariants.{Done, Refused}
+use Rattle.record_reader.specs.declared.ending.Stop.{Stop}
+use Rattle.record_reader.specs.declared.ending.Stop.TheVariants.{NoMemory, WriteFault}
+use Rattle.record_reader.specs.Whole.{Runs}
 use Rattle.frame_stream.specs.declared.fault.FrameFault.{FrameFault}
 use Rattle.frame_stream.specs.Looked.{looked}
 use Rattle.frame_stream.specs.Run.{step_at}

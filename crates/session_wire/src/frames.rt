@@ -1,10 +1,10 @@
 ghost use Rattle.std.specs.Prelude.{◌≡◌, ◌≤◌, IfOk, IsTrue, OnErr, is_some};
 
 use crate::laws::reading_is_of_steps;
-use frame_stream::{CallStepping, FrameFault, FramesOf, MAX_FRAMES, front_of_frames};
-use item_stream::{Ending, Front, Stepping};
+use frame_stream::{CallStepping, FrameFault, FramesOf, MAX_FRAMES, first_frame};
 use pam_base::{NoMemory, Refuse, Text};
 use pam_wire::{answer_of, step_of};
+use record_reader::{Ending, FirstItem, Stepping};
 use session_run::Protocol;
 use session_run::script_lang::Line;
 use std::alloc::Global;
@@ -80,8 +80,8 @@ impl Protocol for Frames {
 
     ghost is_end = { IsEndOfRun };
 
-    fn front(before: u32, held: &[u8]) -> Front {
-        front_of_frames(before, held)
+    fn first_item(before: u32, held: &[u8]) -> FirstItem {
+        first_frame(before, held)
     }
 
     fn cuts() {

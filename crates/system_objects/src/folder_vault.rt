@@ -209,7 +209,7 @@ impl FolderVault {
         }
         let held = match held {
             Some(held) => held,
-            None => opened(&self.rt, alloc, path, name)?,
+            None => open_held(&self.rt, alloc, path, name)?,
         };
         let mut source = ReaderSource::new(ReadAt {
             file: &held.file,
@@ -224,7 +224,7 @@ impl FolderVault {
     }
 }
 
-fn opened(
+fn open_held(
     rt: &HostRuntime,
     alloc: Global,
     path: &[u8],

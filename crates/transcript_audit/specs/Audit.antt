@@ -15,8 +15,8 @@ use Rattle.session_audit.specs.report_lines.specs.Line.{refused_words}
 use Rattle.session_audit.specs.report_lines.specs.Guess.{read_line}
 use Rattle.session_audit.specs.Differs.{differs}
 use Rattle.session_audit.specs.Whole.{lines_read}
-use Rattle.item_stream.specs.declared.ending.Stop.{Stop as Stopped}
-use Rattle.item_stream.specs.declared.ending.Stop.TheVariants.{NoMemory}
+use Rattle.record_reader.specs.declared.ending.Stop.{Stop as Stopped}
+use Rattle.record_reader.specs.declared.ending.Stop.TheVariants.{NoMemory}
 use Rattle.transcript_audit.specs.declared.finding.Finding.{Finding}
 use Rattle.transcript_audit.specs.declared.finding.Audited.{Audited}
 use Rattle.transcript_audit.specs.declared.finding.Audited.TheVariants.{Fits, Differs, Refused, TooLong, Unread}

@@ -2,14 +2,14 @@ ghost use Rattle.std.specs.Prelude.{◌≡◌, ◌≢◌, ◌⊎◌, [], Ok, Err
 ghost use Rattle.pam_outside.specs.Counts.{RisesIf};
 ghost use Rattle.session_audit.specs.service_load.specs.Load.{loaded};
 ghost use Rattle.session_audit.specs.service_load.specs.Loading.{OnlyCalls};
-ghost use Rattle.item_stream.specs.Turns.{has_write_fault};
-ghost use Rattle.item_stream.specs.Written.{WritesText};
+ghost use Rattle.record_reader.specs.Turns.{has_write_fault};
+ghost use Rattle.record_reader.specs.Written.{WritesText};
 ghost use Rattle.transcript_audit.specs.Audit.{Audit, Audits, IsAudit, ReadsUpTo, audit_of, calls_of, has_read_fault};
 ghost use Rattle.transcript_audit.specs.Transcript.{Takes};
 
 use crate::finding::{Audited, Finding, find};
-use item_stream::Stop;
 use pam_outside::{Sink, Source, Vault, write_all};
+use record_reader::Stop;
 use std::alloc::Global;
 
 /// Audits the transcript of a run, which is read from a source, against the stacks of a service

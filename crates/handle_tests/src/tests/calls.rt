@@ -84,7 +84,7 @@ static ROWS: &[Row] = &[
 ];
 
 #[test]
-fn calls_go_by_their_flags_and_fail_without_memory(rt: HostRuntime) -> Result<(), Fail> {
+fn calls_follow_their_flags_and_fail_if_out_of_memory(rt: HostRuntime) -> Result<(), Fail> {
     let alloc = rt.alloc();
     let rule: DelayRule = Box::new(alloc, |_code: Code, asked: u32| asked.min(60_000_000))?;
     let delay = DelayFn::new(rule);

@@ -117,7 +117,7 @@ fn pass_over(
 }
 
 #[test]
-fn a_failed_requisite_looks_at_no_substack_behind_it(rt: HostRuntime) -> Result<(), Fail> {
+fn a_failed_requisite_looks_at_no_substack_after_it(rt: HostRuntime) -> Result<(), Fail> {
     let alloc = rt.alloc();
     let nodes = deny_stack(alloc)?;
     let mut mods: Vec<Box<dyn Module>> = Vec::new(alloc);

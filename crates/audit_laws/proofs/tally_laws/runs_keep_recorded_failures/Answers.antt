@@ -1,6 +1,6 @@
 use Rattle.std.proofs.Common.{ℕ, List, subst, sym}
 use Rattle.pam_outside.specs.Files.{File}
-use Rattle.item_stream.specs.LineRun.{run_lines}
+use Rattle.record_reader.specs.LineRun.{run_lines}
 use Rattle.session_run.specs.Step.{line_step}
 use Rattle.audit_laws.specs.Tallied.{Tallies}
 use Rattle.audit_laws.proofs.Tallying.{tallies}

@@ -9,7 +9,7 @@ use Rattle.service_load.specs.declared.rule_file.RuleFile.{RuleFile}
 use Rattle.service_load.specs.Files.{is_in_folder, own_rules, plain_file}
 use Rattle.service_load.specs.Loading.{texts_of}
 use Rattle.explain_origins.specs.contracts.files.add_file.{dyn-1-ghosts}
-use Rattle.explain_origins.specs.contracts.files.add_file.dyn-1 as lent
+use Rattle.explain_origins.specs.contracts.files.add_file.dyn-1 as borrowed
 use Rattle.explain_origins.proofs.files.+add_file.Goals as goal
 
 pub returns-then-level-gt-MAX_LEVEL-clause-told : goal.returns-then-level-gt-MAX_LEVEL-clause-told
@@ -22,7 +22,7 @@ returns-in_default-clause-told g t c = λ tells.
 
 pub loop-rule-preserved-in_default-2 : goal.loop-rule-preserved-in_default-2
 loop-rule-preserved-in_default-2 g t c =
-    let first = (lent.members (dyn-1-ghosts g.dyn-1) c.args.vault.now).vault_holds c.args.vault.now.1 in
+    let first = (borrowed.members (dyn-1-ghosts g.dyn-1) c.args.vault.now).vault_holds c.args.vault.now.1 in
     let at : RuleFile → Placed = λ file. placed_at (texts_of c.args.root.now first) (c.args.level + 1) c.args.rule_type file in
     let inv = c.loop-rule.invariant in
     let taken = subst (λ (left : Option Inclusion). Takes {E = NoMemory} (Ok left) c.in_ok-step.step c.args.file.now.name c.loop-rule.origins c.take_step.new.origins c.loop-rule.any c.take_step.new.any)
@@ -37,9 +37,9 @@ loop-rule-preserved-in_default-2 g t c =
 
 pub loop-rule-preserved : goal.loop-rule-preserved
 loop-rule-preserved g t c =
-    let first = (lent.members (dyn-1-ghosts g.dyn-1) c.args.vault.now).vault_holds c.args.vault.now.1 in
-    let here = (lent.members (dyn-1-ghosts g.dyn-1) c.loop-rule.vault.now).vault_holds c.loop-rule.vault.now.1 in
-    let new = (lent.members (dyn-1-ghosts g.dyn-1) (c.loop-rule.vault.now.0, c.add_file.new.vault)).vault_holds c.add_file.new.vault in
+    let first = (borrowed.members (dyn-1-ghosts g.dyn-1) c.args.vault.now).vault_holds c.args.vault.now.1 in
+    let here = (borrowed.members (dyn-1-ghosts g.dyn-1) c.loop-rule.vault.now).vault_holds c.loop-rule.vault.now.1 in
+    let new = (borrowed.members (dyn-1-ghosts g.dyn-1) (c.loop-rule.vault.now.0, c.add_file.new.vault)).vault_holds c.add_file.new.vault in
     let root = c.args.root.now in
     let at : RuleFile → Placed = λ file. placed_at (texts_of root first) (c.args.level + 1) c.args.rule_type file in
     let inv = c.loop-rule.invariant in
@@ -57,7 +57,7 @@ loop-rule-preserved g t c =
 
 pub returns-clause-told : goal.returns-clause-told
 returns-clause-told g t c = λ tells.
-    let first = (lent.members (dyn-1-ghosts g.dyn-1) c.args.vault.now).vault_holds c.args.vault.now.1 in
+    let first = (borrowed.members (dyn-1-ghosts g.dyn-1) c.args.vault.now).vault_holds c.args.vault.now.1 in
     let texts = texts_of c.args.root.now first in
     let deeper : List ℕ → Placed = λ name. placed_at texts (c.args.level + 1) c.args.rule_type (plain_file name) in
     let meant = rw c.in-Some.is at (c.in_ok-rules.ensures.told tells) in

@@ -5,7 +5,7 @@ use Rattle.explain_origins.proofs.Going.{Going}
 use Rattle.service_load.specs.Files.{is_in_folder, plain_file}
 use Rattle.service_load.specs.Loading.{OnlyCalls, texts_of}
 use Rattle.explain_origins.specs.contracts.files.add_file.{dyn-1-ghosts}
-use Rattle.explain_origins.specs.contracts.files.add_file.dyn-1 as lent
+use Rattle.explain_origins.specs.contracts.files.add_file.dyn-1 as borrowed
 use Rattle.explain_origins.proofs.files.+add_file.Given as goal
 
 abbrev pub decreases-add_file : goal.decreases-add_file
@@ -13,8 +13,8 @@ decreases-add_file g l = 18 - l.level
 
 abbrev pub invariant-loop-rule : goal.invariant-loop-rule
 invariant-loop-rule g l =
-    let now = lent.members (dyn-1-ghosts g.dyn-1) l.vault.now in
-    let start = lent.members (dyn-1-ghosts g.dyn-1) l.fn.vault.now in
+    let now = borrowed.members (dyn-1-ghosts g.dyn-1) l.vault.now in
+    let start = borrowed.members (dyn-1-ghosts g.dyn-1) l.fn.vault.now in
     let first = start.vault_holds l.fn.vault.now.1 in
     let deeper : List ℕ → Placed = λ name. placed_at (texts_of l.root first) (l.level + 1) l.rule_type (plain_file name) in
     record {

@@ -9,7 +9,7 @@ returns-then-is_include c =
 pub returns-then-is_field_of : goal.returns-then-is_field_of
 returns-then-is_field_of c =
     of_type_ok _ c.args.line c.args.rule_type c.args.in_folder c.args.first.now c.args.rest.now (sym c.is_include.ensures ∙ c.if-is_include.false)
-    (sym c.is_field_of.ensures ∙ c.if-is_field_of.true) c.step_behind_type.ensures
+    (sym c.is_field_of.ensures ∙ c.if-is_field_of.true) c.step_after_type.ensures
 
 pub returns : goal.returns
 returns c =

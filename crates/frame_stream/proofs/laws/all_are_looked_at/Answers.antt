@@ -2,4 +2,4 @@ use Rattle.frame_stream.proofs.Spelling.{all_looked}
 use Rattle.frame_stream.proofs.laws.all_are_looked_at.Goals as goal
 
 pub returns : goal.returns
-returns c = all_looked c.front_settles.ensures
+returns c = all_looked c.first_frame_settles.ensures

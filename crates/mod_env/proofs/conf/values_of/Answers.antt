@@ -22,8 +22,8 @@ returns-in-None c =
 
 pub returns-then-is_empty : goal.returns-then-is_empty
 unfolding values_of
-returns-then-is_empty c = let out : c.loop-left.left ≡ 0 = omega arith in settings_out _ _ _ _ true out (rw c.behind_white.ensures at c.if-is_empty.ensures) c.loop-left.invariant
+returns-then-is_empty c = let out : c.loop-left.left ≡ 0 = omega arith in settings_out _ _ _ _ true out (rw c.after_white.ensures at c.if-is_empty.ensures) c.loop-left.invariant
 
 pub returns-else-is_empty : goal.returns-else-is_empty
 unfolding values_of
-returns-else-is_empty c = let out : c.loop-left.left ≡ 0 = omega arith in settings_out _ _ _ _ false out (rw c.behind_white.ensures at c.if-is_empty.ensures) c.loop-left.invariant
+returns-else-is_empty c = let out : c.loop-left.left ≡ 0 = omega arith in settings_out _ _ _ _ false out (rw c.after_white.ensures at c.if-is_empty.ensures) c.loop-left.invariant

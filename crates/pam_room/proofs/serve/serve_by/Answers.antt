@@ -20,7 +20,7 @@ returns-clause-done g c =
           ((goal.Conv-dyn g (conv.vtable, conv.value)).conv_tells conv.value)
           ((goal.Vault-dyn g (vault.vtable, vault.value)).vault_tells vault.value && (goal.Clock-dyn g (clock.vtable, clock.value)).clock_tells clock.value)
           ((goal.Nap-dyn g (nap.vtable, nap.value)).nap_tells nap.value) told) in
-          rw c.unless_put_off.ensures (served_so _ c.args.mods.now c.args.number c.index-mods-number.result _ _ _ _ c.sweep.new.datums c.sweep.new.ledger
+          rw c.code_or_incomplete.ensures (served_so _ c.args.mods.now c.args.number c.index-mods-number.result _ _ _ _ c.sweep.new.datums c.sweep.new.ledger
           c.requires.there c.index-mods-number.is played (ap (λ b. (goal.Nap-dyn g (b.vtable, b.value)).nap_holds b.value) c.play-answer.ensures.nap) c.sweep.ensures.datums c.sweep.ensures.ledger);
       broken = λ told. tt;
     }

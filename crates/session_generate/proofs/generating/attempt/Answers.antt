@@ -2,7 +2,7 @@ use Rattle.std.proofs.Common.{refl, ◌∙◌}
 use Rattle.session_run.specs.pam_room.specs.Plain.{plain_world}
 use Rattle.session_run.specs.pam_room.specs.State.{PlainWorld}
 use Rattle.session_run.specs.State.{state_of}
-use Rattle.session_generate.proofs.Attempting.{all_placed, not_begun, not_drawn, not_placed, vault_of}
+use Rattle.session_generate.proofs.Attempting.{all_placed, not_begun, not_generated, not_placed, vault_of}
 use Rattle.session_generate.proofs.Closing.{both_tell, login_unbegun}
 use Rattle.session_run.proofs.Going.{went_on, went_quietly}
 use Rattle.session_generate.proofs.generating.attempt.Goals as goal
@@ -29,7 +29,7 @@ returns-in_err-set_process-clause-told g c = λ delay is told.
 pub returns-in_err-files-clause-told : goal.returns-in_err-files-clause-told
 returns-in_err-files-clause-told g c = λ delay is told.
     let old : PlainWorld = plain_world (λ b. (goal.Vault-dyn g (b.vtable, b.value)).vault_holds b.value) (λ b. (goal.Clock-dyn g (b.vtable, b.value)).clock_holds b.value) (λ b. (goal.Nap-dyn g (b.vtable, b.value)).nap_holds b.value) c.args.world.now in
-    login_unbegun _ _ _ c.from_residual-in_err-files.result c.from_residual-in_err-files.ensures.1 (not_drawn _ c.args.seed c.args.lines (state_of _ old) _ c.in_ok-set_process.ensures.ok)
+    login_unbegun _ _ _ c.from_residual-in_err-files.result c.from_residual-in_err-files.ensures.1 (not_generated _ c.args.seed c.args.lines (state_of _ old) _ c.in_ok-set_process.ensures.ok)
 
 pub returns-in-Err-clause-told : goal.returns-in-Err-clause-told
 returns-in-Err-clause-told g c = λ delay is told.

@@ -1,6 +1,6 @@
 use Rattle.std.proofs.Common.{◌+◌, List, ap, ◌∙◌, drop}
 use Rattle.pam_outside.specs.Files.{VaultState}
-use Rattle.drawn_files.specs.declared.files.DrawnFile.{DrawnFile}
+use Rattle.random_config.specs.declared.files.RandomFile.{RandomFile}
 use Rattle.session_generate.specs.Placing.{placed}
 use Rattle.session_generate.proofs.Putting.{goes_on, next_file, some_behind, stops_at}
 use Rattle.session_generate.proofs.placing.place_files.Goals as goal
@@ -12,7 +12,7 @@ returns-in-Err-clause-told g c = λ tells.
     let behind : VaultState = (goal.Vault-dyn g (c.loop-file.vault.now.0, c.place_file.new.vault)).vault_holds c.place_file.new.vault in
     let next = next_file _ _ _ c.loop-file-test.true c.file-item.is in
     stops_at c.file-item.result (drop (c.loop-file.file-index + 1) c.args.files.now) before behind c.args.files.now _
-    (was.told tells ∙ ap (λ (files : List DrawnFile). placed files before) next) (λ u some. was.some tells u (rw next some))
+    (was.told tells ∙ ap (λ (files : List RandomFile). placed files before) next) (λ u some. was.some tells u (rw next some))
     c.in-Err.refuse (c.in-Err.ensures.told (was.tells ∙ tells))
 
 pub loop-file-preserved : goal.loop-file-preserved

@@ -1,5 +1,5 @@
 use Rattle.std.proofs.Common.{◌∙◌, inr, refl, Err}
-use Rattle.item_stream.specs.declared.ending.Stop.TheVariants.{NoMemory}
+use Rattle.record_reader.specs.declared.ending.Stop.TheVariants.{NoMemory}
 use Rattle.session_program.proofs.Alone.{nothing_written}
 use Rattle.session_program.proofs.Cleaning.{cleaned_up, nothing_to_clean, proceeds_too}
 use Rattle.session_program.proofs.LoggingIn.{ends_generate, generated}

@@ -1,5 +1,5 @@
 use Rattle.std.proofs.Common.{◌∙◌, inl, inr, refl}
-use Rattle.item_stream.specs.declared.ending.Stop.TheVariants.{NoMemory}
+use Rattle.record_reader.specs.declared.ending.Stop.TheVariants.{NoMemory}
 use Rattle.session_program.proofs.Alone.{nothing_written}
 use Rattle.session_program.proofs.Cleaning.{cleaned_at, nothing_since}
 use Rattle.session_program.proofs.Telling.{begun, both_left, both_right, both_true}

@@ -1,6 +1,6 @@
 use Rattle.std.proofs.Common.{append-nil, sym, [], ◌∙◌, Some, None, Ok, Err, refl, ap, arith}
-use Rattle.item_stream.specs.declared.ending.Stop.TheVariants.{NoMemory}
-use Rattle.item_stream.specs.Turns.{has_read_fault}
+use Rattle.record_reader.specs.declared.ending.Stop.TheVariants.{NoMemory}
+use Rattle.record_reader.specs.Turns.{has_read_fault}
 use Rattle.session_run.proofs.Asking.{asks_before, leads_nowhere, leads_on}
 use Rattle.session_run.proofs.Going.{still_told, went_nowhere, went_on, went_so}
 use Rattle.session_run.proofs.Proceeding.{nothing_done}

@@ -2,4 +2,4 @@ use Rattle.frame_stream.proofs.Keeping.{frames_cut}
 use Rattle.frame_stream.proofs.frames.FramesOfStepping.cuts.Goals as goal
 
 pub returns : goal.returns
-returns g c = frames_cut c.front_settles.ensures
+returns g c = frames_cut c.first_frame_settles.ensures

@@ -44,9 +44,9 @@ returns-in-AcctMgmt-clause-told g c = λ told.
     let vault_tells = (goal.Vault-dyn g vault).vault_tells vault.1 in
     let clock_tells = (goal.Clock-dyn g clock).clock_tells clock.1 in
     let call = plain_call c.args.call.now in
-    c.act_steps.ensures.playing unix_act call _ _ c.ended.result
-    (by_this _ AcctMgmt call c.ended.result _ _ c.in-AcctMgmt.is
-    (c.ended.ensures.told checks_account _ _ (c.check_account-answer.ensures.told (conv_of _ vault_tells clock_tells told) (vault_of _ vault_tells clock_tells told) (clock_of ((goal.Conv-dyn g c.args.conv.now).conv_tells c.args.conv.now.1) vault_tells _ told))))
+    c.act_steps.ensures.playing unix_act call _ _ c.code_or_conv_err.result
+    (by_this _ AcctMgmt call c.code_or_conv_err.result _ _ c.in-AcctMgmt.is
+    (c.code_or_conv_err.ensures.told checks_account _ _ (c.check_account-answer.ensures.told (conv_of _ vault_tells clock_tells told) (vault_of _ vault_tells clock_tells told) (clock_of ((goal.Conv-dyn g c.args.conv.now).conv_tells c.args.conv.now.1) vault_tells _ told))))
 
 pub returns-in-ChAuthTok-clause-told : goal.returns-in-ChAuthTok-clause-told
 returns-in-ChAuthTok-clause-told g c = λ told.
@@ -56,9 +56,9 @@ returns-in-ChAuthTok-clause-told g c = λ told.
     let clock_tells = (goal.Clock-dyn g clock).clock_tells clock.1 in
     let call = plain_call c.args.call.now in
     let ticks = clock_of ((goal.Conv-dyn g c.args.conv.now).conv_tells c.args.conv.now.1) vault_tells clock_tells told in
-    c.act_steps.ensures.playing unix_act call _ _ c.ended-in-ChAuthTok.result
-    (by_this _ ChAuthTok call c.ended-in-ChAuthTok.result _ _ c.in-ChAuthTok.is
-    (c.ended-in-ChAuthTok.ensures.told (changes_token call) _ _ (c.change_token-answer.ensures.told (conv_of _ vault_tells clock_tells told) (vault_of _ vault_tells clock_tells told) ticks
+    c.act_steps.ensures.playing unix_act call _ _ c.code_or_conv_err-in-ChAuthTok.result
+    (by_this _ ChAuthTok call c.code_or_conv_err-in-ChAuthTok.result _ _ c.in-ChAuthTok.is
+    (c.code_or_conv_err-in-ChAuthTok.ensures.told (changes_token call) _ _ (c.change_token-answer.ensures.told (conv_of _ vault_tells clock_tells told) (vault_of _ vault_tells clock_tells told) ticks
     (c.day_of-today.ensures ∙ ap day_of (c.current_moment.ensures.told ticks)))))
 
 pub returns-in-OpenSession-clause-told : goal.returns-in-OpenSession-clause-told

@@ -13,8 +13,8 @@ returns-in-None-clause-told g c = λ told.
     let clock = c.args.clock.now in
     let vault_tells = (goal.Vault-dyn g vault).vault_tells vault.1 in
     let clock_tells = (goal.Clock-dyn g clock).clock_tells clock.1 in
-    decided _ (plain_call c.args.call.now) _ _ _ _ c.ended.result c.in-None.ensures (c.plays_so.ensures _ _ _)
-    (c.ended.ensures.finished _ _ _ (c.work-answer.ensures.told (conv_of _ vault_tells clock_tells told) (vault_of _ vault_tells clock_tells told) (clock_of _ vault_tells clock_tells told)))
+    decided _ (plain_call c.args.call.now) _ _ _ _ c.code_or_conv_err.result c.in-None.ensures (c.plays_so.ensures _ _ _)
+    (c.code_or_conv_err.ensures.finished _ _ _ (c.work-answer.ensures.told (conv_of _ vault_tells clock_tells told) (vault_of _ vault_tells clock_tells told) (clock_of _ vault_tells clock_tells told)))
 
 pub returns-in-None-clause-stays : goal.returns-in-None-clause-stays
 returns-in-None-clause-stays g c = c.work-answer.ensures.sets.stays _

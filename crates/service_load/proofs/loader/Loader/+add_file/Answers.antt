@@ -4,22 +4,22 @@ use Rattle.control_words.specs.Stack.{Stack, stack_of, joined}
 use Rattle.service_load.specs.Loading.{counts_of, brought_in, opener_of, texts_of}
 use Rattle.service_load.specs.Tree.{serves}
 use Rattle.service_load.specs.contracts.loader.Loader.add_file.{dyn-1-ghosts}
-use Rattle.service_load.specs.contracts.loader.Loader.add_file.dyn-1 as lent
+use Rattle.service_load.specs.contracts.loader.Loader.add_file.dyn-1 as borrowed
 use Rattle.service_load.proofs.Expanding.{grows_none, grows_in, grows_on, taking_stops, taking_looks, taking_adds, taking_grows, taking_file, all_stop, file_stops, going_none, going_past, file_since, brings_all, brings_stop, brings_absent, nothing_left, more_left}
 use Rattle.service_load.proofs.loader.Loader.+add_file.Goals as goal
 
 pub returns-in_default-clause-told : goal.returns-in_default-clause-told
 returns-in_default-clause-told g t c = λ tells.
-    let first = (lent.members (dyn-1-ghosts g.dyn-1) c.args.vault.now).vault_holds c.args.vault.now.1 in
-    let old = (lent.members (dyn-1-ghosts g.dyn-1) (c.args.vault.now.0, c.open.new.vault)).vault_holds c.open.new.vault in
+    let first = (borrowed.members (dyn-1-ghosts g.dyn-1) c.args.vault.now).vault_holds c.args.vault.now.1 in
+    let old = (borrowed.members (dyn-1-ghosts g.dyn-1) (c.args.vault.now.0, c.open.new.vault)).vault_holds c.open.new.vault in
     let before = stack_of c.args.nodes.now.vec.items in
     brings_absent c.args.at.root.now first first old c.args.self.now c.open.new.self c.open.new.self c.args.at.level c.args.at.rule_type (opener_of c.args.at.opener) c.args.file.now [] before before
     (rw c.in_default.is at (c.in_ok-entries.ensures.told tells)) refl (c.in_ok-entries.ensures.stays tells)
 
 pub loop-entry-init : goal.loop-entry-init
 loop-entry-init g t c =
-    let first = (lent.members (dyn-1-ghosts g.dyn-1) c.args.vault.now).vault_holds c.args.vault.now.1 in
-    let old = (lent.members (dyn-1-ghosts g.dyn-1) (c.args.vault.now.0, c.open.new.vault)).vault_holds c.open.new.vault in
+    let first = (borrowed.members (dyn-1-ghosts g.dyn-1) c.args.vault.now).vault_holds c.args.vault.now.1 in
+    let old = (borrowed.members (dyn-1-ghosts g.dyn-1) (c.args.vault.now.0, c.open.new.vault)).vault_holds c.open.new.vault in
     let before = stack_of c.args.nodes.now.vec.items in
     record {
       tells = c.in_ok-entries.ensures.tells;
@@ -33,8 +33,8 @@ loop-entry-init g t c =
 -- an entry with a line of its own, or with nothing for the type
 pub loop-entry-preserved-in_default-2 : goal.loop-entry-preserved-in_default-2
 loop-entry-preserved-in_default-2 g t c =
-    let first = (lent.members (dyn-1-ghosts g.dyn-1) c.args.vault.now).vault_holds c.args.vault.now.1 in
-    let here = (lent.members (dyn-1-ghosts g.dyn-1) c.loop-entry.vault.now).vault_holds c.loop-entry.vault.now.1 in
+    let first = (borrowed.members (dyn-1-ghosts g.dyn-1) c.args.vault.now).vault_holds c.args.vault.now.1 in
+    let here = (borrowed.members (dyn-1-ghosts g.dyn-1) c.loop-entry.vault.now).vault_holds c.loop-entry.vault.now.1 in
     let texts = texts_of c.args.at.root.now first in
     let inv = c.loop-entry.invariant in
     let steps = c.in-Some-entry.ensures.steps in
@@ -59,9 +59,9 @@ loop-entry-preserved g t c =
     let level = c.args.at.level in
     let type = c.args.at.rule_type in
     let name = c.args.file.now.name in
-    let first = (lent.members (dyn-1-ghosts g.dyn-1) c.args.vault.now).vault_holds c.args.vault.now.1 in
-    let here = (lent.members (dyn-1-ghosts g.dyn-1) c.loop-entry.vault.now).vault_holds c.loop-entry.vault.now.1 in
-    let new = (lent.members (dyn-1-ghosts g.dyn-1) (c.loop-entry.vault.now.0, c.add_file.new.vault)).vault_holds c.add_file.new.vault in
+    let first = (borrowed.members (dyn-1-ghosts g.dyn-1) c.args.vault.now).vault_holds c.args.vault.now.1 in
+    let here = (borrowed.members (dyn-1-ghosts g.dyn-1) c.loop-entry.vault.now).vault_holds c.loop-entry.vault.now.1 in
+    let new = (borrowed.members (dyn-1-ghosts g.dyn-1) (c.loop-entry.vault.now.0, c.add_file.new.vault)).vault_holds c.add_file.new.vault in
     let now = stack_of c.loop-entry.nodes.vec.items in
     let inv = c.loop-entry.invariant in
     let steps = c.in-Some-entry.ensures.steps in
@@ -88,9 +88,9 @@ returns-in_err-inclusion-clause-told g t c = λ tells.
     let level = c.args.at.level in
     let type = c.args.at.rule_type in
     let name = c.args.file.now.name in
-    let first = (lent.members (dyn-1-ghosts g.dyn-1) c.args.vault.now).vault_holds c.args.vault.now.1 in
-    let old = (lent.members (dyn-1-ghosts g.dyn-1) (c.args.vault.now.0, c.open.new.vault)).vault_holds c.open.new.vault in
-    let here = (lent.members (dyn-1-ghosts g.dyn-1) c.loop-entry.vault.now).vault_holds c.loop-entry.vault.now.1 in
+    let first = (borrowed.members (dyn-1-ghosts g.dyn-1) c.args.vault.now).vault_holds c.args.vault.now.1 in
+    let old = (borrowed.members (dyn-1-ghosts g.dyn-1) (c.args.vault.now.0, c.open.new.vault)).vault_holds c.open.new.vault in
+    let here = (borrowed.members (dyn-1-ghosts g.dyn-1) c.loop-entry.vault.now).vault_holds c.loop-entry.vault.now.1 in
     let inv = c.loop-entry.invariant in
     let e = c.in-Some-entry.entry in
     let whole = c.into_iter-entry-iterator.ensures.into_iter_gives.0 ∙ c.into_vec-entry-items.ensures in
@@ -106,10 +106,10 @@ returns-in_err-add_file-clause-told g t c = λ tells.
     let level = c.args.at.level in
     let type = c.args.at.rule_type in
     let name = c.args.file.now.name in
-    let first = (lent.members (dyn-1-ghosts g.dyn-1) c.args.vault.now).vault_holds c.args.vault.now.1 in
-    let old = (lent.members (dyn-1-ghosts g.dyn-1) (c.args.vault.now.0, c.open.new.vault)).vault_holds c.open.new.vault in
-    let here = (lent.members (dyn-1-ghosts g.dyn-1) c.loop-entry.vault.now).vault_holds c.loop-entry.vault.now.1 in
-    let new = (lent.members (dyn-1-ghosts g.dyn-1) (c.loop-entry.vault.now.0, c.add_file.new.vault)).vault_holds c.add_file.new.vault in
+    let first = (borrowed.members (dyn-1-ghosts g.dyn-1) c.args.vault.now).vault_holds c.args.vault.now.1 in
+    let old = (borrowed.members (dyn-1-ghosts g.dyn-1) (c.args.vault.now.0, c.open.new.vault)).vault_holds c.open.new.vault in
+    let here = (borrowed.members (dyn-1-ghosts g.dyn-1) c.loop-entry.vault.now).vault_holds c.loop-entry.vault.now.1 in
+    let new = (borrowed.members (dyn-1-ghosts g.dyn-1) (c.loop-entry.vault.now.0, c.add_file.new.vault)).vault_holds c.add_file.new.vault in
     let inv = c.loop-entry.invariant in
     let e = c.in-Some-entry.entry in
     let i = c.in-Some-2.inclusion in
@@ -125,9 +125,9 @@ returns-in_err-add_file-clause-told g t c = λ tells.
 pub returns-clause-told : goal.returns-clause-told
 returns-clause-told g t c = λ tells.
     let root = c.args.at.root.now in
-    let first = (lent.members (dyn-1-ghosts g.dyn-1) c.args.vault.now).vault_holds c.args.vault.now.1 in
-    let old = (lent.members (dyn-1-ghosts g.dyn-1) (c.args.vault.now.0, c.open.new.vault)).vault_holds c.open.new.vault in
-    let here = (lent.members (dyn-1-ghosts g.dyn-1) c.loop-entry.vault.now).vault_holds c.loop-entry.vault.now.1 in
+    let first = (borrowed.members (dyn-1-ghosts g.dyn-1) c.args.vault.now).vault_holds c.args.vault.now.1 in
+    let old = (borrowed.members (dyn-1-ghosts g.dyn-1) (c.args.vault.now.0, c.open.new.vault)).vault_holds c.open.new.vault in
+    let here = (borrowed.members (dyn-1-ghosts g.dyn-1) c.loop-entry.vault.now).vault_holds c.loop-entry.vault.now.1 in
     let before = stack_of c.args.nodes.now.vec.items in
     let now = stack_of c.loop-entry.nodes.vec.items in
     let inv = c.loop-entry.invariant in

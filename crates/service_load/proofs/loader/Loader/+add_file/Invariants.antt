@@ -4,7 +4,7 @@ use Rattle.control_words.specs.Stack.{stack_of}
 use Rattle.service_load.specs.Loading.{Grows, OnlyCalls, counts_of, texts_of}
 use Rattle.service_load.proofs.Expanding.{Going}
 use Rattle.service_load.specs.contracts.loader.Loader.add_file.{dyn-1-ghosts}
-use Rattle.service_load.specs.contracts.loader.Loader.add_file.dyn-1 as lent
+use Rattle.service_load.specs.contracts.loader.Loader.add_file.dyn-1 as borrowed
 use Rattle.service_load.proofs.loader.Loader.+add_file.Given as goal
 
 abbrev pub decreases-add_file : goal.decreases-add_file
@@ -12,9 +12,9 @@ decreases-add_file g l = 18 - l.at.level
 
 abbrev pub invariant-loop-entry : goal.invariant-loop-entry
 invariant-loop-entry g l =
-    let now = lent.members (dyn-1-ghosts g.dyn-1) l.vault.now in
-    let opened = lent.members (dyn-1-ghosts g.dyn-1) l.initial.vault.now in
-    let start = lent.members (dyn-1-ghosts g.dyn-1) l.fn.vault.now in
+    let now = borrowed.members (dyn-1-ghosts g.dyn-1) l.vault.now in
+    let opened = borrowed.members (dyn-1-ghosts g.dyn-1) l.initial.vault.now in
+    let start = borrowed.members (dyn-1-ghosts g.dyn-1) l.fn.vault.now in
     let first = start.vault_holds l.fn.vault.now.1 in
     let texts = texts_of l.at.root.now first in
     record {

@@ -1,7 +1,0 @@
-use Rattle.std.proofs.Common.{◌≡◌, ◌-◌, ◌≤◌, string_bytes}
-use Rattle.std.specs.List.{filter, flat_map, range_with_len}
-use Rattle.drawn_files.specs.Files.{is_odd, substack_line}
-use Rattle.drawn_files.proofs.files.service.Given as goal
-
-abbrev pub invariant-loop-number : goal.invariant-loop-number
-invariant-loop-number l = (string_bytes l.text ≡ flat_map substack_line (filter is_odd (range_with_len 1 (l.number - 1)))) × (1 ≤ l.number)

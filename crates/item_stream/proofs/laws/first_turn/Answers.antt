@@ -1,8 +1,0 @@
-use Rattle.item_stream.proofs.Going.{no_turn, no_memory}
-use Rattle.item_stream.proofs.laws.first_turn.Goals as goal
-
-pub returns-clause-none_yet : goal.returns-clause-none_yet
-returns-clause-none_yet g c = λ setting. no_turn _ _ _
-
-pub returns-clause-no_memory : goal.returns-clause-no_memory
-returns-clause-no_memory g c = λ setting. no_memory _ _ _

@@ -1,5 +1,0 @@
-use Rattle.item_stream.proofs.Keeping.{lines_keep}
-use Rattle.item_stream.proofs.lines.LinesStepping.keeps.Goals as goal
-
-pub returns : goal.returns
-returns g c = λ setting. lines_keep (g.R.LineStepping.line_step setting)

@@ -1,9 +1,0 @@
-use Rattle.std.proofs.Common.{◌≡◌, length}
-use Rattle.mod_env.specs.Marks.{behind}
-use Rattle.mod_env.proofs.marks.behind_white.Given as goal
-
-abbrev pub invariant-loop-rest : goal.invariant-loop-rest
-invariant-loop-rest g l = behind g.T.MaybeWhite.white l.rest ≡ behind g.T.MaybeWhite.white l.text
-
-abbrev pub decreases-loop-rest : goal.decreases-loop-rest
-decreases-loop-rest g l = length l.rest

@@ -1,5 +1,0 @@
-use Rattle.pam_wire.proofs.Opening.{front-open, open-front}
-use Rattle.pam_wire.proofs.laws.front_opens_by_the_table.Goals as goal
-
-pub returns : goal.returns
-returns c = λ rest. (front-open rest, open-front rest)

@@ -1,0 +1,5 @@
+use Rattle.record_reader.proofs.Keeping.{lines_cut}
+use Rattle.record_reader.proofs.lines.LinesStepping.cuts.Goals as goal
+
+pub returns : goal.returns
+returns g c = lines_cut

@@ -1,0 +1,13 @@
+pub use Rattle.pam_outside
+pub mod Run
+pub mod Cutting
+pub mod FirstItem
+pub mod Taking
+pub mod Turns
+pub mod Whole
+pub mod Laws
+pub mod Written
+pub mod Object
+pub mod Looked
+pub mod LineRun
+pub mod LineTurns

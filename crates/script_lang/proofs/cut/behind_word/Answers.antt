@@ -1,8 +1,0 @@
-use Rattle.script_lang.proofs.Words.{behind_alone, behind_first}
-use Rattle.script_lang.proofs.cut.behind_word.Goals as goal
-
-pub returns-in_err-end : goal.returns-in_err-end
-returns-in_err-end c = rw c.from_residual.ensures (behind_alone c.args.line.now c.in_err-end.ensures)
-
-pub returns : goal.returns
-returns c = behind_first c.args.line.now c.in_ok-end.end c.in_ok-end.ensures

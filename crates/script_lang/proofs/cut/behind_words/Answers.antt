@@ -1,5 +1,0 @@
-use Rattle.script_lang.proofs.Words.{behind_next}
-use Rattle.script_lang.proofs.cut.behind_words.Goals as goal
-
-pub loop-preserved : goal.loop-preserved
-loop-preserved c = behind_next _ _ _ c.loop.counter c.loop.invariant c.in_ok-rest.ensures
