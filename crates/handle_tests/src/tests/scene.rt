@@ -42,11 +42,7 @@ fn world(alloc: Global, file: &[u8]) -> Result<World, Fail> {
         vault: Box::new(alloc, vault)?,
         clock: Box::new(alloc, FixedClock::new(5, 0))?,
         nap: Box::new(alloc, NapSum::new())?,
-        process: Process {
-            ledger: Ledger::new(alloc),
-            root: Text::new(alloc),
-            caller: 1,
-        },
+        process: Process::new(alloc, Text::new(alloc), 1),
     })
 }
 
