@@ -7,8 +7,11 @@
 
 mod objects;
 
+ghost use Rattle.fail_delay.specs.DelayFn.{GivesOneNumber};
+
 use crate::objects::{Files, Replies, Time, objects_of};
 use command_line::{arguments, exit_status};
+use fail_delay::DelayRule;
 use mod_basic::conv_port::{Conv, QueueConv, TermConv, WireConv};
 use mod_basic::pam_room::{Module, Process, World};
 use mod_basic::{Debug, Deny, Permit, Probe, Rootok};
@@ -43,6 +46,15 @@ fn main(rt: HostRuntime) -> ExitCode {
 // wait after SUCCESS. It gets no arguments if one of them isn't UTF-8.
 fn run(rt: HostRuntime) -> io::Result<u8> {
     let alloc = rt.alloc();
+    let wait = |code: Code, asked: u32| -> u32 {
+        if code == Code::Success {
+            0
+        } else {
+            asked.min(LONGEST_WAIT)
+        }
+    };
+    let delay: DelayRule = Box::new(alloc, wait)?;
+    returns_one_number(&delay);
     let words = arguments(&rt)?.unwrap_or(Vec::new(alloc));
     let objects = objects_of(&words);
     let mut mods: Vec<Box<dyn Module>> = Vec::new(alloc);
@@ -82,14 +94,6 @@ fn run(rt: HostRuntime) -> io::Result<u8> {
         };
         convs.push(conv)?;
     }
-    let wait = |code: Code, asked: u32| -> u32 {
-        if code == Code::Success {
-            0
-        } else {
-            asked.min(LONGEST_WAIT)
-        }
-    };
-    let delay: Box<dyn Fn(Code, u32) -> u32> = Box::new(alloc, wait)?;
     let mut world = World {
         vault,
         clock,
@@ -106,3 +110,9 @@ fn run(rt: HostRuntime) -> io::Result<u8> {
     };
     Ok(pamsess(alloc, &words, &mut script, &mut out, &mut world, desk))
 }
+
+// Passes on that a delay function returns one number for each code and request.
+fn returns_one_number(_delay: &DelayRule)
+    requires { GivesOneNumber (⟦<DelayRule as Fn(Code, u32) -> u32>⟧.post _delay.now) }
+    ensures { GivesOneNumber (⟦<DelayRule as Fn(Code, u32) -> u32>⟧.post _delay.now) }
+{}
