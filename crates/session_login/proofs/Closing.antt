@@ -94,14 +94,14 @@ module _ (setting : Setting) (service : List ℕ) (user : Option (List ℕ)) whe
   last_is_end : (s : RunState) (xs : List Made) (m : Made) → state_behind s (xs ++ m ∷ []) ≡ m.state
   last_is_end s xs m = behind-append s xs (m ∷ [])
 
-  settled_closed : (s : RunState) (xs : List Made) (code : Code) (t : RunState)
+  login_closed : (s : RunState) (xs : List Made) (code : Code) (t : RunState)
       → is_open_at (slot_at (state_behind s (xs ++ make setting (end_call code) t ∷ [])).slots 1) ≡ false
-  settled_closed s xs code t = rw (last_is_end s xs (make setting (end_call code) t)) (closed_by_end setting.players setting.delay (number_of code) t.slots t.world)
+  login_closed s xs code t = rw (last_is_end s xs (make setting (end_call code) t)) (closed_by_end setting.players setting.delay (number_of code) t.slots t.world)
 
   by_refusal : (s : RunState) (start : Made) (b : Bool) → (b ≡ true → is_open_at (slot_at start.state.slots 1) ≡ false)
       → is_open_at (slot_at (state_behind s (login_behind setting start b).made).slots 1) ≡ false
   by_refusal s start true shut = shut refl
-  by_refusal s start false shut = let c = course setting login_calls Success start.state in settled_closed start.state c.made (end_code c.denied) (state_behind start.state c.made)
+  by_refusal s start false shut = let c = course setting login_calls Success start.state in login_closed start.state c.made (end_code c.denied) (state_behind start.state c.made)
 
   pub login_closes : (s : RunState) → NoneIsOpen s.slots → is_open_at (slot_at (state_behind s (login_of setting service user s).made).slots 1) ≡ false
   login_closes s none = by_refusal s (make setting (calls.Start service user) s) (is_refused (make setting (calls.Start service user) s).answer) (refused_start s.slots s.world none)

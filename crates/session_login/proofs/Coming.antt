@@ -15,7 +15,7 @@ use Rattle.session_run.specs.State.{Setting, RunState}
 use Rattle.session_login.specs.declared.attempt.Verdict.{Verdict}
 use Rattle.session_login.specs.declared.attempt.Verdict.TheVariants.{Passed, Denied, Refused}
 use Rattle.session_login.specs.Ends.{closing_code}
-use Rattle.session_login.specs.Login.{Course, Login, Made, behind_calls, denied_line, end_call, last_line, lines_of_calls, logging_in, login_behind, login_of, make, settled, settling, state_behind, verdict_by}
+use Rattle.session_login.specs.Login.{Course, Login, Made, behind_calls, denied_line, end_call, last_line, lines_of_calls, logging_in, login_behind, login_by_course, login_end, login_of, make, state_behind, verdict_by}
 use Rattle.session_login.specs.Told.{LogsInThen, LoginLeads, MakesCalls, MakesCourse, CallsLead, LogsIn, Makes, WritesDenial, as_it_is, ended_for}
 use Rattle.session_login.proofs.Closing.{end_of_closed, login_closes}
 use Rattle.session_login.proofs.Following.{Went, all_went, behind-append, goes_stopped, written_behind}
@@ -77,51 +77,51 @@ module _ (setting : Setting) where
 
   -- ---- the end
 
-  module _ (denied : Option Code) (answer : Answer) (s t : RunState) (p q : SinkState) (g : MakesCalls {T = Answer} setting ((settling setting denied s).made) (Ok answer) s t p q) where
-    end_made : Went setting ((settling setting denied s).made) s t p q
-    end_made = all_went setting ((settling setting denied s).made) answer s t p q g
+  module _ (denied : Option Code) (answer : Answer) (s t : RunState) (p q : SinkState) (g : MakesCalls {T = Answer} setting ((login_end setting denied s).made) (Ok answer) s t p q) where
+    end_made : Went setting ((login_end setting denied s).made) s t p q
+    end_made = all_went setting ((login_end setting denied s).made) answer s t p q g
 
     -- nothing is written after it
-    pub settles_passed : denied ≡ None → LogsInThen setting as_it_is (settling setting denied s) (Ok Passed) s t p q
-    settles_passed none = record {
-      whole = (settling setting denied s).made;
+    pub ends_passed : denied ≡ None → LogsInThen setting as_it_is (login_end setting denied s) (Ok Passed) s t p q
+    ends_passed none = record {
+      whole = (login_end setting denied s).made;
       others = [];
-      among = sym (append-nil ((settling setting denied s).made));
+      among = sym (append-nil ((login_end setting denied s).made));
       part = [];
-      written = rw (append-nil (lines_of_calls ((settling setting denied s).made))) end_made.written;
+      written = rw (append-nil (lines_of_calls ((login_end setting denied s).made))) end_made.written;
       to = (refl, refl, sym (ap verdict_by none), end_made.at);
     }
 
     -- a last line is written
     module _ (code : Code) (some : denied ≡ Some code) (r : SinkState) where
       denied_to : (result : Result Verdict Stop) → IfOk result (λ (verdict : Verdict). verdict ≡ Denied code) → (d : WritesDenial code result q r)
-          → LoginLeads setting as_it_is (settling setting denied s) result s t ((settling setting denied s).made) [] d.part
+          → LoginLeads setting as_it_is (login_end setting denied s) result s t ((login_end setting denied s).made) [] d.part
       denied_to (Ok verdict) is d = (refl, d.to ∙ ap last_line (sym is), is ∙ sym (ap verdict_by some), end_made.at)
       denied_to (Err stop) is d = (code, ap verdict_by some, d.to, end_made.at)
 
-      pub settles_denied : (result : Result Verdict Stop) → IfOk result (λ (verdict : Verdict). verdict ≡ Denied code) → WritesDenial code result q r
-          → LogsInThen setting as_it_is (settling setting denied s) result s t p r
-      settles_denied result is d = record {
-        whole = (settling setting denied s).made;
+      pub ends_denied : (result : Result Verdict Stop) → IfOk result (λ (verdict : Verdict). verdict ≡ Denied code) → WritesDenial code result q r
+          → LogsInThen setting as_it_is (login_end setting denied s) result s t p r
+      ends_denied result is d = record {
+        whole = (login_end setting denied s).made;
         others = [];
-        among = sym (append-nil ((settling setting denied s).made));
+        among = sym (append-nil ((login_end setting denied s).made));
         part = d.part;
-        written = d.written ∙ ap (λ (x : List ℕ). x ++ d.part) end_made.written ∙ append_assoc p.written (lines_of_calls ((settling setting denied s).made)) d.part;
+        written = d.written ∙ ap (λ (x : List ℕ). x ++ d.part) end_made.written ∙ append_assoc p.written (lines_of_calls ((login_end setting denied s).made)) d.part;
         to = denied_to result is d;
       }
 
   -- ---- the calls, and then the end
 
   pub logs_stopped : (s t : RunState) (c : Course) (stop : Stop) (p q : SinkState) → MakesCourse setting c (Err stop) s t p q
-      → LogsInThen setting as_it_is (settled setting s c) (Err stop) s t p q
-  logs_stopped s t c stop p q r = comes_stopped (Option Code) (settled setting s c) stop s t p q (goes_stopped setting (Option Code) (Option Code) stop c.made (settling setting c.denied (state_behind s c.made)).made s t p q r.goes)
+      → LogsInThen setting as_it_is (login_by_course setting s c) (Err stop) s t p q
+  logs_stopped s t c stop p q r = comes_stopped (Option Code) (login_by_course setting s c) stop s t p q (goes_stopped setting (Option Code) (Option Code) stop c.made (login_end setting c.denied (state_behind s c.made)).made s t p q r.goes)
 
   pub logs_on : (s m t : RunState) (c : Course) (denied : Option Code) (result : Result Verdict Stop) (p q r : SinkState)
       → MakesCourse setting c (Ok denied) s m p q
-      → LogsInThen setting as_it_is (settling setting denied m) result m t q r → LogsInThen setting as_it_is (settled setting s c) result s t p r
+      → LogsInThen setting as_it_is (login_end setting denied m) result m t q r → LogsInThen setting as_it_is (login_by_course setting s c) result s t p r
   logs_on s m t c denied result p q r runs comes =
       let w = all_went setting c.made denied s m p q runs.goes in
-      comes_behind c.made denied (settling setting c.denied (state_behind s c.made)) result s m t p q r runs.goes (rw (← runs.denies, ← w.at) comes)
+      comes_behind c.made denied (login_end setting c.denied (state_behind s c.made)) result s m t p q r runs.goes (rw (← runs.denies, ← w.at) comes)
 
   -- ---- the whole
 

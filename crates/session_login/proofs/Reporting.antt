@@ -19,7 +19,7 @@ use Rattle.session_login.specs.declared.attempt.Verdict.TheVariants.{Passed, Ref
 use Rattle.session_login.specs.declared.calls.LoginCall.{LoginCall}
 use Rattle.session_login.specs.Calls.{accepts, call_of, code_in, is_due, login_calls}
 use Rattle.session_login.specs.Login.{answer_line, end_call, end_code, last_line, verdict_by}
-use Rattle.session_login.specs.Reported.{IsResult, Reporting, Reports, SaysBehind, SaysCalls, SaysCourse, SaysDenial, SaysLogin, SaysMade, SaysOthers, SaysResult, SaysSettled, SaysTurn}
+use Rattle.session_login.specs.Reported.{IsResult, Reporting, Reports, SaysBehind, SaysCalls, SaysCourse, SaysDenial, SaysLastLines, SaysLogin, SaysMade, SaysOthers, SaysResult, SaysTurn}
 
 -- ---- one text
 
@@ -159,26 +159,26 @@ module _ (all : List LoginCall) (c : LoginCall) (calls : List LoginCall) (last :
 -- ---- the end
 
 module _ (denied : Option Code) (call : AppCall) (is : call ≡ end_call (end_code denied)) where
-  settled : (verdict : Verdict) (answer : Answer) (text last : List ℕ) → verdict ≡ verdict_by denied → last ≡ last_line verdict → SaysResult call answer text
-      → SaysSettled denied verdict (text ++ last)
-  settled verdict answer text last verdict_is last_is says =
+  says_last_lines : (verdict : Verdict) (answer : Answer) (text last : List ℕ) → verdict ≡ verdict_by denied → last ≡ last_line verdict → SaysResult call answer text
+      → SaysLastLines denied verdict (text ++ last)
+  says_last_lines verdict answer text last verdict_is last_is says =
       let mine : SaysResult (end_call (end_code denied)) answer text = subst (λ (x : AppCall). SaysResult x answer text) is says in
       record { verdict_is = verdict_is; answer = answer; can = mine.0; text_is = ap (λ (x : List ℕ). x ++ last) mine.1 ∙ ap (λ (x : List ℕ). answer_line (end_call (end_code denied)) answer ++ x) last_is }
 
   pub said_end_stopped : (stop : Stop) (p q : SinkState) → Reports {T = Answer} (SaysResult call) (Err stop) p q
-      → Reports {T = Verdict} (SaysSettled denied) (Err stop) p q
-  said_end_stopped stop p q r = reports_stop (SaysResult call) (SaysSettled denied) stop p q r (λ answer text says.
-      (verdict_by denied, last_line (verdict_by denied), settled (verdict_by denied) answer text (last_line (verdict_by denied)) refl refl says))
+      → Reports {T = Verdict} (SaysLastLines denied) (Err stop) p q
+  said_end_stopped stop p q r = reports_stop (SaysResult call) (SaysLastLines denied) stop p q r (λ answer text says.
+      (verdict_by denied, last_line (verdict_by denied), says_last_lines (verdict_by denied) answer text (last_line (verdict_by denied)) refl refl says))
 
   pub said_passed : (answer : Answer) (p q : SinkState) → denied ≡ None → Reports {T = Answer} (SaysResult call) (Ok answer) p q
-      → Reports {T = Verdict} (SaysSettled denied) (Ok Passed) p q
-  said_passed answer p q none r = reports_as (SaysResult call) (SaysSettled denied) answer Passed p q r (λ text says.
-      subst (SaysSettled denied Passed) (append-nil text) (settled Passed answer text [] (sym (ap verdict_by none)) refl says))
+      → Reports {T = Verdict} (SaysLastLines denied) (Ok Passed) p q
+  said_passed answer p q none r = reports_as (SaysResult call) (SaysLastLines denied) answer Passed p q r (λ text says.
+      subst (SaysLastLines denied Passed) (append-nil text) (says_last_lines Passed answer text [] (sym (ap verdict_by none)) refl says))
 
   pub said_denial : (code : Code) → denied ≡ Some code → (answer : Answer) (result : Result Verdict Stop) (p q r : SinkState)
-      → Reports {T = Answer} (SaysResult call) (Ok answer) p q → Reports {T = Verdict} (SaysDenial code) result q r → Reports {T = Verdict} (SaysSettled denied) result p r
-  said_denial code some answer result p q r a b = reports_then (SaysResult call) (SaysDenial code) (SaysSettled denied) answer result p q r a b (λ verdict text last says is_last.
-      settled verdict answer text last (is_last.0 ∙ sym (ap verdict_by some)) (is_last.1 ∙ ap last_line (sym is_last.0)) says)
+      → Reports {T = Answer} (SaysResult call) (Ok answer) p q → Reports {T = Verdict} (SaysDenial code) result q r → Reports {T = Verdict} (SaysLastLines denied) result p r
+  said_denial code some answer result p q r a b = reports_then (SaysResult call) (SaysDenial code) (SaysLastLines denied) answer result p q r a b (λ verdict text last says is_last.
+      says_last_lines verdict answer text last (is_last.0 ∙ sym (ap verdict_by some)) (is_last.1 ∙ ap last_line (sym is_last.0)) says)
 
 -- ---- the whole
 
@@ -193,7 +193,7 @@ with_end denied lines course =
         end = answer_line end BadNumber ++ last_line (verdict_by denied);
         text_is = refl;
         course = course;
-        settled = record { verdict_is = refl; answer = BadNumber; can = (None, refl); text_is = refl };
+        last_lines = record { verdict_is = refl; answer = BadNumber; can = (None, refl); text_is = refl };
       },
     )
 
@@ -202,9 +202,9 @@ pub said_course_stopped : (stop : Stop) (p q : SinkState) → Reports {T = Optio
 said_course_stopped stop p q r = reports_stop (SaysCourse login_calls Success) SaysCalls stop p q r with_end
 
 pub said_calls : (denied : Option Code) (result : Result Verdict Stop) (p q r : SinkState) → Reports {T = Option Code} (SaysCourse login_calls Success) (Ok denied) p q
-    → Reports {T = Verdict} (SaysSettled denied) result q r → Reports {T = Verdict} SaysCalls result p r
-said_calls denied result p q r a b = reports_then (SaysCourse login_calls Success) (SaysSettled denied) SaysCalls denied result p q r a b (λ verdict lines end course settled.
-    record { denied = denied; lines = lines; end = end; text_is = refl; course = course; settled = settled })
+    → Reports {T = Verdict} (SaysLastLines denied) result q r → Reports {T = Verdict} SaysCalls result p r
+said_calls denied result p q r a b = reports_then (SaysCourse login_calls Success) (SaysLastLines denied) SaysCalls denied result p q r a b (λ verdict lines end course last_lines.
+    record { denied = denied; lines = lines; end = end; text_is = refl; course = course; last_lines = last_lines })
 
 some_calls : (verdict : Verdict) × (text : List ℕ) × SaysCalls verdict text
 some_calls = let c = some_course login_calls Success in let w = with_end c.0 c.1 c.2 in (w.0, c.1 ++ w.1, w.2)

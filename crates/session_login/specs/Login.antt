@@ -97,8 +97,8 @@ end_code (Some code) = code
 abbrev pub end_call : Code → AppCall
 end_call code = End (number_of code)
 
-abbrev pub settling : Setting → Option Code → RunState → Login
-settling setting denied s = record {
+abbrev pub login_end : Setting → Option Code → RunState → Login
+login_end setting denied s = record {
   made = make setting (end_call (end_code denied)) s ∷ [];
   verdict = verdict_by denied;
 }
@@ -107,11 +107,12 @@ settling setting denied s = record {
 abbrev pub behind_calls : List Made → Login → Login
 behind_calls made l = record { made = made ++ l.made; verdict = l.verdict }
 
-abbrev pub settled : Setting → RunState → Course → Login
-settled setting s c = behind_calls c.made (settling setting c.denied (state_behind s c.made))
+-- the calls of a course, and then the end
+abbrev pub login_by_course : Setting → RunState → Course → Login
+login_by_course setting s c = behind_calls c.made (login_end setting c.denied (state_behind s c.made))
 
 abbrev pub logging_in : Setting → RunState → Login
-logging_in setting s = settled setting s (course setting login_calls Success s)
+logging_in setting s = login_by_course setting s (course setting login_calls Success s)
 
 -- after a start that was refused nothing more is done
 abbrev pub login_behind : Setting → Made → Bool → Login

@@ -59,7 +59,7 @@ SaysCourse (c ∷ calls) last denied text =
 -- ---- the whole login
 
 -- the line of the end, which has the status SUCCESS or the code that denied, and a last line if one did
-pub record SaysSettled (denied : Option Code) (verdict : Verdict) (text : List ℕ) : Type 0 where
+pub record SaysLastLines (denied : Option Code) (verdict : Verdict) (text : List ℕ) : Type 0 where
   pub verdict_is : verdict ≡ verdict_by denied
   pub answer : Answer
   pub can : IsResult (end_call (end_code denied)) answer
@@ -76,7 +76,7 @@ pub record SaysCalls (verdict : Verdict) (text : List ℕ) : Type 0 where
   pub end : List ℕ
   pub text_is : text ≡ lines ++ end
   pub course : SaysCourse login_calls Success denied lines
-  pub settled : SaysSettled denied verdict end
+  pub last_lines : SaysLastLines denied verdict end
 
 -- after a start that is refused nothing follows
 abbrev pub SaysBehind : Bool → Verdict → List ℕ → Type 0

@@ -8,8 +8,8 @@ ghost use Rattle.session_run.specs.pam_library.specs.Slots.{slot_at};
 ghost use Rattle.record_reader.specs.Turns.{has_write_fault};
 ghost use Rattle.session_run.specs.Seen.{AllTell, IsSoundIn, NoneIsOpenIn, Went, setting_in, state};
 ghost use Rattle.session_login.specs.Ends.{IsDenial, IsEndOfLogin, IsEndWith, closing_code};
-ghost use Rattle.session_login.specs.Login.{denied_line, end_call, end_code, logging_in, login_of, make, settling, verdict_by};
-ghost use Rattle.session_login.specs.Reported.{Reports, SaysCalls, SaysDenial, SaysLogin, SaysSettled};
+ghost use Rattle.session_login.specs.Login.{denied_line, end_call, end_code, logging_in, login_end, login_of, make, verdict_by};
+ghost use Rattle.session_login.specs.Reported.{Reports, SaysCalls, SaysDenial, SaysLastLines, SaysLogin};
 ghost use Rattle.session_login.specs.Told.{LogsInThen, LogsIn, SaysEnd, SaysVerdict, WritesLines, WritesDenial, as_it_is};
 
 use crate::calls::LOGIN_CALLS;
@@ -219,7 +219,8 @@ fn final_verdict<K: Sink>(
         (seen library.old world.old).gives delay → AllTell (seen library.old world.old) →
         IsTrue (K.sink_tells out.old) →
         (let setting = setting_in (seen library.old world.old) delay in
-        LogsInThen setting as_it_is (settling setting denied (state (seen library.old world.old))) result
+        LogsInThen setting as_it_is
+        (login_end setting denied (state (seen library.old world.old))) result
         (state (seen library.old world.old)) (state (seen library.new world.new))
         (K.sink_holds out.old) (K.sink_holds out.new)) }
     ensures verdict { IfOk result (λ verdict. verdict ≡ verdict_by denied) }
@@ -231,7 +232,7 @@ fn final_verdict<K: Sink>(
     ensures shows { IsTrue (K.sink_tells out.old) →
         WritesLines SaysEnd result (K.sink_holds out.old) (K.sink_holds out.new) }
     ensures reports { IsTrue (K.sink_tells out.old) →
-        Reports (SaysSettled denied) result (K.sink_holds out.old) (K.sink_holds out.new) }
+        Reports (SaysLastLines denied) result (K.sink_holds out.old) (K.sink_holds out.new) }
     ensures faults { RisesIf (has_write_fault result) (K.sink_faults out.old)
         (K.sink_faults out.new) }
 {

@@ -1,7 +1,7 @@
 use Rattle.std.proofs.Common.{ap, ◌∙◌}
 use Rattle.session_run.specs.pam_library.specs.declared.outcome.Answer.{Answer}
 use Rattle.session_login.specs.Login.{end_call}
-use Rattle.session_login.proofs.Coming.{comes_stopped, made_as, settles_denied}
+use Rattle.session_login.proofs.Coming.{comes_stopped, ends_denied, made_as}
 use Rattle.session_run.proofs.Going.{went_so}
 use Rattle.session_login.proofs.Proceeding.{end_ends_as}
 use Rattle.session_login.proofs.Showing.{end_said, shows_then}
@@ -14,7 +14,7 @@ returns-in-Err-clause-told g c = λ delay is told sink.
 
 pub returns-clause-told : goal.returns-clause-told
 returns-clause-told g c = λ delay is told sink.
-    settles_denied _ c.args.denied c.in-Ok.field-0 _ _ _ _ (made_as _ _ _ (c.end_call.ensures ∙ ap end_call c.end_code.ensures) _ _ _ _ _ (c.in-Ok.ensures.told delay is told sink)).goes
+    ends_denied _ c.args.denied c.in-Ok.field-0 _ _ _ _ (made_as _ _ _ (c.end_call.ensures ∙ ap end_call c.end_code.ensures) _ _ _ _ _ (c.in-Ok.ensures.told delay is told sink)).goes
     c.in-Some.code c.in-Some.is _ _ c.deny.ensures.verdict (c.deny.ensures.told (c.make.ensures.sink_tells ∙ sink))
 
 pub returns-in-Err-clause-went : goal.returns-in-Err-clause-went
