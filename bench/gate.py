@@ -13,6 +13,7 @@ out.
   bench/gate.py --load FILE..
       the table of figures that were kept; of a share that several have, the largest counts
 """
+import functools
 import json
 import os
 import shutil
@@ -25,8 +26,8 @@ TOP = os.path.dirname(os.path.dirname(os.path.abspath(__file__)))
 TICKS = os.sysconf("SC_CLK_TCK")
 SHARES = ("proof", "tests", "edits")
 BEYOND = "beyond"
-# The processor minutes that all crates may take, and those by the clock on two processors.
-BUDGET, CLOCK = 230, 100
+# The processor minutes that all crates may take, and the minutes that the longest chain of crates may take by the clock on two processors.
+BUDGET, CHAIN = 230, 100
 
 
 def processes():
@@ -143,15 +144,26 @@ def measure(run, save):
     costs = costs_of(shares, seconds)
     keep(costs, save)
     print("\n".join(table(costs)))
-    print(f"By the clock: {(time.monotonic() - began) / 60:.0f} minutes, on {len(os.sched_getaffinity(0))} processors; on two it has {CLOCK}.")
+    print(f"By the clock: {(time.monotonic() - began) / 60:.0f} minutes, on {len(os.sched_getaffinity(0))} processors.")
     return run.returncode
 
 
-def in_order(costs):
-    with open(f"{TOP}/crates.txt", encoding="utf-8") as file:
-        listed = [line.partition("#")[0].partition(":")[0].split() for line in file]
-    names = [words[0] for words in listed if words]
-    return [name for name in names if name in costs]
+def listed():
+    """The crates of crates.txt in its order, and those that each depends on directly."""
+    lines = (line.partition("#")[0].partition(":") for line in text_of(f"{TOP}/crates.txt").splitlines())
+    return {name.split()[0]: below.split() for name, _, below in lines if name.strip()}
+
+
+def longest_chain(costs):
+    """The chain of crates, each of which depends on the one before it, whose proofs take longest, and their seconds."""
+    below = listed()
+
+    @functools.lru_cache(maxsize=None)
+    def chain(name):
+        seconds, names = max((chain(one) for one in below[name] if one in below), default=(0, ()))
+        return seconds + costs.get(name, {}).get("proof", 0), (*names, name)
+
+    return max(map(chain, below))
 
 
 def table(costs):
@@ -160,11 +172,13 @@ def table(costs):
     total = {kind: sum(it.get(kind, 0) for it in costs.values()) for kind in (*SHARES, BEYOND)}
     yield "| Crate | Proof | Tests | Mutants | Sum |" + (" Beyond |" if BEYOND in kinds else "")
     yield "|---|--:|--:|--:|--:|" + ("--:|" if BEYOND in kinds else "")
-    for name, shares in [*((name, costs[name]) for name in in_order(costs)), ("all", total)]:
+    for name, shares in [*((name, costs[name]) for name in listed() if name in costs), ("all", total)]:
         cells = [*(shares[kind] for kind in SHARES), sum(shares[kind] for kind in SHARES), *(shares.get(kind, 0) for kind in kinds[len(SHARES) :])]
         yield f"| {name} | " + " | ".join(f"{it:.0f}" for it in cells) + " |"
     parts = ", ".join(f"{total[kind] / 60:.0f} of {name}" for kind, name in zip(SHARES, ("proofs", "tests", "mutants")))
     yield f"\nIn processor minutes: {sum(total[kind] for kind in SHARES) / 60:.0f} of {BUDGET} ({parts})."
+    seconds, names = longest_chain(costs)
+    yield f"Longest chain of proofs: {seconds / 60:.0f} processor minutes ({', '.join(names)}). It may take {CHAIN} by the clock on two processors."
     if BEYOND in kinds:
         yield f"Mutants beyond the gate: {total[BEYOND] / 60:.0f} more."
 
