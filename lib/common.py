@@ -48,13 +48,15 @@ def asks_for_help(words):
     return words[:1] in (["--help"], ["-h"])
 
 
-def program(script, crate="pam_session_cli", name="pamsess", variable="PAMSESS"):
+def program(script, crate="pam_session_cli", name="pamsess", variable="PAMSESS", is_needed=True):
     """A program: the one that a variable names, that of this checkout, or the installed one; None, with a line that says so, if it
     isn't built."""
     built = f"{TOP}/crates/{crate}/out/{crate}" if os.path.isdir(f"{TOP}/crates") else f"{TOP}/{name}"
     for path in (os.environ.get(variable), built):
         if path and os.path.isfile(path) and os.access(path, os.X_OK):
             return os.path.abspath(path)
+    if not is_needed:
+        return None
     say(script, "the program isn't built: run ./build" if crate == "pam_session_cli" else f"the program isn't built: ./build {crate} builds it")
     return None
 
@@ -197,3 +199,9 @@ class Below:
             return self.read(path, most)
         except Unread:
             return ""
+
+
+def unquoted(text):
+    """A text that was printed as reports print it."""
+    raw = re.sub(rb"\\(?:x([0-9a-f]{2})|(\\))", lambda it: b"\\" if it[2] else bytes([int(it[1], 16)]), text.encode("latin-1", "replace"))
+    return os.fsdecode(raw)

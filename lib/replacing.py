@@ -144,6 +144,34 @@ class Replacing:
         return (f"{path} {taken}", f"itself, with {taken} of {name.lstrip('/')}") if taken else (None, "")
 
 
+# What stand-in writes before the name of a module that another one replaces.
+STANDS_FOR = re.compile(r"(?:\S+/)?(pam_debug|pam_pwhistory|pam_listfile|pam_probe|pam_missing)\.so")
+
+
+def original(path, arguments):
+    """The module that a rule had before stand-in replaced it, and how many of its arguments come before that name; None if it
+    wasn't replaced."""
+    if STANDS_FOR.fullmatch(path):
+        for at, word in enumerate(arguments):
+            if re.fullmatch(r"(\S*/)?pam_[A-Za-z0-9_-]+(\.so)?", word) and "=" not in word:
+                return word, at
+    return None
+
+
+def stood_for(rule, call):
+    """A rule of a trial tree as it is shown: the old module, with what is returned in its place."""
+    found = original(rule.path, rule.arguments)
+    if not found:
+        return rule.path, rule.arguments
+    own, rest = rule.arguments[: found[1]], rule.arguments[found[1] + 1 :]
+    module = services.module_of(rule.path)
+    if module == "pam_debug":
+        names = {"authenticate": "auth", "setcred": "cred", "acct_mgmt": "acct"}
+        code = {key: value for key, _, value in (it.partition("=") for it in own)}.get(names.get(call, call), "success")
+        return found[0], [f"(as {code.upper()})", *rest]
+    return found[0], ["(not here)" if module == "pam_missing" else f"(as {module})", *rest]
+
+
 def is_passwd(line):
     fields = line.split(":")
     return len(fields) == 7 and fields[0] != "" and all(is_id(field) for field in fields[2:4])

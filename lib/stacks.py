@@ -1,4 +1,5 @@
 """The stacks of a service, as `pamsess check` prints them, with file and line of each rule."""
+import os
 import re
 import subprocess
 
@@ -73,8 +74,8 @@ def stacks_of(program, root, service):
     """The four stacks of a service."""
     ran = subprocess.run([program, "check", root, service], capture_output=True, stdin=subprocess.DEVNULL, check=False)
     if ran.returncode:
-        raise Refusal(common.os.fsdecode(ran.stdout), ran.returncode)
-    return printed(common.os.fsdecode(ran.stdout))
+        raise Refusal(os.fsdecode(ran.stdout), ran.returncode)
+    return printed(os.fsdecode(ran.stdout))
 
 
 class Tree:
@@ -133,3 +134,9 @@ class Tree:
             for line, (path, number, _) in zip(lines, found):
                 line.file, line.line = path.lstrip("/"), number
         return is_others
+
+
+def located(program, root, service):
+    """The stacks of a service, with file and line of each rule, and the types whose stack is that of `other`."""
+    found, tree = stacks_of(program, root, service), Tree(common.Below(root))
+    return found, [kind for kind, nodes in found.items() if tree.locate(service.lower(), kind, nodes)]
