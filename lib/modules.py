@@ -1,6 +1,8 @@
 """What is known of modules, those that pamsess has and others: what they do, and in which directories they are."""
 import fnmatch
 
+import common
+
 # The modules that pamsess has.
 HERE_TOO = set("pam_permit pam_deny pam_debug pam_rootok pam_probe pam_nologin pam_listfile pam_shells pam_succeed_if pam_env pam_wheel pam_securetty pam_unix pam_pwhistory pam_faillock".split())
 # Modules that never refuse anybody: they set something up, or show something.
