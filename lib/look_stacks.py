@@ -96,7 +96,9 @@ def look_at_nobody(found, of, nodes, rules):
         if all(rule.module in silent | CONDITIONS for rule in rules):
             found.add(NOTE, denies.where(), "nobody passes this stack: pam_deny.so, as is usual for a service that is switched off", of)
             return
-    if denies and kind == "session":
+    if denies and kind == "password" and denies is rules[0]:
+        found.add(NOTE, denies.where(), "nobody passes this stack: pam_deny.so, as is usual for a service that changes no password", of)
+    elif denies and kind == "session":
         found.add(WARNING, denies.where(), "nobody passes this stack: pam_deny.so refuses every session", of)
     elif denies and who and rules.index(denies) < rules.index(who):
         found.add(WARNING, denies.where(), f"nobody passes this stack: pam_deny.so comes before {who.module}.so in {who.where()}", of)
