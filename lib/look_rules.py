@@ -167,7 +167,8 @@ def look_at_faillock(found, stacks, of):
 
 
 def look_at_path(found, rule, of):
-    if not rule.path.endswith(".so"):
+    if not rule.path.endswith(".so") and (rule.file, rule.path) not in found.paths:
+        found.paths.add((rule.file, rule.path))
         found.add(WARNING, rule.where(), f"the path {rule.path} doesn't end in .so: libpam finds no such module; pamsess takes it for {rule.module}", of)
 
 

@@ -119,7 +119,7 @@ def say_where(found, of, nodes, who):
     entry = f"success={action}"
     text = f"nobody passes this stack: even if {who.module}.so succeeds, "
     if to is None and action.isdigit():
-        # (what is said of its jump says it)
+        # (the finding about its jump names that)
         return
     if to is None or isinstance(to, list):
         found.add(WARNING, who.where(), text + "the stack doesn't", of)

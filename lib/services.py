@@ -73,3 +73,17 @@ def is_decisive(actions):
 def is_service(name):
     """Whether a file of this name can be a service's, or be included as one usually is."""
     return re.fullmatch(r"[A-Za-z0-9_.][A-Za-z0-9_.-]{0,63}", name) is not None and not LEFT.search(name)
+
+
+def as_written(control, actions):
+    """A control as it is shown: a keyword if it is short for the same, or else the codes that differ from the most usual action."""
+    if not control.startswith("["):
+        return control
+    for keyword in KEYWORDS:
+        if actions_of(keyword) == actions:
+            return keyword
+    counts = {}
+    for code in common.CODES:
+        counts[actions[code]] = counts.get(actions[code], 0) + 1
+    usual = max(counts, key=counts.get)
+    return "[" + "".join(f"{code}={actions[code]} " for code in common.CODES if actions[code] != usual) + f"default={usual}]"

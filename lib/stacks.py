@@ -27,19 +27,6 @@ class Line:
     def where(self):
         return f"{self.file}:{self.line}" if self.file else "(unknown)"
 
-    def written(self):
-        """The rule without its type, on one line; of a control with an entry for each code only what differs from the most usual action."""
-        return " ".join([short(self.control, self.actions), self.path, *self.arguments])
-
-
-def short(control, actions):
-    if not control.startswith("["):
-        return control
-    counts = {}
-    for code in common.CODES:
-        counts[actions[code]] = counts.get(actions[code], 0) + 1
-    usual = max(counts, key=counts.get)
-    return "[" + "".join(f"{code}={actions[code]} " for code in common.CODES if actions[code] != usual) + f"default={usual}]"
 
 
 def printed(text):
