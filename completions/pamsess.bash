@@ -1,66 +1,114 @@
 # Completion of pamsess and the scripts beside it for bash: commands, directories, the services and the users below ROOT.
 # To try it: . completions/pamsess.bash
+#
+# Names of services and users come from the files of a tree that may be anybody's. So none of them is expanded (as `compgen -W`
+# would do), none is a pattern of files, and each is offered as printf's %q quotes it.
 
-# The services of a root.
-_pamsess_services() {
-    local file
-    for file in "$1"/etc/pam.d/*; do
-        [ ! -f "$file" ] || printf '%s\n' "${file##*/}"
+# Sets `plain` to a word without its quotes. Nothing in it is expanded, except that a leading `~` means a home directory.
+_pamsess_plain() {
+    local rest=$1 quote= char
+    plain=
+    case $rest in
+        "~" | "~/"*) plain=$HOME rest=${rest#"~"} ;;
+    esac
+    while [ -n "$rest" ]; do
+        char=${rest:0:1} rest=${rest:1}
+        if [ "$char" = "\\" ] && [ "$quote" != "'" ]; then
+            plain+=${rest:0:1} rest=${rest:1}
+        elif [ "$char" = "$quote" ]; then
+            quote=
+        elif [ -z "$quote" ] && { [ "$char" = "'" ] || [ "$char" = '"' ]; }; then
+            quote=$char
+        else
+            plain+=$char
+        fi
     done
 }
 
-# The users of a root.
-_pamsess_users() {
-    [ ! -r "$1/etc/passwd" ] || cut -d: -f1 "$1/etc/passwd"
+# Adds a name to COMPREPLY if it begins with what was typed. Inside quotes only names that need none are offered.
+_pamsess_offer() {
+    local quoted
+    case $2 in
+        "$plain"*) ;;
+        *) return ;;
+    esac
+    printf -v quoted %q "$2"
+    case $1 in
+        \"* | \'* | \$*) [ "$quoted" = "$2" ] || return 0 ;;
+    esac
+    COMPREPLY+=("$quoted")
 }
 
-# What the argument of a kind may be, in COMPREPLY. The root is the second argument, as it was typed.
+# The services and the users of a root.
+_pamsess_services() {
+    local file
+    for file in "$1"/etc/pam.d/* "$1"/etc/pam.d/.[!.]*; do
+        [ ! -f "$file" ] || _pamsess_offer "$2" "${file##*/}"
+    done
+}
+
+_pamsess_users() {
+    local name rest
+    [ -f "$1/etc/passwd" ] && [ -r "$1/etc/passwd" ] || return 0
+    while IFS=: read -r name rest; do
+        [ -z "$name" ] || _pamsess_offer "$2" "$name"
+    done <"$1/etc/passwd"
+}
+
+# What the argument of a kind may be, in COMPREPLY. The root is an argument as it was typed.
 _pamsess_kind() {
-    local word=$1 kind=$2 root=$3 IFS=$'\n'
-    # (a leading `~` means a home directory)
-    case $root in
-        "~" | "~/"*) root=$HOME${root#"~"} ;;
-    esac
+    local word=$1 kind=$2 root plain each
+    _pamsess_plain "$3"
+    root=$plain
+    _pamsess_plain "$word"
+    COMPREPLY=()
     case $kind in
-        command) COMPREPLY=($(compgen -W $'run\ncheck\nlogin\ngenerate\ntally\naudit\nwire' -- "$word")) ;;
-        call) COMPREPLY=($(compgen -W $'authenticate\nacct_mgmt\nsetcred\nopen_session\nclose_session\nchauthtok' -- "$word")) ;;
+        command) for each in run check login generate tally audit wire; do _pamsess_offer "$word" "$each"; done ;;
+        call) for each in authenticate acct_mgmt setcred open_session close_session chauthtok; do _pamsess_offer "$word" "$each"; done ;;
         directory)
             compopt -o filenames 2>/dev/null
-            COMPREPLY=($(compgen -d -- "$word"))
+            while IFS= read -r each; do
+                COMPREPLY+=("$each")
+            done < <(compgen -d -- "$word")
             ;;
-        service) COMPREPLY=($(compgen -W "$(_pamsess_services "$root")" -- "$word")) ;;
-        user) COMPREPLY=($(compgen -W "$(_pamsess_users "$root")" -- "$word")) ;;
-        *) COMPREPLY=() ;;
+        service) _pamsess_services "$root" "$word" ;;
+        user) _pamsess_users "$root" "$word" ;;
     esac
 }
 
 _pamsess() {
-    local word=${COMP_WORDS[COMP_CWORD]} command=${COMP_WORDS[0]##*/} first=${COMP_WORDS[1]-} kinds number=$COMP_CWORD root
+    local word=${COMP_WORDS[COMP_CWORD]} command=${COMP_WORDS[0]##*/} first=${COMP_WORDS[1]-} number=$COMP_CWORD root
+    local -a kinds
     case $command in
-        pamsess-check-all) kinds="directory" ;;
+        pamsess-check-all) kinds=(directory) ;;
         pamsess-explain)
-            kinds="directory service"
+            kinds=(directory service)
             # (an option before ROOT)
-            [ "$first" != --html ] || kinds="option directory service"
+            [ "$first" != --html ] && [ "$first" != --json ] || kinds=(option directory service)
             ;;
-        pamsess-stand-in) kinds="directory directory user" ;;
-        pamsess-try) kinds="directory service user call call call call call call" ;;
+        pamsess-ways)
+            kinds=(directory service)
+            [ "$first" != --json ] || kinds=(option directory service)
+            [ "$first" != --compare ] || kinds=(option directory directory service)
+            ;;
+        pamsess-what-if) kinds=(directory service user) ;;
+        pamsess-stand-in) kinds=(directory directory user) ;;
+        pamsess-try) kinds=(directory service user call call call call call call) ;;
         *)
             case $first in
-                run | wire) kinds="command directory" ;;
-                check | audit) kinds="command directory service" ;;
-                login) kinds="command directory service user" ;;
-                tally) kinds="command directory user" ;;
-                *) kinds="command" ;;
+                run | wire) kinds=(command directory) ;;
+                check | audit) kinds=(command directory service) ;;
+                login) kinds=(command directory service user) ;;
+                tally) kinds=(command directory user) ;;
+                *) kinds=(command) ;;
             esac
             ;;
     esac
     root=${COMP_WORDS[1]-}
-    case ${kinds%% *} in
+    case ${kinds[0]} in
         command | option) root=${COMP_WORDS[2]-} ;;
     esac
-    set -- $kinds
-    _pamsess_kind "$word" "${!number-}" "$root"
+    _pamsess_kind "$word" "${kinds[number - 1]-}" "$root"
 }
 
-complete -F _pamsess pamsess pamsess-check-all pamsess-explain pamsess-stand-in pamsess-try
+complete -F _pamsess pamsess pamsess-check-all pamsess-explain pamsess-stand-in pamsess-try pamsess-ways pamsess-what-if

@@ -41,11 +41,14 @@ complete -c pamsess -n '__pamsess_at 2 check login audit' -a '(__pamsess_service
 complete -c pamsess -n '__pamsess_at 2 tally' -a '(__pamsess_users 2)'
 complete -c pamsess -n '__pamsess_at 3 login' -a '(__pamsess_users 2)'
 
-for name in check-all explain stand-in try
+for name in check-all explain stand-in try ways what-if
     complete -c pamsess-$name -f
     complete -c pamsess-$name -n '__pamsess_at 0' -a '(__fish_complete_directories)'
 end
-complete -c pamsess-try -n '__pamsess_at 1' -a '(__pamsess_services 1)'
+for name in try ways what-if
+    complete -c pamsess-$name -n '__pamsess_at 1' -a '(__pamsess_services 1)'
+end
+complete -c pamsess-what-if -n '__pamsess_at 2' -a '(__pamsess_users 1)'
 complete -c pamsess-explain -n '__pamsess_at 0' -l html -d 'write a page'
 complete -c pamsess-explain -n '__pamsess_at 1 --html' -a '(__fish_complete_directories)'
 complete -c pamsess-explain -n '__pamsess_at 2 --html' -a '(__pamsess_services 2)'
