@@ -24,6 +24,15 @@ void log_say(const pam_handle_t *handle, int priority, const char *who, const ch
     syslog(LOG_AUTHPRIV | priority, "%s(%s:%s): %s", who, handle->service, type, text);
 }
 
+void log_broken(struct wire *wire, const char *why)
+{
+    const pam_handle_t *handle = (const void *)((const char *)wire - offsetof(pam_handle_t, wire));
+
+    if (why != NULL && !wire->broken && handle->service[0] != '\0')
+        log_say(handle, LOG_ERR, "pamsess", "process", "%s", why);
+    wire->broken |= why != NULL;
+}
+
 static const char *item(pam_handle_t *handle, int number)
 {
     const void *value = NULL;
