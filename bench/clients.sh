@@ -1,23 +1,23 @@
 #!/bin/bash
-# Measures a login through the C library of clients/libpam beside the same through the system's libpam, in turns, in roots of
+# Measures a login through the C library of libpam beside the same through the system's libpam, in turns, in roots of
 # their own, and what memory an open transaction takes. With pam_permit also what is left of it if a program that only says yes
 # takes the server's place. `bench/clients.sh [TURNS]`; the program is crates/pam_service/out's, or the one that PAM_SERVICE
-# names. It wants root, gcc, and what clients/check downloads (run that first).
+# names. It wants root, gcc, and what tests/clients/check downloads (run that first).
 set -eu
 cd "$(dirname "$0")/.."
 turns=${1:-10}
 cache=${CLIENTS_CACHE:-${XDG_CACHE_HOME:-$HOME/.cache}/pamsess-clients}
 server=${PAM_SERVICE:-crates/pam_service/out/pam_service}
-[ -e "$cache/complete" ] && [ -x "$server" ] || { echo "bench/clients.sh: run clients/check first, with $server built" >&2; exit 1; }
+[ -e "$cache/complete" ] && [ -x "$server" ] || { echo "bench/clients.sh: run tests/clients/check first, with $server built" >&2; exit 1; }
 work=$(mktemp -d)
 trap 'rm -rf "$work"' EXIT
 headers=-I$cache/sys/usr/include
-make -s -C clients/libpam OUT="$work/libpam.so.0" CPPFLAGS="$headers"
+make -s -C libpam OUT="$work/libpam.so.0" CPPFLAGS="$headers"
 gcc -O2 -Wall -Wextra $headers -o "$work/clients" bench/clients.c "$work/libpam.so.0"
 gcc -O2 -Wall -Wextra -o "$work/yes" bench/yes.c
 
 run() { # LIBRARY SERVER WORD..
-    BRING="$work/clients" clients/tests/room "$cache/sys" "$1" "$2" /brought/clients "${@:3}"
+    BRING="$work/clients" tests/clients/room "$cache/sys" "$1" "$2" /brought/clients "${@:3}"
 }
 # Prints `SERVICE WHOSE LEAST MEDIAN` for each turn.
 time_logins() { # SERVICE WHOSE LIBRARY SERVER

@@ -6,7 +6,7 @@ out.
   bench/gate.py [--anew] [--beyond] [--save FILE]
       --anew     nothing is taken from earlier runs on this machine, also if the toolchain's `rt ci` keeps what it has proved; only what
                  this run proves and tries is counted
-      --beyond   the mutants of audit/edits are tried beside those of CI, in a copy of the checkout, and counted apart
+      --beyond   the mutants of tests/mutants are tried beside those of CI, in a copy of the checkout, and counted apart
       --save     keeps the figures
   bench/gate.py --watch PROCESS [--save FILE]
       measures an `rt ci` that was begun elsewhere, or what runs it (.ci/run), or a ./build, from now to its end
@@ -77,16 +77,16 @@ def share_of(process):
     room = os.readlink(f"/proc/{process}/cwd")
     if not os.path.basename(room).startswith("rt-edit-"):
         return crate, "tests" if "--test" in words else "proof"
-    folder = f"{TOP}/audit/edits/{crate}"
+    folder = f"{TOP}/tests/mutants/{crate}"
     further = [f"{folder}/{name}" for name in os.listdir(folder)] if os.path.isdir(folder) else []
     return crate, BEYOND if any(is_edited(room, f"{TOP}/crates/{crate}", edit) for edit in further if edit.endswith(".edit")) else "edits"
 
 
 def lay_beside(room):
-    """A copy of the checkout, in which the mutants of audit/edits are put beside those of CI."""
+    """A copy of the checkout, in which the mutants of tests/mutants are put beside those of CI."""
     shutil.copytree(TOP, room, ignore=lambda at, names: {"out"} & set(names) | ({".git"} if at == TOP else set()), dirs_exist_ok=True)
     subprocess.run(["git", "init", "-q", room], check=True)
-    for at, _, names in os.walk(f"{TOP}/audit/edits"):
+    for at, _, names in os.walk(f"{TOP}/tests/mutants"):
         for name in names:
             folder = f"{room}/crates/{os.path.basename(at)}/must-fail"
             os.makedirs(folder, exist_ok=True)

@@ -1,0 +1,71 @@
+"""What ./build uses of the toolchain's own `rt` that none of its commands does: one crate's proof over what the crates below it state, kept.
+
+These are private parts of `rt`, so another version of it is refused.
+"""
+import importlib.machinery
+import importlib.util
+import os
+import shutil
+import subprocess
+import sys
+
+# The last words of `rt version` for which this was written.
+LOGIC = "logic dac8208d650f15bf"
+
+
+def loaded():
+    """`rt` as a module, set up as in a run of `rt ci`."""
+    version = subprocess.run(["rt", "version"], capture_output=True, text=True, check=False).stdout.strip()
+    if not version.endswith(LOGIC):
+        sys.exit(f"build: this toolchain is `{version}`, and lib/toolchain.py was written for `{LOGIC}`: use that one, or `rt ci`")
+    sys.dont_write_bytecode = True
+    loader = importlib.machinery.SourceFileLoader("rt", os.path.realpath(shutil.which("rt")))
+    rt = importlib.util.module_from_spec(importlib.util.spec_from_loader("rt", loader))
+    sys.modules["rt"] = rt
+    loader.exec_module(rt)
+    rt.rtlib.stop = rt.stop
+    rt.Crate.cuts_libraries = True
+    rt.Crate.allowed = rt.handles_of(os.getcwd())
+    rt.rtlib.Crate = rt.Crate
+    rt.rtlib.guarded()
+    return rt
+
+
+class Crate:
+    """A crate of the repository at `top`, whose crates below are built."""
+
+    def __init__(self, top, name):
+        self.rt = loaded()
+        by = self.rt.Crate.compile_by
+        # (a program is built by LLVM alone: that a second compiler agrees is for CI to see)
+        self.rt.Crate.compile_by = lambda crate, backend, words, to: by(crate, backend, words, to) if backend == "llvm" else 0
+        self.crate = next(it for it in self.rt.rtlib.crates_below(top) if it.name == name)
+        os.makedirs(f"{self.crate.folder}/out", exist_ok=True)
+
+    def prove(self, jobs):
+        """Proves it, and builds it if it is a program; or takes what an `rt ci` on this machine has made of the same files."""
+        if self.is_taken_over():
+            print(f"{self.crate.name} is kept from an rt ci of the same files", flush=True)
+            return 0
+        return self.crate.ci(["--jobs", jobs], False)
+
+    def is_taken_over(self):
+        if not hasattr(self.rt, "Kept"):
+            return False
+        kept = self.rt.Kept([*self.crate.below(), self.crate])
+        for one in self.crate.below():
+            kept.is_built(one)
+        return kept.give(self.crate, False, kept.key(self.crate))
+
+    def test(self, jobs):
+        is_well = not self.crate.has_tests() or not self.crate.ci(["--jobs", jobs], True) and self.rt.run(self.crate, True)
+        return 0 if is_well else 1
+
+    def try_mutants(self, jobs):
+        """Tries its mutants. The last line says how many of how many were refused."""
+        good, bad = self.rt.edits_of(self.crate)
+        tried = self.rt.must_fail_all(self.crate, good, ["--jobs", jobs])
+        for _, text in tried:
+            print(f"rt: {text}", flush=True)
+        print(f"{sum(well for well, _ in tried)} of {len(good) + len(bad)} refused", flush=True)
+        return 0 if not bad and all(well for well, _ in tried) else 1
