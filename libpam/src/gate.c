@@ -7,13 +7,17 @@
  * that decides or changes anything is passed on only if its sender has the user that the application had at pam_start, as its real,
  * effective or saved user, for which the kernel vouches (SCM_CREDENTIALS); if that isn't root, the group too. All others may ask for
  * items and variables, as su and sshd do, and the process that called pam_start may end its transaction.
+ *
+ * It is begun at each start, so it does without the C library, which takes twice as long to begin as the rest of it.
  */
 #define _GNU_SOURCE
 #include <poll.h>
 #include <stdbool.h>
-#include <string.h>
+#include <stddef.h>
+#include <stdint.h>
 #include <sys/prctl.h>
 #include <sys/socket.h>
+#include <sys/syscall.h>
 #include <unistd.h>
 
 enum { LONGEST = 582, MOST = 32 * LONGEST }; /* a frame, and all the replies of one exchange */
@@ -26,18 +30,50 @@ struct message {
     struct ucred sender; /* the user and the group are -1 if they aren't known */
 };
 
+/* A system call: its result, or the negative of an error. */
+static long call(long number, long a, long b, long c, long d, long e)
+{
+#if defined __x86_64__
+    long result;
+    register long fourth __asm__("r10") = d, fifth __asm__("r8") = e, sixth __asm__("r9") = 0;
+    __asm__ volatile("syscall" : "=a"(result) : "a"(number), "D"(a), "S"(b), "d"(c), "r"(fourth), "r"(fifth), "r"(sixth)
+        : "rcx", "r11", "memory");
+    return result;
+#elif defined __aarch64__
+    register long which __asm__("x8") = number, first __asm__("x0") = a, second __asm__("x1") = b, third __asm__("x2") = c;
+    register long fourth __asm__("x3") = d, fifth __asm__("x4") = e, sixth __asm__("x5") = 0;
+    __asm__ volatile("svc 0" : "+r"(first) : "r"(which), "r"(second), "r"(third), "r"(fourth), "r"(fifth), "r"(sixth) : "memory");
+    return first;
+#else
+#error "the system calls of this processor aren't known here"
+#endif
+}
+
+static void copy(void *to, const void *from, size_t size)
+{
+    unsigned char *at = to;
+    for (const unsigned char *source = from; size > 0; size--)
+        *at++ = *source++;
+}
+
+static void wipe(unsigned char *bytes, size_t size)
+{
+    for (volatile unsigned char *at = bytes; size > 0; size--)
+        *at++ = 0;
+}
+
 static bool receive(struct message *message)
 {
     union { char room[CMSG_SPACE(sizeof(struct ucred))]; struct cmsghdr align; } control;
     struct iovec part = { message->bytes, sizeof message->bytes };
     struct msghdr header = { .msg_iov = &part, .msg_iovlen = 1, .msg_control = control.room, .msg_controllen = sizeof control.room };
-    ssize_t got = recvmsg(0, &header, MSG_CMSG_CLOEXEC);
+    long got = call(SYS_recvmsg, 0, (long)&header, MSG_CMSG_CLOEXEC, 0, 0);
     const struct cmsghdr *first = got > 0 ? CMSG_FIRSTHDR(&header) : NULL;
 
     message->size = got > 0 ? (size_t)got : 0;
     message->sender = (struct ucred){ .pid = -1, .uid = (uid_t)-1, .gid = (gid_t)-1 };
     if (first != NULL && first->cmsg_level == SOL_SOCKET && first->cmsg_type == SCM_CREDENTIALS && (header.msg_flags & MSG_CTRUNC) == 0)
-        memcpy(&message->sender, CMSG_DATA(first), sizeof message->sender);
+        copy(&message->sender, CMSG_DATA(first), sizeof message->sender);
     return got > 0;
 }
 
@@ -60,24 +96,26 @@ static bool is_whole(const struct message *message)
 /* Answers in the process's place: PERM_DENIED. */
 static bool refuse(unsigned char kind)
 {
-    static const char *const names[] = { "start", "end", "authenticate", "setcred", "acct_mgmt", "open_session", "close_session",
+    static const char names[][16] = { "start", "end", "authenticate", "setcred", "acct_mgmt", "open_session", "close_session",
         "chauthtok", "set_item", "get_item", "putenv", "getenv", "envlist", "fail_delay", "delay" };
-    char answer[64] = { 0 };
+    static const char code[] = " PERM_DENIED 6\n";
+    static unsigned char answer[64] = { [8] = '1', [9] = ' ' };
+    size_t size = 10;
 
     if (kind < 1 || kind > DELAY)
         return true; /* a reply has no answer */
-    strcpy(answer + 8, "1 ");
-    strcat(answer + 8, names[kind - 1]);
-    strcat(answer + 8, " PERM_DENIED 6\n");
-    size_t size = strlen(answer + 8);
-    answer[7] = (char)size;
-    return send(0, answer, size + 8, MSG_NOSIGNAL) == (ssize_t)size + 8;
+    for (const char *at = names[kind - 1]; *at != '\0'; at++)
+        answer[size++] = (unsigned char)*at;
+    copy(answer + size, code, sizeof code - 1);
+    size += sizeof code - 1;
+    answer[7] = (unsigned char)(size - 8);
+    return call(SYS_sendto, 0, (long)answer, (long)size, MSG_NOSIGNAL, 0) == (long)size;
 }
 
 static bool write_all(const unsigned char *bytes, size_t size)
 {
     while (size > 0) {
-        ssize_t wrote = write(1, bytes, size);
+        long wrote = call(SYS_write, 1, (long)bytes, (long)size, 0, 0);
         if (wrote <= 0)
             return false;
         bytes += wrote;
@@ -90,7 +128,8 @@ static bool write_all(const unsigned char *bytes, size_t size)
 static bool pass(struct message *message, pid_t *starter)
 {
     const struct ucred *sender = &message->sender;
-    bool has_rights = sender->uid == geteuid() && (sender->uid == 0 || sender->gid == getegid()), goes_on = true;
+    bool has_rights = sender->uid == (uid_t)call(SYS_geteuid, 0, 0, 0, 0, 0)
+        && (sender->uid == 0 || sender->gid == (gid_t)call(SYS_getegid, 0, 0, 0, 0, 0)), goes_on = true;
 
     if (!is_whole(message))
         return !has_rights; /* what others send in part is dropped, and nobody else's frames with it */
@@ -107,18 +146,20 @@ static bool pass(struct message *message, pid_t *starter)
     return goes_on;
 }
 
-int main(void)
+_Noreturn void _start(void);
+_Noreturn void _start(void)
 {
     static struct message message;
     struct pollfd ends[] = { { .fd = 0, .events = POLLIN }, { .fd = 1 } };
     pid_t starter = 0;
     bool goes_on = true;
 
-    (void)prctl(PR_SET_DUMPABLE, 0); /* passwords go through it */
+    (void)call(SYS_prctl, PR_SET_DUMPABLE, 0, 0, 0, 0); /* passwords go through it */
     /* The pipe is in error once pam_service has ended: then the application must see the end of its socket. */
-    while (goes_on && poll(ends, 2, -1) > 0 && ends[1].revents == 0 && receive(&message)) {
+    while (goes_on && call(SYS_ppoll, (long)ends, 2, 0, 0, 0) > 0 && ends[1].revents == 0 && receive(&message)) {
         goes_on = pass(&message, &starter);
-        explicit_bzero(message.bytes, message.size);
+        wipe(message.bytes, message.size);
     }
-    return 0;
+    for (;;)
+        (void)call(SYS_exit_group, 0, 0, 0, 0, 0);
 }

@@ -22,10 +22,12 @@ int call_or_later(pam_handle_t *handle, enum kind kind, const void *rest, size_t
         return wire_code(&handle->wire, kind, rest, size);
     while (*end != NULL)
         end = &(*end)->next;
-    if ((*end = malloc(sizeof **end + size)) == NULL)
+    struct later *one = malloc(sizeof *one + size);
+    if (one == NULL)
         return PAM_BUF_ERR;
-    **end = (struct later){ .kind = kind, .size = size };
-    memcpy((*end)->rest, rest, size);
+    *one = (struct later){ .kind = kind, .size = size };
+    memcpy(one->rest, rest, size);
+    *end = one;
     return PAM_SUCCESS;
 }
 
