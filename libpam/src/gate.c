@@ -1,5 +1,5 @@
 /*
- * pam_gate: it stands before pam_service, and passes on what still comes from who called pam_start. Standard input is the socket of
+ * pam_gate: it is before pam_service, and passes on what still comes from who called pam_start. Standard input is the socket of
  * the application, of which its copies have the other end too, and standard output is a pipe to pam_service.
  *
  * A daemon of root's makes copies of itself that work for a user and give up their rights for good, such as sshd's and vsftpd's

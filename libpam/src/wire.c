@@ -50,7 +50,7 @@ static bool is_ready(int fd, short events, int64_t until)
     }
 }
 
-/* Sends as who called pam_start, for the gate (gate.c). The kernel refuses that to a process that has given these rights up: then as
+/* Sends as who called pam_start, for pam_gate (gate.c). The kernel refuses that to a process that has given these rights up: then as
    who it is now, which is enough to ask for items and variables. */
 static ssize_t send_as(const struct wire *wire, void *bytes, size_t size)
 {

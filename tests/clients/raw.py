@@ -18,7 +18,7 @@ def set_item(item, text):
 
 
 def answer(sock, seconds=5):
-    """One answer; what came of it if no more comes in that time."""
+    """One answer, or why there is none in that time."""
     sock.settimeout(seconds)
     got = b""
     try:
