@@ -12,7 +12,9 @@ server=${PAM_SERVICE:-crates/pam_service/out/pam_service}
 work=$(mktemp -d)
 trap 'rm -rf "$work"' EXIT
 headers=-I$cache/sys/usr/include
-make -s -C libpam OUT="$work/libpam.so.0" CPPFLAGS="$headers"
+caller=1
+"$server" --caller 0 </dev/null >/dev/null 2>&1 || caller=0
+make -s -C libpam OUT="$work/libpam.so.0" CPPFLAGS="$headers" CALLER=$caller
 gcc -O2 -Wall -Wextra $headers -o "$work/clients" bench/clients.c "$work/libpam.so.0"
 gcc -O2 -Wall -Wextra -o "$work/yes" bench/yes.c
 

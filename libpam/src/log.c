@@ -24,6 +24,15 @@ void log_say(const pam_handle_t *handle, int priority, const char *who, const ch
     syslog(LOG_AUTHPRIV | priority, "%s(%s:%s): %s", who, handle->service, type, text);
 }
 
+void log_broken(struct wire *wire, const char *why)
+{
+    const pam_handle_t *handle = (const void *)((const char *)wire - offsetof(pam_handle_t, wire));
+
+    if (why != NULL && !wire->broken && handle->service[0] != '\0')
+        log_say(handle, LOG_ERR, "pamsess", "process", "%s", why);
+    wire->broken |= why != NULL;
+}
+
 static const char *item(pam_handle_t *handle, int number)
 {
     const void *value = NULL;
@@ -63,6 +72,12 @@ static void log_opened(pam_handle_t *handle)
         login_name(login, sizeof login), (unsigned)getuid());
 }
 
+/* How far the lines of an answer have been read. */
+struct course {
+    unsigned place;
+    bool is_second;
+};
+
 /* What isn't an answer to the user, but a fault of the machine or of the configuration. */
 static bool is_fault(unsigned code)
 {
@@ -70,8 +85,9 @@ static bool is_fault(unsigned code)
         || code == PAM_ABORT || code == PAM_AUTHTOK_LOCK_BUSY;
 }
 
-/* A line of the answer; `line PLACE MODULE NAME NUMBER` is one of the stack that was run. */
-static void log_line(pam_handle_t *handle, enum kind kind, const char *line)
+/* A line of the answer; `line PLACE MODULE NAME NUMBER` is one of the stack that was run. A change of a password runs the stack
+   twice; the second time it begins at a place that isn't after the last one. */
+static void log_line(pam_handle_t *handle, enum kind kind, const char *line, struct course *course)
 {
     static const char *const types[] = {
         [AUTHENTICATE] = "auth", [SETCRED] = "setcred", [ACCT_MGMT] = "account", [OPEN_SESSION] = "session",
@@ -83,12 +99,16 @@ static void log_line(pam_handle_t *handle, enum kind kind, const char *line)
     if (sscanf(line, "line %9u %63s %31s %9u", &place, module, name, &code) != 4)
         return;
     bool is_unix = strcmp(module, "pam_unix") == 0;
+    course->is_second |= place <= course->place;
+    course->place = place;
     if (kind == AUTHENTICATE && is_unix && (code == PAM_AUTH_ERR || code == PAM_USER_UNKNOWN))
         log_failure(handle, code == PAM_AUTH_ERR);
     else if (kind == OPEN_SESSION && is_unix && code == PAM_SUCCESS)
         log_opened(handle);
     else if (kind == CLOSE_SESSION && is_unix && code == PAM_SUCCESS)
         log_say(handle, LOG_INFO, module, types[kind], "session closed for user %s", item(handle, PAM_USER));
+    else if (kind == CHAUTHTOK && is_unix && code == PAM_SUCCESS && course->is_second)
+        log_say(handle, LOG_NOTICE, module, types[kind], "password changed for %s", item(handle, PAM_USER));
     else if (is_fault(code))
         log_say(handle, LOG_ERR, "pamsess", types[kind], "line %u, module %s: %s", place, module, name);
 }
@@ -96,7 +116,8 @@ static void log_line(pam_handle_t *handle, enum kind kind, const char *line)
 void log_call(pam_handle_t *handle, enum kind kind, const struct answer *answer)
 {
     const char *line = NULL;
+    struct course course = { .place = 0 };
 
     while ((line = next_line(answer, line)) != NULL)
-        log_line(handle, kind, line);
+        log_line(handle, kind, line, &course);
 }

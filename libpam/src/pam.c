@@ -10,6 +10,8 @@
 
 #include <security/pam_modules.h> /* pam_get_user, pam_get_data and pam_set_data, which applications call too */
 
+enum { LONGEST_WAIT = 60000000 }; /* microseconds, as the process has it */
+
 static bool is_service(const char *name)
 {
     size_t size = name != NULL ? strlen(name) : 0;
@@ -49,20 +51,22 @@ static int start(pam_handle_t *handle, const char *user)
     unsigned char rest[1 + MAX_SERVICE + 1 + MAX_TEXT];
     struct answer answer;
     size_t size = strlen(handle->service), value;
+    const char *lacks;
     int code = PAM_ABORT;
 
     rest[0] = (unsigned char)size;
     memcpy(rest + 1, handle->service, size);
     if ((value = put_value(rest + 1 + size, user)) == 0)
         return PAM_BUF_ERR;
-    if (!server_start(&handle->wire)) {
-        log_say(handle, LOG_CRIT, "pamsess", "start", "no process could be started: %m");
+    if (!server_start(&handle->wire, &lacks)) {
+        if (lacks != NULL)
+            log_say(handle, LOG_ERR, "pamsess", "start", "no process is started, since %s is too low and can't be raised", lacks);
+        else
+            log_say(handle, LOG_CRIT, "pamsess", "start", "no process could be started: %m");
         return PAM_ABORT;
     }
     if (wire_call(&handle->wire, START, rest, 1 + size + value, &answer))
         code = read_start(handle, &answer);
-    else
-        log_say(handle, LOG_CRIT, "pamsess", "start", "the process gave no answer");
     answer_free(&answer);
     if (code != PAM_SUCCESS)
         wire_close(&handle->wire);
@@ -81,10 +85,13 @@ int pam_start(const char *service, const char *user, const struct pam_conv *conv
     made->conv = *conv;
     memcpy(made->service, service, strlen(service));
     int code = start(made, user);
-    if (code == PAM_SUCCESS)
+    if (code == PAM_SUCCESS) {
+        made->items[PAM_SERVICE] = strdup(service);
+        made->items[PAM_USER] = user != NULL ? strdup(user) : NULL;
         *handle = made;
-    else
+    } else {
         free(made);
+    }
     return code;
 }
 
@@ -100,7 +107,7 @@ int pam_end(pam_handle_t *handle, int status)
     unsigned char rest[4];
     int code = PAM_SUCCESS;
 
-    if (handle == NULL)
+    if (handle == NULL || handle->in_call)
         return PAM_SYSTEM_ERR;
     put_number(rest, (uint32_t)status);
     if (handle->starter == getpid())
@@ -108,6 +115,7 @@ int pam_end(pam_handle_t *handle, int status)
     wire_close(&handle->wire);
     for (int item = 0; item <= PAM_AUTHTOK_TYPE; item++)
         free(handle->items[item]);
+    forget_later(handle);
     while (handle->variables != NULL) {
         struct value *first = handle->variables;
         handle->variables = first->next;
@@ -139,10 +147,16 @@ static bool is_text_item(int item)
         && item != PAM_FAIL_DELAY;
 }
 
+/* What is typed isn't kept. */
+static bool is_token(int item)
+{
+    return item == PAM_AUTHTOK || item == PAM_OLDAUTHTOK;
+}
+
 static int set_delay(pam_handle_t *handle, delay_fn *delay)
 {
     unsigned char on = delay != NULL;
-    int code = wire_code(&handle->wire, DELAY, &on, 1);
+    int code = call_or_later(handle, DELAY, &on, 1);
     if (code == PAM_SUCCESS)
         handle->delay = delay;
     return code;
@@ -165,12 +179,14 @@ int pam_set_item(pam_handle_t *handle, int item, const void *value)
         handle->conv = *(const struct pam_conv *)value;
         return PAM_SUCCESS;
     }
-    if (!is_text_item(item))
+    if (!is_text_item(item) || (handle->in_call && item == PAM_SERVICE))
         return PAM_BAD_ITEM;
     rest[0] = (unsigned char)item;
     size_t size = put_value(rest + 1, value);
-    int code = size == 0 ? PAM_BUF_ERR : wire_code(&handle->wire, SET_ITEM, rest, 1 + size);
+    int code = size == 0 ? PAM_BUF_ERR : call_or_later(handle, SET_ITEM, rest, 1 + size);
     explicit_bzero(rest, sizeof rest);
+    if (code == PAM_SUCCESS && !is_token(item))
+        keep_text(&handle->items[item], value != NULL ? strdup(value) : NULL);
     return code;
 }
 
@@ -190,13 +206,9 @@ static int get_text(const pam_handle_t *handle, enum kind kind, const void *rest
             code = strcmp(result, "unset") == 0 ? PAM_SUCCESS : code_of(result);
     }
     answer_free(&answer);
-    wire->broken |= code < 0;
-    if (code == PAM_SUCCESS && (text == NULL || *kept == NULL || strcmp(text, *kept) != 0)) {
-        char *before = *kept;
-        *kept = text;
-        text = before;
-    }
-    wipe_free(text);
+    log_broken(wire, code < 0 ? ODD_ANSWER : NULL);
+    if (code == PAM_SUCCESS)
+        keep_text(kept, text);
     return code < 0 ? PAM_ABORT : code;
 }
 
@@ -220,7 +232,7 @@ int pam_get_item(const pam_handle_t *handle, int item, const void **value)
     if (!is_text_item(item))
         return PAM_BAD_ITEM;
     char **kept = (char **)&handle->items[item];
-    int code = get_text(handle, GET_ITEM, &rest, 1, kept);
+    int code = !handle->in_call ? get_text(handle, GET_ITEM, &rest, 1, kept) : is_token(item) ? PAM_BAD_ITEM : PAM_SUCCESS;
     if (code == PAM_SUCCESS)
         *value = *kept;
     return code;
@@ -229,17 +241,16 @@ int pam_get_item(const pam_handle_t *handle, int item, const void **value)
 int pam_fail_delay(pam_handle_t *handle, unsigned int micros)
 {
     unsigned char rest[4];
-    put_number(rest, micros);
-    return handle != NULL ? wire_code(&handle->wire, FAIL_DELAY, rest, sizeof rest) : PAM_SYSTEM_ERR;
-}
 
-int pam_putenv(pam_handle_t *handle, const char *text)
-{
     if (handle == NULL)
-        return PAM_ABORT;
-    if (text == NULL)
-        return PAM_PERM_DENIED;
-    return strlen(text) > MAX_TEXT ? PAM_BUF_ERR : wire_code(&handle->wire, PUTENV, text, strlen(text));
+        return PAM_SYSTEM_ERR;
+    if (handle->in_call) {
+        if (handle->asked_delay < micros)
+            handle->asked_delay = micros < LONGEST_WAIT ? micros : LONGEST_WAIT;
+        return PAM_SUCCESS;
+    }
+    put_number(rest, micros);
+    return wire_code(&handle->wire, FAIL_DELAY, rest, sizeof rest);
 }
 
 /* Where the value of a variable is stored; NULL if an allocation fails. */
@@ -260,12 +271,41 @@ static struct value *place_of(pam_handle_t *handle, const char *name)
     return value;
 }
 
+/* In a conversation: `NAME=VALUE`, or a NAME that is to be removed. */
+static int put_later(pam_handle_t *handle, const char *text)
+{
+    size_t size = strcspn(text, "=");
+    char *name = size > 0 ? strndup(text, size) : NULL;
+    struct value *value = name != NULL ? place_of(handle, name) : NULL;
+
+    free(name);
+    if (value == NULL)
+        return size > 0 ? PAM_BUF_ERR : PAM_BAD_ITEM;
+    int code = call_or_later(handle, PUTENV, text, strlen(text));
+    if (code == PAM_SUCCESS)
+        keep_text(&value->text, text[size] == '=' ? strdup(text + size + 1) : NULL);
+    return code;
+}
+
+int pam_putenv(pam_handle_t *handle, const char *text)
+{
+    if (handle == NULL)
+        return PAM_ABORT;
+    if (text == NULL)
+        return PAM_PERM_DENIED;
+    if (strlen(text) > MAX_TEXT)
+        return PAM_BUF_ERR;
+    return handle->in_call ? put_later(handle, text) : wire_code(&handle->wire, PUTENV, text, strlen(text));
+}
+
 const char *pam_getenv(pam_handle_t *handle, const char *name)
 {
     struct value *value;
 
     if (handle == NULL || name == NULL || name[0] == '\0' || strlen(name) > MAX_TEXT || (value = place_of(handle, name)) == NULL)
         return NULL;
+    if (handle->in_call)
+        return value->text;
     return get_text(handle, GETENV, name, strlen(name), &value->text) == PAM_SUCCESS ? value->text : NULL;
 }
 
@@ -296,14 +336,13 @@ char **pam_getenvlist(pam_handle_t *handle)
     uint32_t said = 0;
     char **list = NULL;
 
-    if (handle == NULL || !wire_call(&handle->wire, ENVLIST, NULL, 0, &answer))
+    if (handle == NULL || handle->in_call || !wire_call(&handle->wire, ENVLIST, NULL, 0, &answer))
         return NULL;
     const char *rest = after_number(result_of(&answer, ENVLIST), &said);
     if (rest != NULL && *rest == '\0' && said <= answer.size)
         list = read_list(&answer, said);
     answer_free(&answer);
-    if (list == NULL)
-        handle->wire.broken = true;
+    log_broken(&handle->wire, list == NULL ? ODD_ANSWER : NULL);
     return list;
 }
 

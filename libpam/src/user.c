@@ -1,6 +1,5 @@
 /* The application's side: its conversation, and the wait after a failure. */
 #define _GNU_SOURCE
-#include <errno.h>
 #include <stdlib.h>
 #include <string.h>
 #include <time.h>
@@ -38,6 +37,17 @@ int ask_user(const pam_handle_t *handle, int style, const char *text, char **rep
     return PAM_SUCCESS;
 }
 
+/* A signal that the application handles ends the wait, as in libpam. */
+void wait_for(const pam_handle_t *handle, int code, uint32_t asked, uint32_t waited)
+{
+    const struct timespec time = { waited / 1000000, (long)(waited % 1000000) * 1000 };
+
+    if (handle->delay != NULL)
+        handle->delay(code, asked, handle->conv.appdata_ptr);
+    else if (waited > 0)
+        (void)nanosleep(&time, NULL);
+}
+
 bool wait_after(const pam_handle_t *handle, int code, const char *line)
 {
     uint32_t number, asked, waited;
@@ -47,11 +57,10 @@ bool wait_after(const pam_handle_t *handle, int code, const char *line)
     rest = after_number(after(rest, " "), &waited);
     if (rest == NULL || *rest != '\0')
         return false;
-    struct timespec left = { waited / 1000000, (long)(waited % 1000000) * 1000 };
-    if (handle->delay != NULL)
-        handle->delay(code, asked, handle->conv.appdata_ptr);
-    else
-        while (waited > 0 && nanosleep(&left, &left) != 0 && errno == EINTR)
-            ;
+    if (code != PAM_SUCCESS && asked < handle->asked_delay)
+        asked = handle->asked_delay;
+    if (code != PAM_SUCCESS && waited < handle->asked_delay)
+        waited = handle->asked_delay;
+    wait_for(handle, code, asked, waited);
     return true;
 }

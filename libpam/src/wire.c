@@ -50,37 +50,59 @@ static bool is_ready(int fd, short events, int64_t until)
     }
 }
 
-/* Sends or receives exactly so many bytes, so a copy of this process may go on with the next call. */
-static bool transfer(int fd, bool sends, void *bytes, size_t size, int64_t until)
+/* Sends as who called pam_start, for pam_gate (gate.c). The kernel refuses that to a process that has given these rights up: then as
+   who it is now, which is enough to ask for items and variables. */
+static ssize_t send_as(const struct wire *wire, void *bytes, size_t size)
+{
+    union { char room[CMSG_SPACE(sizeof(struct ucred))]; struct cmsghdr header; } control = { .room = { 0 } };
+    const struct ucred own = { .pid = getpid(), .uid = wire->user, .gid = wire->user == 0 ? getegid() : wire->group };
+    struct iovec part = { bytes, size };
+    const struct msghdr message = { .msg_iov = &part, .msg_iovlen = 1, .msg_control = control.room, .msg_controllen = sizeof control.room };
+
+    control.header = (struct cmsghdr){ .cmsg_len = CMSG_LEN(sizeof own), .cmsg_level = SOL_SOCKET, .cmsg_type = SCM_CREDENTIALS };
+    memcpy(CMSG_DATA(&control.header), &own, sizeof own);
+    ssize_t sent = sendmsg(wire->fd, &message, MSG_NOSIGNAL | MSG_DONTWAIT);
+    return sent < 0 && errno == EPERM ? send(wire->fd, bytes, size, MSG_NOSIGNAL | MSG_DONTWAIT) : sent;
+}
+
+/* Sends or receives exactly so many bytes, so a copy of this process may go on with the next call. Returns what went wrong, or
+   NULL. */
+static const char *transfer(const struct wire *wire, bool sends, void *bytes, size_t size, int64_t until)
 {
     unsigned char *at = bytes;
     while (size > 0) {
-        ssize_t moved = sends ? send(fd, at, size, MSG_NOSIGNAL | MSG_DONTWAIT) : recv(fd, at, size, MSG_DONTWAIT);
+        ssize_t moved = sends ? send_as(wire, at, size) : recv(wire->fd, at, size, MSG_DONTWAIT);
         if (moved > 0) {
             at += moved;
             size -= (size_t)moved;
-        } else if (moved == 0 || (errno != EAGAIN && errno != EINTR) || !is_ready(fd, sends ? POLLOUT : POLLIN, until)) {
-            return false;
+        } else if (moved == 0 || (errno != EAGAIN && errno != EINTR)) {
+            return "the process is gone";
+        } else if (!is_ready(wire->fd, sends ? POLLOUT : POLLIN, until)) {
+            return "the process doesn't answer";
         }
     }
-    return true;
+    return NULL;
 }
 
-static bool receive_answer(int fd, struct answer *answer)
+/* Returns what went wrong, or NULL. */
+static const char *receive_answer(const struct wire *wire, struct answer *answer)
 {
     int64_t until = now_in_millis() + PATIENCE * 1000;
     unsigned char length[8];
     uint64_t size = 0;
+    const char *fault = transfer(wire, false, length, sizeof length, until);
 
-    if (!transfer(fd, false, length, sizeof length, until))
-        return false;
+    if (fault != NULL)
+        return fault;
     for (size_t i = 0; i < sizeof length; i++)
         size = size << 8 | length[i];
-    if (size > MAX_ANSWER || (answer->text = malloc(size + 1)) == NULL)
-        return false;
+    if (size > MAX_ANSWER)
+        return "the process's answer is too long";
+    if ((answer->text = malloc(size + 1)) == NULL)
+        return "there is no memory for the process's answer";
     answer->text[size] = '\0';
     answer->size = size;
-    return transfer(fd, false, answer->text, size, until);
+    return transfer(wire, false, answer->text, size, until);
 }
 
 /* Whether a line may come before the last one. */
@@ -126,8 +148,9 @@ bool wire_send(struct wire *wire, enum kind kind, const void *rest, size_t size)
     frame[3] = (unsigned char)kind;
     if (size > 0)
         memcpy(frame + 4, rest, size);
-    wire->broken = !is_ours(wire) || !transfer(wire->fd, true, frame, size + 4, now_in_millis() + PATIENCE * 1000);
+    const char *fault = is_ours(wire) ? transfer(wire, true, frame, size + 4, now_in_millis() + PATIENCE * 1000) : NOT_OURS;
     explicit_bzero(frame, sizeof frame);
+    log_broken(wire, fault);
     return !wire->broken;
 }
 
@@ -136,7 +159,10 @@ bool wire_receive(struct wire *wire, enum kind kind, struct answer *answer)
     *answer = (struct answer){ .text = NULL };
     if (wire->broken)
         return false;
-    wire->broken = !is_ours(wire) || !receive_answer(wire->fd, answer) || !is_well_formed(answer, kind);
+    const char *fault = is_ours(wire) ? receive_answer(wire, answer) : NOT_OURS;
+    if (fault == NULL && !is_well_formed(answer, kind))
+        fault = ODD_ANSWER;
+    log_broken(wire, fault);
     if (wire->broken)
         answer_free(answer);
     return !wire->broken;
@@ -154,7 +180,7 @@ int wire_code(struct wire *wire, enum kind kind, const void *rest, size_t size)
     int code = wire_call(wire, kind, rest, size, &answer) ? code_of(result_of(&answer, kind)) : -1;
 
     answer_free(&answer);
-    wire->broken |= code < 0;
+    log_broken(wire, code < 0 ? ODD_ANSWER : NULL);
     return code < 0 ? PAM_ABORT : code;
 }
 

@@ -118,7 +118,7 @@ int main(int count, char **words)
         else if (kind == 12) /* what a test asks about this process */
             snprintf(text, sizeof text, "1 getenv set %s,%s,%d,%d,%d\n", environ[0] ? environ[0] : "", environ[1] ? environ[1] : "",
                 access("/proc/self/fd/3", F_OK), getsid(0) != getpid() && getppid() != getsid(0),
-                fstat(0, &in) == 0 && fstat(1, &out) == 0 && in.st_ino == out.st_ino);
+                fstat(0, &in) == 0 && fstat(1, &out) == 0 && S_ISFIFO(in.st_mode) && S_ISSOCK(out.st_mode));
         else if (kind == 13)
             snprintf(text, sizeof text, "1 env A=b\\x0ac\n1 env B=\n1 envlist 2\n");
         else

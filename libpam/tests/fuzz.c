@@ -75,15 +75,16 @@ static bool ends_with(const char *line)
     return begin[-1] == '\n' || (begin[-1] == size && begin[-2] == 0);
 }
 
-bool server_start(struct wire *wire)
+bool server_start(struct wire *wire, const char **lacks)
 {
     int pair[2];
+    *lacks = NULL;
     struct stat found;
     assert(socketpair(AF_UNIX, SOCK_STREAM | SOCK_CLOEXEC, 0, pair) == 0 && fstat(pair[0], &found) == 0);
     assert(write(pair[1], stream, streamed) == (ssize_t)streamed);
     shutdown(pair[1], SHUT_WR);
     other = pair[1];
-    *wire = (struct wire){ pair[0], found.st_dev, found.st_ino, false };
+    *wire = (struct wire){ .fd = pair[0], .dev = found.st_dev, .ino = found.st_ino, .user = geteuid(), .group = getegid() };
     return true;
 }
 
@@ -157,9 +158,27 @@ static void spoil(void)
     }
 }
 
+/* What an application does with its handle in its conversation. */
+static pam_handle_t *own;
+static void use_handle(void)
+{
+    const void *item = NULL;
+    switch (draw(own != NULL ? 12 : 1)) {
+    case 1: (void)pam_get_item(own, (int)draw(16), &item); break;
+    case 2: (void)pam_getenv(own, "A"); break;
+    case 3: assert(pam_authenticate(own, 0) == PAM_SYSTEM_ERR); break;
+    case 4: assert(pam_end(own, 0) == PAM_SYSTEM_ERR); break;
+    case 5: (void)pam_set_item(own, draw(2) ? PAM_USER : PAM_AUTHTOK, draw(4) ? "x" : NULL); break;
+    case 6: (void)pam_putenv(own, draw(4) ? "A=x" : "A"); break;
+    case 7: (void)pam_fail_delay(own, draw(3)); break;
+    default: break;
+    }
+}
+
 static int talk(int count, const struct pam_message **messages, struct pam_response **responses, void *data)
 {
     (void)data;
+    use_handle();
     for (int i = 0; i < count; i++)
         assert(messages[i]->msg != NULL && strlen(messages[i]->msg) < 1 << 20);
     uint32_t what = draw(20);
@@ -191,14 +210,20 @@ int main(int count, char **words)
         const void *item = NULL;
         state = (seed + one) * 0x9E3779B97F4A7C15u + 1;
         streamed = 0;
-        uint32_t call = draw(6), times = 1 + draw(3);
+        uint32_t call = draw(6), times = 1 + draw(3), has_user = draw(2);
+        own = NULL;
         answer(draw(20) ? "1 start SUCCESS 0\n" : "1 start refused /etc/pam.d/t 1 BadControl 5\n");
-        for (uint32_t i = 0; i < times; i++)
+        for (uint32_t i = 0; i < times; i++) {
+            if (!has_user) /* which is asked for before the call */
+                answer("1 get_item unset\n");
             for (uint32_t n = 1 + draw(4); n > 0; n--)
                 if (draw(2))
                     stack_course(calls[call]);
                 else
                     stack_answer(calls[call]);
+        }
+        if (draw(2))
+            answer("1 set_item SUCCESS 0\n");
         answer("1 get_item set joe\\\\ \\x41\n");
         answer("1 env A=b\n1 env C=\n1 envlist 2\n");
         answer("1 getenv unset\n");
@@ -207,9 +232,10 @@ int main(int count, char **words)
             spoil();
         char success[64];
         snprintf(success, sizeof success, "1 %s SUCCESS 0\n", calls[call]);
-        if (pam_start("t", draw(2) ? "joe" : NULL, &conv, &handle) != PAM_SUCCESS) {
+        if (pam_start("t", has_user ? "joe" : NULL, &conv, &handle) != PAM_SUCCESS) {
             assert(handle == NULL);
         } else {
+            own = draw(2) ? handle : NULL;
             for (uint32_t i = 0; i < times; i++) {
                 bool was_broken = handle->wire.broken;
                 answered = 0;
