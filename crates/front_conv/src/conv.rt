@@ -98,9 +98,9 @@ impl<R: Read + Drop, W: Write + Drop> Conv for FrontConv<R, W> {
     ghost conv_deferrals = { λ c. c.deferrals };
 
     /// Writes the exchange as an answer: a `say` line for each message, and `1 asks N` with the number of prompts. Then
-    /// takes a frame for each prompt: one of kind 16 is its reply. One of kind 17, a frame of another kind or
-    /// transaction, and an error of the writer are Gone. One of kind 18, the end of input, and an error of the reader
-    /// are Again. It reads byte by byte, and no further. What was written and taken stays so.
+    /// takes a frame for each prompt: one of kind 16 is its reply. One of kind 17 and an error of the writer are Gone.
+    /// One of kind 18, a frame of another kind or transaction, the end of input, and an error of the reader are Again:
+    /// nobody replied. It reads byte by byte, and no further. What was written and taken stays so.
     fn talk(&mut self, alloc: Global, messages: &Messages) -> Result<Replies, ConvFault>
         requires { IsExchange messages.now }
         ensures replies { IfOk result (λ replies. AreReplies messages.now replies) }

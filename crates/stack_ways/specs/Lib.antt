@@ -1,0 +1,5 @@
+pub mod MayEnd
+pub mod Laws
+pub mod LineCodes
+pub mod Ways
+pub mod Steps
