@@ -1,0 +1,25 @@
+ghost use Rattle.stack_laws.specs.First.{FailingFirstLineEnds};
+ghost use Rattle.stack_laws.specs.Success.{FailedLineDenies, FailedRequiredDenies, SuccessNeedsALine};
+
+// Each of these is a law about the definitions: its contract states it. `S` is the state that the
+// lines of a run change.
+
+/// A run of a stack returns SUCCESS only if a line that it ran returned SUCCESS, and the control of
+/// that line let it count.
+pub fn success_needs_a_line<S>()
+    ensures { SuccessNeedsALine S }
+{}
+
+/// After a line whose control has `bad` or `die` for the code by which it acted, a run doesn't
+/// return SUCCESS, unless a later line's control has `reset` for its own; `required` says so of a
+/// `required` or `requisite` line that failed.
+pub fn failed_line_denies<S>()
+    ensures line { FailedLineDenies S }
+    ensures required { FailedRequiredDenies S }
+{}
+
+/// If a stack's first line is `requisite` and fails, the run returns its code, and no other line is
+/// run.
+pub fn failing_first_line_ends<S>()
+    ensures { FailingFirstLineEnds S }
+{}
