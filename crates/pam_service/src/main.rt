@@ -1,5 +1,5 @@
 //! `pam_service [ROOT]`: the frames of docs/wire.md for programs that really let somebody in, such as the C library of
-//! clients/libpam. It does what `pamsess wire` does, with the system's clock and random words, with
+//! libpam. It does what `pamsess wire` does, with the system's clock and random words, with
 //! the process's real user as the caller, and with a conversation that waits for the front end. It
 //! never sleeps: after a failure the answer says how long to wait, and the front end waits.
 //!
