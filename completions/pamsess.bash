@@ -86,11 +86,6 @@ _pamsess() {
             # (an option before ROOT)
             [ "$first" != --html ] && [ "$first" != --json ] || kinds=(option directory service)
             ;;
-        pamsess-ways)
-            kinds=(directory service)
-            [ "$first" != --json ] || kinds=(option directory service)
-            [ "$first" != --compare ] || kinds=(option directory directory service)
-            ;;
         pamsess-what-if) kinds=(directory service user) ;;
         pamsess-stand-in) kinds=(directory directory user) ;;
         pamsess-try) kinds=(directory service user call call call call call call) ;;
@@ -111,4 +106,4 @@ _pamsess() {
     _pamsess_kind "$word" "${kinds[number - 1]-}" "$root"
 }
 
-complete -F _pamsess pamsess pamsess-check-all pamsess-explain pamsess-stand-in pamsess-try pamsess-ways pamsess-what-if
+complete -F _pamsess pamsess pamsess-check-all pamsess-explain pamsess-stand-in pamsess-try pamsess-what-if

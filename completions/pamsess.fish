@@ -41,11 +41,11 @@ complete -c pamsess -n '__pamsess_at 2 check login audit' -a '(__pamsess_service
 complete -c pamsess -n '__pamsess_at 2 tally' -a '(__pamsess_users 2)'
 complete -c pamsess -n '__pamsess_at 3 login' -a '(__pamsess_users 2)'
 
-for name in check-all explain stand-in try ways what-if
+for name in check-all explain stand-in try what-if
     complete -c pamsess-$name -f
     complete -c pamsess-$name -n '__pamsess_at 0' -a '(__fish_complete_directories)'
 end
-for name in try ways what-if
+for name in try what-if
     complete -c pamsess-$name -n '__pamsess_at 1' -a '(__pamsess_services 1)'
 end
 complete -c pamsess-what-if -n '__pamsess_at 2' -a '(__pamsess_users 1)'

@@ -1,6 +1,6 @@
 """A walk over a stack, for what check-all says: the states in which it may end, if each rule may return certain codes.
 
-`bin/ways` has the proved answer to who gets in; this walk differs in that codes are given for each rule, and in that it knows which
+The crate stack_ways has the proved answer to who gets in; this walk differs in that codes are given for each rule, and in that it knows which
 rule granted.
 """
 from stacks import lines_of
