@@ -21,7 +21,7 @@ SLOW = 0.2
 
 # Empty files that are locked while others are replaced; they stay. The third is removed once the lock is taken, and stays only if
 # that fails, until the lock is taken again.
-LOCKS = (".pwd.lock", ".pamsess-lock", ".pwd.lock-wal")
+LOCKS = re.compile(r"\.pwd\.lock(-wal)?|\..+:pamsess-lock")
 
 # Files that are larger are compared by their size alone.
 LARGE = 16 << 20
@@ -270,7 +270,7 @@ def tree_of(root):
         for name in folders + names:
             path = f"{at}/{name}"
             told = os.lstat(path)
-            if name in LOCKS and told.st_mode == stat.S_IFREG | 0o600 and told.st_size == 0:
+            if LOCKS.fullmatch(name) and told.st_mode == stat.S_IFREG | 0o600 and told.st_size == 0:
                 continue
             text = None
             if stat.S_ISREG(told.st_mode):

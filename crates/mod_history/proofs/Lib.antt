@@ -1,8 +1,10 @@
 mod Seeing
 mod Changing
+mod Comparing
 mod Rereading
 mod Wellformed
 mod Fields
+mod Neighbours
 mod Renewed
 mod Cutting
 mod Lasting

@@ -325,6 +325,7 @@ fn run_with(
         delay: Box::new(alloc, |_code: Code, asked: u32| -> u32 {
             asked.min(3_000_000)
         })?,
+        time: None,
     };
     Ok(pamsess(alloc, words, script, out, world, desk))
 }

@@ -6,7 +6,7 @@ use Rattle.std.proofs.lemmas.Bool.{and_right, cases_eq}
 use Rattle.std.proofs.lemmas.Fmt.{decimal_injective}
 use Rattle.std.proofs.lemmas.Slice.Eq.{bytes_eq-Decides}
 use Rattle.pam_outside.specs.Counts.{fails_next, next_count}
-use Rattle.pam_outside.specs.Files.{File, VaultState, counted, file_at, file_put, is_below, is_folder}
+use Rattle.pam_outside.specs.Files.{File, VaultState, counted, file_at, file_put, is_below, is_folder, no_locks}
 use Rattle.random_config.specs.declared.files.RandomFile.{RandomFile}
 use Rattle.random_config.specs.Files.{count_of, random_file, random_files, name_of, service, text_of}
 use Rattle.session_generate.specs.Placing.{Placed, fault_of, path_of_service, placed}
@@ -17,7 +17,7 @@ pub never : (calls : ℕ) → fails_next calls [] ≡ false
 never calls = and_right (nat_lt calls (2 ^ 64 - 1)) false refl
 
 abbrev pub vault_with : List File → ℕ → VaultState
-vault_with files calls = record { files = files; calls = calls; fails = [] }
+vault_with files calls = record { files = files; locks = no_locks; calls = calls; fails = [] }
 
 abbrev pub puts : List RandomFile → List File → List File
 puts [] files = files

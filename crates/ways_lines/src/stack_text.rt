@@ -14,7 +14,7 @@ use service_load::RuleType;
 use std::alloc::Global;
 
 /// How many comparisons of ways are made for a stack before it has too many.
-const WORK: usize = 2_000_000;
+const WORK: usize = 10_000_000;
 
 /// Adds the lines of a stack: its rules, which are written at these origins, and its ways, if its modules return what the
 /// table says.
