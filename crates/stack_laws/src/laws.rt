@@ -18,8 +18,8 @@ pub fn failed_line_denies<S>()
     ensures required { FailedRequiredDenies S }
 {}
 
-/// If a stack's first line is `requisite` and fails, the run returns its code, and no other line is
-/// run.
+/// If a stack's first line is `requisite`, what it returns and the code by which it acts are
+/// failures, and it isn't incomplete, the run returns its code, and no other line is run.
 pub fn failing_first_line_ends<S>()
     ensures { FailingFirstLineEnds S }
 {}
