@@ -6,6 +6,7 @@ use Rattle.pam_base.specs.declared.call.Func.TheVariants.{Authenticate, SetCred,
 use Rattle.pam_base.specs.declared.style.Style.TheVariants.{EchoOn, TextInfo}
 use Rattle.conv_port.specs.declared.offer.Offer.{Offer}
 use Rattle.conv_port.specs.declared.offer.Offer.TheVariants.{Answer}
+use Rattle.pam_outside.specs.Files.{no_locks}
 use Rattle.pam_room.specs.State.{State, new_transaction, room_of, state_of, world_of}
 use Rattle.pam_room.specs.Call.{PlainCall}
 use Rattle.pam_room.specs.Module.{Player, Played, Plays, keeps_files, seen_of, sight_of}
@@ -24,7 +25,7 @@ call_of func flags args = record { func = func; flags = flags; args = args }
 abbrev start : List Offer → ℕ → State
 start offers caller = state_of
     (room_of (new_transaction 1) (record { offers = offers; waits = false; handed = [] }))
-    (world_of (record { files = []; calls = 0; fails = [] }) (record { moment = 0; word = 0; draws = 0 }) (record { waits = 0; sum = 0 }) (record { ledger = record { births = []; filed = [] }; root = []; caller = caller }))
+    (world_of (record { files = []; locks = no_locks; calls = 0; fails = [] }) (record { moment = 0; word = 0; draws = 0 }) (record { waits = 0; sum = 0 }) (record { ledger = record { births = []; filed = [] }; root = []; caller = caller }))
 
 abbrev play : Plays → PlainCall → State → Played
 play plays call s = plays call (seen_of s.room) [] (sight_of (scene_in s))

@@ -14,7 +14,7 @@ use Rattle.pam_base.specs.declared.fault.Refuse.{Refuse}
 use Rattle.pam_base.specs.declared.fault.Refuse.TheVariants as refusals
 use Rattle.data_cleanup.specs.DataList.{PlainDataList}
 use Rattle.data_cleanup.specs.Ledger.{PlainLedger}
-use Rattle.pam_room.specs.Module.{HasSet, NamedData, Note, Played, Plays, SeenRoom, Sight}
+use Rattle.pam_room.specs.Module.{HasSet, NamedData, Note, Played, Plays, SeenRoom, Sight, same_locks}
 use Rattle.pam_room.specs.Say.{speak}
 use Rattle.mod_basic.specs.Request.{PlainRequest, set_data, send, delay, nothing, request_of}
 
@@ -99,6 +99,7 @@ played_so p args sight = record {
   room = p.room;
   births = p.births;
   files = sight.files;
+  locks = same_locks;
   calls = 0;
   draws = 0;
 }

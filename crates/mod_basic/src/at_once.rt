@@ -66,6 +66,7 @@ impl<T: AtOnce> Module for AtOnceModule<T> {
         process: &mut Process,
         _conv: &mut dyn Conv,
         _vault: &mut dyn Vault,
+        _moment: u64,
         _clock: &mut dyn Clock,
     ) -> Result<Code, NoMemory> {
         Ok(T::code_of(call, &transaction.items, process.caller))

@@ -44,6 +44,7 @@ impl Module for Permit {
         _process: &mut Process,
         _conv: &mut dyn Conv,
         _vault: &mut dyn Vault,
+        _moment: u64,
         _clock: &mut dyn Clock,
     ) -> Result<Code, NoMemory> {
         laws::files_stay();

@@ -52,6 +52,7 @@ impl Module for Probe {
         process: &mut Process,
         conv: &mut dyn Conv,
         _vault: &mut dyn Vault,
+        _moment: u64,
         _clock: &mut dyn Clock,
     ) -> Result<Code, NoMemory> {
         laws::set_data_are_sets();

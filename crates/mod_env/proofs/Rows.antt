@@ -5,7 +5,7 @@ use Rattle.pam_base.specs.declared.call.Func.TheVariants.{OpenSession}
 use Rattle.pam_base.specs.Lines.{cut, lines_of}
 use Rattle.env_list.specs.Environment.{Variable}
 use Rattle.item_store.specs.Items.{no_texts}
-use Rattle.pam_outside.specs.Files.{File}
+use Rattle.pam_outside.specs.Files.{File, no_locks}
 use Rattle.module_acts.specs.pam_room.specs.State.{PlainRoom, new_transaction, room_of, scene_of}
 use Rattle.module_acts.specs.pam_room.specs.Module.{Played, failing_of, seen_of, sight_of}
 use Rattle.pam_base.specs.Parts.{parts_of}
@@ -76,7 +76,7 @@ room = let t = new_transaction 1 in room_of (record t { items = record no_texts 
 abbrev open_with : List File → List ℕ → Played
 open_with files fails =
     env_plays (record { func = OpenSession; flags = 0; args = [] }) (seen_of room) []
-    (sight_of (scene_of room (record { files = files; calls = 0; fails = fails }) (record { moment = 0; word = 0; draws = 0 }) (record { ledger = record { births = []; filed = [] }; root = codes "/r"; caller = 65534 })))
+    (sight_of (scene_of room (record { files = files; locks = no_locks; calls = 0; fails = fails }) (record { moment = 0; word = 0; draws = 0 }) (record { ledger = record { births = []; filed = [] }; root = codes "/r"; caller = 65534 })))
 
 abbrev conf : File
 conf = record { path = codes "/r/etc/security/pam_env.conf"; bytes = line }

@@ -17,7 +17,7 @@ use conv_port::Conv;
 use module_acts::pam_room::{Call, Transaction};
 use module_acts::{Accounts, Asked, Content, SMALL_FILE_LIMIT, Work, laws, read_named};
 use pam_base::{Code, ConvErr, Func, NoMemory, Refuse, Text};
-use pam_outside::{Clock, Vault};
+use pam_outside::Vault;
 use std::alloc::Global;
 
 /// The work of `Env`.
@@ -45,7 +45,7 @@ impl Work for EnvWork {
         transaction: &mut Transaction,
         _conv: &mut dyn Conv,
         vault: &mut dyn Vault,
-        _clock: &dyn Clock,
+        _moment: u64,
     ) -> Result<Code, Refuse<ConvErr>> {
         crate::laws::puts_alone();
         let code = read_first(asked, transaction, vault)?;

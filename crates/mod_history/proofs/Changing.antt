@@ -24,7 +24,7 @@ use Rattle.mod_unix.specs.declared.look.KnownPassword.TheVariants.{Unknown, Unav
 use Rattle.mod_unix.specs.Change.{write_result}
 use Rattle.mod_history.specs.declared.history.Remembered.{Remembered}
 use Rattle.mod_history.specs.History.{history_text}
-use Rattle.mod_history.specs.Pwhistory.{remember_in_history, by_length, renew_if_known, by_remember, by_use, history_in, history_limit, history_name, is_refused, refuses_token, remember_of, remembers, renews, stores_text, unsets_item}
+use Rattle.mod_history.specs.Pwhistory.{by_length, by_remember, by_use, compares_token, history_in, history_limit, history_name, is_refused, locks_history, refuses_token, remember_in_history, remember_of, remembers, renew_if_known, renews, stores_text, unless_used, unsets_item}
 use Rattle.mod_history.specs.Renewal.{hashes_of, renewed}
 
 pub none_if : {A : Type 0} (o : Option A) → ((x : A) → o ≢ Some x) → o ≡ None
@@ -66,32 +66,51 @@ module _ (call : PlainCall) (user hash : List ℕ) (found : Option (List ℕ)) (
     pub not_remembered : (remember_of call.args == 0) ≡ true → Yields returns.Success (remembers call user hash found) s s
     not_remembered e = by_zero returns.Success s true e (λ act known c end rest. rest)
 
-    pub remembered : (content : Content) (history : Option (List Remembered)) (code : Code) (mid new : Scene) → (remember_of call.args == 0) ≡ false → Yields content (reads_file history_name history_limit) s mid
-        → history ≡ history_in content → Yields code (remember_in_history call (remember_of call.args) user hash token history) mid new → Yields code (remembers call user hash found) s new
-    remembered content history code mid new e read h done = by_zero code new false e
-        (λ act known c end rest. read (λ k. remember_in_history call (remember_of call.args) user hash token (history_in k) act) known c end
-        (subst (λ (o : Option (List Remembered)). Acts (remember_in_history call (remember_of call.args) user hash token o act) known mid c end) h (done act known c end rest)))
+    pub compared : (content : Content) (history : Option (List Remembered)) (code : Code) (mid new : Scene) → (remember_of call.args == 0) ≡ false → Yields content (reads_file history_name history_limit) s mid
+        → history ≡ history_in content → Yields code (compares_token call (remember_of call.args) user hash token history) mid new → Yields code (remembers call user hash found) s new
+    compared content history code mid new e read h done = by_zero code new false e
+        (λ act known c end rest. read (λ k. compares_token call (remember_of call.args) user hash token (history_in k) act) known c end
+        (subst (λ (o : Option (List Remembered)). Acts (compares_token call (remember_of call.args) user hash token o act) known mid c end) h (done act known c end rest)))
 
 -- ---- with the history
 
 module _ (seeing : (act : ℕ → Act) (known : Known) (s : Scene) (code : Code) (new : Scene) → Acts (act s.process.caller) known s code new → Acts (sees_caller act) known s code new)
     (call : PlainCall) (remember : ℕ) (user hash token : List ℕ) (found : Option (List Remembered)) (s : Scene) where
-  pub no_history : found ≡ None → Yields returns.AuthtokErr (remember_in_history call remember user hash token found) s s
-  no_history e = subst (λ (o : Option (List Remembered)). Yields returns.AuthtokErr (remember_in_history call remember user hash token o) s s) (sym e) (λ act known c end rest. rest)
+  pub not_read : found ≡ None → Yields returns.AuthtokErr (compares_token call remember user hash token found) s s
+  not_read e = subst (λ (o : Option (List Remembered)). Yields returns.AuthtokErr (compares_token call remember user hash token o) s s) (sym e) (λ act known c end rest. rest)
+
+  pub no_history : found ≡ None → Yields (Some returns.AuthtokErr) (remember_in_history call remember user hash token found) s s
+  no_history e = subst (λ (o : Option (List Remembered)). Yields (Some returns.AuthtokErr) (remember_in_history call remember user hash token o) s s) (sym e) (λ act known c end rest. rest)
 
   module _ (history : List Remembered) (is : found ≡ Some history) where
-    by_refusal : (code : Code) (new : Scene) (refused : Bool) → refused ≡ is_refused call.args s.process.caller token hash (hashes_of user history) → Yields code (by_use refused remember user hash history) s new
-        → Yields code (remember_in_history call remember user hash token found) s new
-    by_refusal code new refused e h = subst (λ (o : Option (List Remembered)). Yields code (remember_in_history call remember user hash token o) s new) (sym is)
+    -- before the lock is taken
+    by_comparison : (code : Code) (new : Scene) (refused : Bool) → refused ≡ is_refused call.args s.process.caller token hash (hashes_of user history) → Yields code (unless_used refused call remember user hash token) s new
+        → Yields code (compares_token call remember user hash token found) s new
+    by_comparison code new refused e h = subst (λ (o : Option (List Remembered)). Yields code (compares_token call remember user hash token o) s new) (sym is)
+        (λ act known c end rest. seeing (λ caller. unless_used (is_refused call.args caller token hash (hashes_of user history)) call remember user hash token act) known s c end
+        (subst (λ (b : Bool). Acts (unless_used b call remember user hash token act) known s c end) e (h act known c end rest)))
+
+    pub had : (new : Scene) → true ≡ is_refused call.args s.process.caller token hash (hashes_of user history) → Yields returns.AuthtokErr refuses_token s new → Yields returns.AuthtokErr (compares_token call remember user hash token found) s new
+    had new e h = by_comparison returns.AuthtokErr new true e h
+
+    pub had_not : (code : Code) (new : Scene) → false ≡ is_refused call.args s.process.caller token hash (hashes_of user history) → Yields code (locks_history call remember user hash token) s new
+        → Yields code (compares_token call remember user hash token found) s new
+    had_not code new e h = by_comparison code new false e h
+
+    -- under the lock
+    by_refusal : (done : Option Code) (new : Scene) (refused : Bool) → refused ≡ is_refused call.args s.process.caller token hash (hashes_of user history) → Yields done (by_use refused remember user hash history) s new
+        → Yields done (remember_in_history call remember user hash token found) s new
+    by_refusal done new refused e h = subst (λ (o : Option (List Remembered)). Yields done (remember_in_history call remember user hash token o) s new) (sym is)
         (λ act known c end rest. seeing (λ caller. by_use (is_refused call.args caller token hash (hashes_of user history)) remember user hash history act) known s c end
         (subst (λ (b : Bool). Acts (by_use b remember user hash history act) known s c end) e (h act known c end rest)))
 
-    pub used : (new : Scene) → true ≡ is_refused call.args s.process.caller token hash (hashes_of user history) → Yields returns.AuthtokErr refuses_token s new → Yields returns.AuthtokErr (remember_in_history call remember user hash token found) s new
-    used new e h = by_refusal returns.AuthtokErr new true e h
+    pub used : true ≡ is_refused call.args s.process.caller token hash (hashes_of user history) → Yields None (remember_in_history call remember user hash token found) s s
+    used e = by_refusal None s true e (λ act known c end rest. rest)
 
     pub not_used : (code : Code) (text : List ℕ) (new : Scene) → false ≡ is_refused call.args s.process.caller token hash (hashes_of user history) → text ≡ history_text (renewed remember user hash history)
-        → Yields code (stores_text text) s new → Yields code (remember_in_history call remember user hash token found) s new
-    not_used code text new e is h = by_refusal code new false e (subst (λ (t : List ℕ). Yields code (stores_text t) s new) is h)
+        → Yields code (stores_text text) s new → Yields (Some code) (remember_in_history call remember user hash token found) s new
+    not_used code text new e is h = by_refusal (Some code) new false e
+        (λ act known c end rest. subst (λ (t : List ℕ). Acts (stores_text t (λ code. act (Some code))) known s c end) is (h (λ code. act (Some code)) known c end rest))
 
 -- ---- the file
 

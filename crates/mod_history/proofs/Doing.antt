@@ -1,10 +1,12 @@
 -- What a call of pam_pwhistory(8) does to a file: it leaves it, or renews a user's line in it.
-use Rattle.std.proofs.Common.{◌≡◌, ℕ, Bool, true, false, not, ◌==◌, cond, List, [], ◌∷◌, length, Option, Some, None, Result, Ok, Err, codes, nat_le, nat_lt, unwrap_or, refl, sym, ap, ◌∙◌}
+use Rattle.std.proofs.Common.{◌≡◌, ℕ, Bool, true, false, not, ◌==◌, cond, List, [], ◌∷◌, length, Option, Some, None, Result, Ok, Err, codes, nat_le, nat_lt, unwrap_or, ◌||◌, refl, sym, ap, ◌∙◌}
 use Rattle.std.specs.Str.{bytes_eq}
 use Rattle.std.proofs.lemmas.Slice.Eq.{bytes_eq-Decides}
 use Rattle.pam_base.specs.declared.code.Code.{Code}
 use Rattle.conv_port.specs.declared.conv.ConvFault.{ConvFault}
 use Rattle.conv_port.specs.declared.message.Reply.{Reply}
+use Rattle.pam_outside.specs.declared.held.LockKind.TheVariants.{Record}
+use Rattle.pam_outside.specs.declared.vault.TheConstants.{MAX_FILE}
 use Rattle.pam_outside.specs.Files.{File, file_at, file_put}
 use Rattle.pam_outside.specs.Paths.{path_of}
 use Rattle.pam_room.specs.Call.{PlainCall}
@@ -17,7 +19,7 @@ use Rattle.account_db.specs.Passwd.{entry_of, passwds_of}
 use Rattle.module_acts.specs.declared.content.Content.{Content}
 use Rattle.module_acts.specs.declared.content.Content.TheVariants as content
 use Rattle.module_acts.specs.Accounts.{account_limit, nothing_known, passwds_in}
-use Rattle.module_acts.specs.Act.{Act, Stage, answers, asks_user, called, in_room, later, reads_file, replaced as seen_after, replaces_file, sees_items, shows, unless_answered}
+use Rattle.module_acts.specs.Act.{Act, Stage, answers, asks_user, called, holds_lock, holds_unless, in_room, later, lets_go, reads_file, replaced as seen_after, replaces_file, sees_items, shows, unless_answered}
 use Rattle.module_acts.specs.Content.{content_of}
 use Rattle.module_acts.specs.Steps.{exchanges, sees_caller, sets_item, with_replies}
 use Rattle.mod_unix.specs.declared.look.KnownPassword.{KnownPassword}
@@ -27,7 +29,7 @@ use Rattle.mod_unix.specs.Change.{by_authtok, write_result, new_prompts, same_re
 use Rattle.mod_unix.specs.Look.{by_field, by_x as by_password, field_among, field_in, field_or_missing, is_x, looks, shadow_in}
 use Rattle.mod_history.specs.declared.history.Remembered.{Remembered}
 use Rattle.mod_history.specs.History.{history_of, history_text}
-use Rattle.mod_history.specs.Pwhistory.{at_once, remember_in_history, by_length, renew_if_known, by_remember, by_use, checks_token, history_in, history_limit, history_name, is_refused, pwhistory_plays, refuses_token, remember_of, remembers, renews, stores_text, unsets_item}
+use Rattle.mod_history.specs.Pwhistory.{at_once, by_length, by_remember, by_use, checks_token, compares_token, history_in, history_limit, history_name, if_locked, is_refused, locks_history, pwhistory_plays, refuses_token, remember_in_history, remember_locked, remember_of, remembers, renew_if_known, renews, stores_text, unless_refused, unless_used, unsets_item}
 use Rattle.mod_history.specs.Renewal.{hashes_of, renewed}
 use Rattle.mod_history.specs.Standing.{Deed, left, replaced, Does, account_text, entry_hash, hash_by, hash_in, passwd_hash, present_hash, history_on_file}
 use Rattle.mod_history.proofs.Renewed.{same}
@@ -70,21 +72,25 @@ module _ (path : List ℕ) (call : PlainCall) (room : SeenRoom) where
       abbrev pub Knows : Stage → Type 0
       Knows stage = present_hash stage.sight.root stage.sight.files user ≡ Some hash
 
+      -- the lock is let go, and the rest is done
+      abbrev ends : Option Code → Act
+      ends done = lets_go true (unless_refused answers done)
+
+      abbrev text_of : List Remembered → List ℕ
+      text_of on_file = history_text (renewed (remember_of call.args) user hash on_file)
+
       -- a file is set, if nothing fails
       put : (stage : Stage) (on_file : List Remembered) (fails : Bool) → Knows stage → history_on_file (file_at (path_of stage.sight.root history_name) stage.sight.files) ≡ Some on_file
-          → DoesOne stage.sight (called (answers (write_result (not fails)) (record stage { sight = seen_after fails (path_of stage.sight.root history_name) (history_text (renewed (remember_of call.args) user hash on_file)) stage.sight })))
-      unfolding answers
+          → DoesOne stage.sight (called (ends (Some (write_result (not fails))) (record stage { sight = seen_after fails (path_of stage.sight.root history_name) (text_of on_file) stage.sight })))
+      unfolding answers lets_go
       put stage on_file true knows stood = (left, refl)
       put stage on_file false knows stood = by (bytes_eq (path_of stage.sight.root history_name) path) refl
         where
-          text : List ℕ
-          text = history_text (renewed (remember_of call.args) user hash on_file)
-
           by : (t : Bool) → bytes_eq (path_of stage.sight.root history_name) path ≡ t
-              → DoesOne stage.sight (called (answers (write_result true) (record stage { sight = seen_after false (path_of stage.sight.root history_name) (history_text (renewed (remember_of call.args) user hash on_file)) stage.sight })))
+              → DoesOne stage.sight (called (ends (Some (write_result true)) (record stage { sight = seen_after false (path_of stage.sight.root history_name) (text_of on_file) stage.sight })))
           by true e =
               let is : path_of stage.sight.root history_name ≡ path = (bytes_eq-Decides (path_of stage.sight.root history_name) path).0 e in
-              let new = history_text (renewed (remember_of call.args) user hash on_file) in (
+              let new = text_of on_file in (
                 replaced user hash,
                 record {
                   code_is = refl;
@@ -95,44 +101,68 @@ module _ (path : List ℕ) (call : PlainCall) (room : SeenRoom) where
                   stands = ap (λ (p : List ℕ). file_at p (file_put (path_of stage.sight.root history_name) new stage.sight.files)) (sym is) ∙ put_there (path_of stage.sight.root history_name) new stage.sight.files;
                 },
               )
-          by false e = (left, put_past (path_of stage.sight.root history_name) (history_text (renewed (remember_of call.args) user hash on_file)) path e stage.sight.files)
+          by false e = (left, put_past (path_of stage.sight.root history_name) (text_of on_file) path e stage.sight.files)
 
       stored : (stage : Stage) (on_file : List Remembered) (short : Bool) → Knows stage → history_on_file (file_at (path_of stage.sight.root history_name) stage.sight.files) ≡ Some on_file
-          → DoesOne stage.sight (by_length short (history_text (renewed (remember_of call.args) user hash on_file)) answers stage)
-      unfolding answers replaces_file
-      stored stage on_file true knows stood = put stage on_file (stage.sight.failing 0) knows stood
+          → DoesOne stage.sight (by_length short (text_of on_file) (λ code. ends (Some code)) stage)
+      unfolding answers lets_go replaces_file
+      stored stage on_file true knows stood = put stage on_file (stage.sight.failing 0 || nat_lt MAX_FILE (length (text_of on_file))) knows stood
       stored stage on_file false knows stood = (left, refl)
 
       used : (stage : Stage) (on_file : List Remembered) (refused : Bool) → Knows stage → history_on_file (file_at (path_of stage.sight.root history_name) stage.sight.files) ≡ Some on_file
-          → DoesOne stage.sight (by_use refused (remember_of call.args) user hash on_file answers stage)
-      unfolding answers refuses_token unsets_item shows stores_text
+          → DoesOne stage.sight (by_use refused (remember_of call.args) user hash on_file ends stage)
+      unfolding answers lets_go refuses_token unsets_item shows stores_text
       used stage on_file true knows stood = (left, refl)
-      used stage on_file false knows stood = stored stage on_file (nat_le (length (history_text (renewed (remember_of call.args) user hash on_file))) history_limit) knows stood
+      used stage on_file false knows stood = stored stage on_file (nat_le (length (text_of on_file)) history_limit) knows stood
 
       module _ (token : List ℕ) where
         by_found : (stage : Stage) (found : Option (List Remembered)) → Knows stage → ((on_file : List Remembered) → found ≡ Some on_file → history_on_file (file_at (path_of stage.sight.root history_name) stage.sight.files) ≡ Some on_file)
-            → DoesOne stage.sight (remember_in_history call (remember_of call.args) user hash token found answers stage)
-        unfolding answers sees_caller
+            → DoesOne stage.sight (remember_in_history call (remember_of call.args) user hash token found ends stage)
+        unfolding answers lets_go sees_caller
         by_found stage None knows stood = (left, refl)
         by_found stage (Some on_file) knows stood = used stage on_file (is_refused call.args stage.sight.caller token hash (hashes_of user on_file)) knows (stood on_file refl)
 
         by_long : (stage : Stage) (long : Bool) (text : List ℕ) → Knows stage → file_at (path_of stage.sight.root history_name) stage.sight.files ≡ Some text
-            → DoesOne stage.sight (remember_in_history call (remember_of call.args) user hash token (history_in (cond long content.Unreadable (content.Holds text))) answers stage)
+            → DoesOne stage.sight (remember_in_history call (remember_of call.args) user hash token (history_in (cond long content.Unreadable (content.Holds text))) ends stage)
         by_long stage true text knows at = by_found stage None knows (λ on_file e. absurd cc)
         by_long stage false text knows at = by_found stage (history_of text) knows (λ on_file e. ap history_on_file at ∙ e)
 
         by_file : (stage : Stage) (o : Option (List ℕ)) (fails : Bool) → Knows stage → file_at (path_of stage.sight.root history_name) stage.sight.files ≡ o
-            → DoesOne stage.sight (remember_in_history call (remember_of call.args) user hash token (history_in (content_of fails history_limit o)) answers stage)
+            → DoesOne stage.sight (remember_in_history call (remember_of call.args) user hash token (history_in (content_of fails history_limit o)) ends stage)
         unfolding content_of
         by_file stage o true knows at = by_found stage None knows (λ on_file e. absurd cc)
         by_file stage None false knows at = by_found stage (Some []) knows (λ on_file e. ap history_on_file at ∙ e)
         by_file stage (Some text) false knows at = by_long stage (nat_lt history_limit (length text)) text knows at
 
+        read_again : (stage : Stage) → Knows stage → DoesOne stage.sight (remember_locked call (remember_of call.args) user hash token ends stage)
+        unfolding remember_locked reads_file
+        read_again stage knows = by_file (record stage { sight = later stage.sight }) (file_at (path_of stage.sight.root history_name) stage.sight.files) (stage.sight.failing 0) knows refl
+
+        by_failing : (stage : Stage) (fails : Bool) → Knows stage
+            → DoesOne stage.sight (holds_unless fails (path_of stage.sight.root (codes "/etc/.pwd.lock")) Record (if_locked call (remember_of call.args) user hash token answers) stage)
+        unfolding answers unsets_item
+        by_failing stage true knows = (left, refl)
+        by_failing stage false knows = read_again (record stage { sight = later stage.sight }) knows
+
+        by_lock : (stage : Stage) → Knows stage → DoesOne stage.sight (locks_history call (remember_of call.args) user hash token answers stage)
+        unfolding locks_history holds_lock
+        by_lock stage knows = by_failing stage (stage.sight.failing 0) knows
+
+        unless : (stage : Stage) (refused : Bool) → Knows stage → DoesOne stage.sight (unless_used refused call (remember_of call.args) user hash token answers stage)
+        unfolding answers refuses_token unsets_item shows
+        unless stage true knows = (left, refl)
+        unless stage false knows = by_lock stage knows
+
+        compared : (stage : Stage) (found : Option (List Remembered)) → Knows stage → DoesOne stage.sight (compares_token call (remember_of call.args) user hash token found answers stage)
+        unfolding answers sees_caller
+        compared stage None knows = (left, refl)
+        compared stage (Some on_file) knows = unless stage (is_refused call.args stage.sight.caller token hash (hashes_of user on_file)) knows
+
         by_zero : (stage : Stage) (none : Bool) → Knows stage → DoesOne stage.sight (by_remember none call (remember_of call.args) user hash token answers stage)
         unfolding answers reads_file
         by_zero stage true knows = (left, refl)
         by_zero stage false knows =
-            by_file (record stage { sight = later stage.sight }) (file_at (path_of stage.sight.root history_name) stage.sight.files) (stage.sight.failing 0) knows refl
+            compared (record stage { sight = later stage.sight }) (history_in (content_of (stage.sight.failing 0) history_limit (file_at (path_of stage.sight.root history_name) stage.sight.files))) knows
 
       remembering : (token : Option (List ℕ)) (stage : Stage) → Knows stage → DoesOne stage.sight (remembers call user hash token answers stage)
       unfolding remembers answers

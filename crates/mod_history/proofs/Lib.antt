@@ -1,8 +1,11 @@
 mod Seeing
 mod Changing
+mod Locking
+mod Comparing
 mod Rereading
 mod Wellformed
 mod Fields
+mod Neighbours
 mod Renewed
 mod Cutting
 mod Lasting

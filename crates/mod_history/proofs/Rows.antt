@@ -6,7 +6,8 @@ use Rattle.pam_base.specs.declared.call.Func.TheVariants.{Authenticate, ChAuthTo
 use Rattle.pam_base.specs.Lines.{cut, lines_of}
 use Rattle.pam_base.specs.Parts.{parts_of}
 use Rattle.item_store.specs.Items.{no_texts}
-use Rattle.pam_outside.specs.Files.{File, file_at}
+use Rattle.pam_outside.specs.Files.{File, file_at, no_locks}
+use Rattle.pam_outside.specs.declared.held.LockKind.TheVariants.{Record}
 use Rattle.pam_outside.specs.Paths.{path_of}
 use Rattle.pam_room.specs.State.{PlainRoom, new_transaction, room_of, scene_of}
 use Rattle.pam_room.specs.Call.{PlainCall}
@@ -14,13 +15,13 @@ use Rattle.pam_room.specs.Module.{Played, Plays, failing_of, seen_of, sight_of}
 use Rattle.account_db.specs.Entries.{entries_of}
 use Rattle.account_db.specs.Shells.{without_end}
 use Rattle.module_acts.specs.Content.{content_of}
-use Rattle.module_acts.specs.Act.{answers, asks_user, reads_file, reads_groups, reads_passwds, replaces_file, sees_items}
+use Rattle.module_acts.specs.Act.{answers, asks_user, holds_lock, lets_go, reads_file, reads_groups, reads_passwds, replaces_file, sees_items}
 use Rattle.module_acts.specs.Steps.{sees_caller}
 use Rattle.mod_unix.specs.Change.{takes_token}
 use Rattle.mod_unix.specs.Look.{looks}
 use Rattle.mod_history.specs.declared.history.Remembered.{Remembered}
 use Rattle.mod_history.specs.History.{history_of, history_text}
-use Rattle.mod_history.specs.Pwhistory.{renew_if_known, checks_token, pwhistory_plays, remember_of, remembers, renews, stores_text}
+use Rattle.mod_history.specs.Pwhistory.{renew_if_known, checks_token, locks_history, pwhistory_plays, remember_locked, remember_of, remembers, renews, stores_text, unsets_item}
 use Rattle.mod_history.specs.Renewal.{renewed, renewed_hashes}
 use Rattle.mod_history.specs.Securetty.{is_secure, securetty_plays}
 use Rattle.mod_history.specs.Wheel.{wheel_plays}
@@ -40,7 +41,7 @@ room_with user tty = let t = new_transaction 1 in
 -- fail
 abbrev play : Plays → PlainCall → PlainRoom → List File → ℕ → List ℕ → Played
 play plays call room files caller fails =
-    plays call (seen_of room) [] (sight_of (scene_of room (record { files = files; calls = 0; fails = fails }) (record { moment = 0; word = 0; draws = 0 }) (record { ledger = record { births = []; filed = [] }; root = codes "/r/"; caller = caller })))
+    plays call (seen_of room) [] (sight_of (scene_of room (record { files = files; locks = no_locks; calls = 0; fails = fails }) (record { moment = 0; word = 0; draws = 0 }) (record { ledger = record { births = []; filed = [] }; root = codes "/r/"; caller = caller })))
 
 abbrev passwd : File
 passwd = file (codes "/etc/passwd") (codes "root:x:0:0::/root:/bin/sh\njoe:H:1000:1000:Joe:/home/joe:/bin/sh\nann:x:1001:1001::/:/bin/sh\n")
@@ -215,19 +216,19 @@ abbrev in_history : Played → Option (List ℕ)
 in_history p = file_at (codes "/r/etc/security/pamsess_history") p.files
 
 pwhistory_code : (second (codes "remember=2" ∷ []) (history ∷ []) []).code ≡ returns.Success
-unfolding answers asks_user checks_token looks renew_if_known renews takes_token remembers remember_of reads_file sees_items sees_caller stores_text replaces_file history_of history_text content_of path_of failing_of entries_of parts_of lines_of cut
+unfolding answers asks_user checks_token looks renew_if_known renews takes_token remembers remember_of reads_file sees_items sees_caller locks_history holds_lock remember_locked lets_go stores_text replaces_file history_of history_text content_of path_of failing_of entries_of parts_of lines_of cut
 pwhistory_code = refl
 
 pwhistory_file : in_history (second (codes "remember=2" ∷ []) (history ∷ []) []) ≡ Some (codes "joe:B:H\nann\n")
-unfolding answers asks_user checks_token looks renew_if_known renews takes_token remembers remember_of reads_file sees_items sees_caller stores_text replaces_file history_of history_text content_of path_of failing_of entries_of parts_of lines_of cut
+unfolding answers asks_user checks_token looks renew_if_known renews takes_token remembers remember_of reads_file sees_items sees_caller locks_history holds_lock remember_locked lets_go stores_text replaces_file history_of history_text content_of path_of failing_of entries_of parts_of lines_of cut
 pwhistory_file = refl
 
 pwhistory_new : in_history (second [] [] []) ≡ Some (codes "joe:H\n")
-unfolding answers asks_user checks_token looks renew_if_known renews takes_token remembers remember_of reads_file sees_items sees_caller stores_text replaces_file history_of history_text content_of path_of failing_of entries_of parts_of lines_of cut
+unfolding answers asks_user checks_token looks renew_if_known renews takes_token remembers remember_of reads_file sees_items sees_caller locks_history holds_lock remember_locked lets_go stores_text replaces_file history_of history_text content_of path_of failing_of entries_of parts_of lines_of cut
 pwhistory_new = refl
 
-pwhistory_calls : (second [] (history ∷ []) []).calls ≡ 3
-unfolding answers asks_user checks_token looks renew_if_known renews takes_token remembers remember_of reads_file sees_items sees_caller stores_text replaces_file history_of history_text content_of path_of failing_of entries_of parts_of lines_of cut
+pwhistory_calls : (second [] (history ∷ []) []).calls ≡ 5
+unfolding answers asks_user checks_token looks renew_if_known renews takes_token remembers remember_of reads_file sees_items sees_caller locks_history holds_lock remember_locked lets_go stores_text replaces_file history_of history_text content_of path_of failing_of entries_of parts_of lines_of cut
 pwhistory_calls = refl
 
 -- nothing is read with remember=0
@@ -244,13 +245,35 @@ pwhistory_second_call : (second [] (history ∷ []) (2 ∷ [])).code ≡ returns
 unfolding answers asks_user checks_token looks renew_if_known renews takes_token remembers remember_of reads_file sees_items sees_caller content_of path_of failing_of entries_of parts_of lines_of cut
 pwhistory_second_call = refl
 
+-- without the lock the new password is unset
 pwhistory_third_call : (second [] (history ∷ []) (3 ∷ [])).code ≡ returns.AuthtokErr
-unfolding answers asks_user checks_token looks renew_if_known renews takes_token remembers remember_of reads_file sees_items sees_caller stores_text replaces_file history_of history_text content_of path_of failing_of entries_of parts_of lines_of cut
+unfolding unsets_item answers asks_user checks_token looks renew_if_known renews takes_token remembers remember_of reads_file sees_items sees_caller locks_history holds_lock remember_locked lets_go stores_text replaces_file history_of history_text content_of path_of failing_of entries_of parts_of lines_of cut
 pwhistory_third_call = refl
 
-pwhistory_third_file : in_history (second [] (history ∷ []) (3 ∷ [])) ≡ Some (codes "joe:A:B\nann")
-unfolding answers asks_user checks_token looks renew_if_known renews takes_token remembers remember_of reads_file sees_items sees_caller stores_text replaces_file history_of history_text content_of path_of failing_of entries_of parts_of lines_of cut
-pwhistory_third_file = refl
+pwhistory_third_token : (second [] (history ∷ []) (3 ∷ [])).room.items.auth_tok ≡ None
+unfolding unsets_item answers asks_user checks_token looks renew_if_known renews takes_token remembers remember_of reads_file sees_items sees_caller locks_history holds_lock remember_locked lets_go stores_text replaces_file history_of history_text content_of path_of failing_of entries_of parts_of lines_of cut
+pwhistory_third_token = refl
+
+pwhistory_fourth_call : (second [] (history ∷ []) (4 ∷ [])).code ≡ returns.AuthtokErr
+unfolding answers asks_user checks_token looks renew_if_known renews takes_token remembers remember_of reads_file sees_items sees_caller locks_history holds_lock remember_locked lets_go stores_text replaces_file history_of history_text content_of path_of failing_of entries_of parts_of lines_of cut
+pwhistory_fourth_call = refl
+
+pwhistory_fifth_call : (second [] (history ∷ []) (5 ∷ [])).code ≡ returns.AuthtokErr
+unfolding answers asks_user checks_token looks renew_if_known renews takes_token remembers remember_of reads_file sees_items sees_caller locks_history holds_lock remember_locked lets_go stores_text replaces_file history_of history_text content_of path_of failing_of entries_of parts_of lines_of cut
+pwhistory_fifth_call = refl
+
+pwhistory_fifth_file : in_history (second [] (history ∷ []) (5 ∷ [])) ≡ Some (codes "joe:A:B\nann")
+unfolding answers asks_user checks_token looks renew_if_known renews takes_token remembers remember_of reads_file sees_items sees_caller locks_history holds_lock remember_locked lets_go stores_text replaces_file history_of history_text content_of path_of failing_of entries_of parts_of lines_of cut
+pwhistory_fifth_file = refl
+
+-- the third call takes the lock, and it is let go after the fifth
+pwhistory_lock : ((second [] (history ∷ []) []).locks 0 no_locks).taken ≡ record { path = codes "/r/etc/.pwd.lock"; kind = Record; calls = 3 } ∷ []
+unfolding answers asks_user checks_token looks renew_if_known renews takes_token remembers remember_of reads_file sees_items sees_caller locks_history holds_lock remember_locked lets_go stores_text replaces_file history_of history_text content_of path_of failing_of entries_of parts_of lines_of cut
+pwhistory_lock = refl
+
+pwhistory_let_go : ((second [] (history ∷ []) []).locks 0 no_locks).let_go ≡ 5
+unfolding answers asks_user checks_token looks renew_if_known renews takes_token remembers remember_of reads_file sees_items sees_caller locks_history holds_lock remember_locked lets_go stores_text replaces_file history_of history_text content_of path_of failing_of entries_of parts_of lines_of cut
+pwhistory_let_go = refl
 
 pwhistory_damaged : (second [] (file (codes "/etc/security/pamsess_history") (codes "joe:A\n\n") ∷ []) []).code ≡ returns.AuthtokErr
 unfolding answers asks_user checks_token looks renew_if_known renews takes_token remembers remember_of reads_file sees_items sees_caller history_of content_of path_of failing_of entries_of parts_of lines_of cut
@@ -262,19 +285,19 @@ with_token token = let t = new_transaction 1 in
     play pwhistory_plays (call_of ChAuthTok (codes "use_authtok" ∷ [])) (room_of (record t { items = record no_texts { user = Some (codes "joe"); auth_tok = token } }) (record { offers = []; waits = false; handed = [] })) (passwd ∷ []) 0 []
 
 token_unset : (with_token None).code ≡ returns.AuthtokErr
-unfolding answers asks_user checks_token looks renew_if_known renews takes_token remembers remember_of reads_file sees_items sees_caller stores_text replaces_file history_of history_text content_of path_of failing_of entries_of parts_of lines_of cut
+unfolding answers asks_user checks_token looks renew_if_known renews takes_token remembers remember_of reads_file sees_items sees_caller locks_history holds_lock remember_locked lets_go stores_text replaces_file history_of history_text content_of path_of failing_of entries_of parts_of lines_of cut
 token_unset = refl
 
 token_empty : (with_token (Some [])).code ≡ returns.AuthtokErr
-unfolding answers asks_user checks_token looks renew_if_known renews takes_token remembers remember_of reads_file sees_items sees_caller stores_text replaces_file history_of history_text content_of path_of failing_of entries_of parts_of lines_of cut
+unfolding answers asks_user checks_token looks renew_if_known renews takes_token remembers remember_of reads_file sees_items sees_caller locks_history holds_lock remember_locked lets_go stores_text replaces_file history_of history_text content_of path_of failing_of entries_of parts_of lines_of cut
 token_empty = refl
 
 token_of_512 : (with_token (Some (replicate 512 110))).code ≡ returns.Success
-unfolding answers asks_user checks_token looks renew_if_known renews takes_token remembers remember_of reads_file sees_items sees_caller stores_text replaces_file history_of history_text content_of path_of failing_of entries_of parts_of lines_of cut
+unfolding answers asks_user checks_token looks renew_if_known renews takes_token remembers remember_of reads_file sees_items sees_caller locks_history holds_lock remember_locked lets_go stores_text replaces_file history_of history_text content_of path_of failing_of entries_of parts_of lines_of cut
 token_of_512 = refl
 
 token_of_513 : (with_token (Some (replicate 513 110))).code ≡ returns.AuthtokErr
-unfolding answers asks_user checks_token looks renew_if_known renews takes_token remembers remember_of reads_file sees_items sees_caller stores_text replaces_file history_of history_text content_of path_of failing_of entries_of parts_of lines_of cut
+unfolding answers asks_user checks_token looks renew_if_known renews takes_token remembers remember_of reads_file sees_items sees_caller locks_history holds_lock remember_locked lets_go stores_text replaces_file history_of history_text content_of path_of failing_of entries_of parts_of lines_of cut
 token_of_513 = refl
 
 -- the first pass

@@ -52,6 +52,15 @@ abbrev pub are_distinct : List Remembered → Bool
 are_distinct [] = true
 are_distinct (r ∷ rs) = not (has_name r.name rs) && are_distinct rs
 
+-- the same for texts in order: none is the one before it
+abbrev pub is_first : List ℕ → List (List ℕ) → Bool
+is_first text [] = false
+is_first text (t ∷ ts) = bytes_eq t text
+
+abbrev pub neighbours_differ : List (List ℕ) → Bool
+neighbours_differ [] = true
+neighbours_differ (t ∷ ts) = not (is_first t ts) && neighbours_differ ts
+
 abbrev pub if_distinct : Option (List Remembered) → Option (List Remembered)
 if_distinct None = None
 if_distinct (Some history) = if are_distinct history then Some history else None

@@ -11,11 +11,12 @@ use Rattle.pam_base.specs.declared.item.ItemName.{ItemName}
 use Rattle.pam_base.specs.declared.item.ItemName.TheVariants.{AuthTok}
 use Rattle.pam_base.specs.declared.style.Style.TheVariants.{ErrorMsg}
 use Rattle.item_store.specs.Items.{with_text}
+use Rattle.pam_outside.specs.declared.held.LockKind.TheVariants.{Record}
 use Rattle.pam_room.specs.Call.{PlainCall, has_flag, prelim_check, value_among}
 use Rattle.pam_room.specs.Module.{Plays}
 use Rattle.module_acts.specs.declared.content.Content.{Content}
 use Rattle.module_acts.specs.declared.content.Content.TheVariants.{Absent, Unreadable, Holds}
-use Rattle.module_acts.specs.Act.{Act, answers, asks_user, in_room, plays_by, reads_file, replaces_file, shows, unless_answered}
+use Rattle.module_acts.specs.Act.{Act, answers, asks_user, holds_lock, in_room, lets_go, plays_by, reads_file, replaces_file, shows, unless_answered}
 use Rattle.module_acts.specs.Steps.{sees_caller}
 use Rattle.sha_crypt.specs.declared.setting.SettingFault.{SettingFault}
 use Rattle.sha_crypt.specs.Hash.{crypted}
@@ -96,28 +97,67 @@ by_length false text act = act AuthtokErr
 unfoldable pub stores_text : List ℕ → (Code → Act) → Act
 stores_text text act = by_length (nat_le (length text) history_limit) text act
 
--- ---- the second pass
-
-abbrev pub by_use : Bool → ℕ → List ℕ → List ℕ → List Remembered → (Code → Act) → Act
-by_use true remember user hash history act = refuses_token act
-by_use false remember user hash history act =
-    stores_text (history_text (renewed remember user hash history)) act
-
 abbrev pub is_refused : List (List ℕ) → ℕ → List ℕ → List ℕ → List (List ℕ) → Bool
 is_refused args caller token hash hashes = is_enforced args caller && was_used token hash hashes
 
+-- ---- under the lock
+
+-- the token was used before, which is None, or the file is replaced
+abbrev pub by_use : Bool → ℕ → List ℕ → List ℕ → List Remembered → (Option Code → Act) → Act
+by_use true remember user hash history act = act None
+by_use false remember user hash history act =
+    stores_text (history_text (renewed remember user hash history)) (λ code. act (Some code))
+
 abbrev pub remember_in_history : PlainCall → ℕ → List ℕ → List ℕ → List ℕ → Option (List Remembered)
-    → (Code → Act) → Act
-remember_in_history call remember user hash token None act = act AuthtokErr
+    → (Option Code → Act) → Act
+remember_in_history call remember user hash token None act = act (Some AuthtokErr)
 remember_in_history call remember user hash token (Some history) act =
     sees_caller (λ caller. by_use (is_refused call.args caller token hash (hashes_of user history))
     remember user hash history act)
+
+-- the history is read again, since it may have changed before it was locked
+unfoldable pub remember_locked : PlainCall → ℕ → List ℕ → List ℕ → List ℕ → (Option Code → Act)
+    → Act
+remember_locked call remember user hash token act =
+    reads_file history_name history_limit (λ content. remember_in_history call remember user hash token
+    (history_in content) act)
+
+-- after the lock is let go
+abbrev pub unless_refused : (Code → Act) → Option Code → Act
+unless_refused act (Some code) = act code
+unless_refused act None = refuses_token act
+
+-- if the lock can't be taken, no later module takes the token
+abbrev pub if_locked : PlainCall → ℕ → List ℕ → List ℕ → List ℕ → (Code → Act) → Bool → Act
+if_locked call remember user hash token act true =
+    remember_locked call remember user hash token (λ done. lets_go true (unless_refused act done))
+if_locked call remember user hash token act false = unsets_item AuthTok (act AuthtokErr)
+
+-- the lock is that of the account files (lckpwdf(3))
+unfoldable pub locks_history : PlainCall → ℕ → List ℕ → List ℕ → List ℕ → (Code → Act) → Act
+locks_history call remember user hash token act =
+    holds_lock (codes "/etc/.pwd.lock") Record (if_locked call remember user hash token act)
+
+-- ---- the second pass
+
+abbrev pub unless_used : Bool → PlainCall → ℕ → List ℕ → List ℕ → List ℕ → (Code → Act) → Act
+unless_used true call remember user hash token act = refuses_token act
+unless_used false call remember user hash token act =
+    locks_history call remember user hash token act
+
+-- the token is looked for in the history before that is locked
+abbrev pub compares_token : PlainCall → ℕ → List ℕ → List ℕ → List ℕ → Option (List Remembered)
+    → (Code → Act) → Act
+compares_token call remember user hash token None act = act AuthtokErr
+compares_token call remember user hash token (Some history) act =
+    sees_caller (λ caller. unless_used (is_refused call.args caller token hash
+    (hashes_of user history)) call remember user hash token act)
 
 -- with `remember=0` nothing is remembered, and nothing is looked up
 abbrev pub by_remember : Bool → PlainCall → ℕ → List ℕ → List ℕ → List ℕ → (Code → Act) → Act
 by_remember true call remember user hash token act = act Success
 by_remember false call remember user hash token act =
-    reads_file history_name history_limit (λ content. remember_in_history call remember user hash token
+    reads_file history_name history_limit (λ content. compares_token call remember user hash token
     (history_in content) act)
 
 abbrev pub by_token : PlainCall → List ℕ → List ℕ → Option (List ℕ) → (Code → Act) → Act

@@ -4,18 +4,19 @@ ghost use Rattle.pam_room.specs.Plain.{plain_call, plain_process};
 ghost use Rattle.module_acts.specs.Act.{Yields};
 ghost use Rattle.module_acts.specs.Returns.{Returns, scene_of_parts};
 ghost use Rattle.module_acts.specs.OnlyTalks.{OnlyTalks};
-ghost use Rattle.mod_history.specs.Pwhistory.{remember_in_history, renew_if_known, checks_token, remember_of, remembers, renews, short_number};
+ghost use Rattle.mod_history.specs.Pwhistory.{compares_token, renew_if_known, checks_token, remember_of, remembers, renews};
 
-use crate::file::{HISTORY_LIMIT, HISTORY_NAME, history_in, store_text};
+use crate::arguments::remember_of;
+use crate::file::{HISTORY_LIMIT, HISTORY_NAME, history_in};
 use crate::history::{History, hashes_of};
-use crate::refusal::{is_refused, refuse_token, unset_token};
-use crate::renewal::renewed_text;
+use crate::locked::lock_history;
+use crate::refusal::{is_refused, refuse_token};
 use conv_port::Conv;
 use mod_unix::{KnownPassword, look_up, take_token};
-use module_acts::{Asked, hold_named, laws, read_named, require_user, user_of};
-use pam_base::{Code, ConvErr, NoMemory, Refuse, Text, number_in};
-use pam_outside::{Held, LockKind, Vault};
-use pam_room::{Call, Transaction};
+use module_acts::{Asked, laws, read_named, require_user, user_of};
+use pam_base::{Code, ConvErr, NoMemory, Refuse, Text};
+use pam_outside::Vault;
+use pam_room::Transaction;
 
 /// Takes a new token, unless the user has it or had it, and remembers the hash of the present one.
 pub(crate) fn check_token(
@@ -111,7 +112,6 @@ fn renew(
 }
 
 // Remembers the hash of the present token, if there is a new one that the user neither has nor had.
-// The account files are locked from the read to the replacement, as lckpwdf(3) locks them.
 fn remember(
     asked: &Asked,
     user: &[u8],
@@ -143,20 +143,6 @@ fn remember(
     if remember_of(asked.call) == 0 {
         return Ok(Code::Success);
     }
-    let held = match hold_named(
-        asked.alloc,
-        vault,
-        asked.process,
-        b"/etc/.pwd.lock",
-        LockKind::Record,
-    )? {
-        Some(held) => held,
-        None => {
-            // Otherwise a later module would set a token that wasn't checked.
-            unset_token(transaction);
-            return Ok(Code::AuthtokErr);
-        }
-    };
     let content = read_named(
         asked.alloc,
         vault,
@@ -165,13 +151,12 @@ fn remember(
         HISTORY_LIMIT,
     )?;
     let history = history_in(asked.alloc, content)?;
-    let code = remember_in_history(
+    let code = compare(
         asked,
         user,
         hash,
         token.bytes(),
         history,
-        held,
         transaction,
         conv,
         vault,
@@ -179,15 +164,13 @@ fn remember(
     Ok(code)
 }
 
-// Continues with the history, unless it can't be read. The lock is released before the user gets
-// any message, so that nobody can hold it by not reading a terminal.
-fn remember_in_history(
+// Refuses the token if the history has it. This takes long, so nothing is locked meanwhile.
+fn compare(
     asked: &Asked,
     user: &[u8],
     hash: &[u8],
     token: &[u8],
     history: Option<History>,
-    held: Held,
     transaction: &mut Transaction,
     conv: &mut dyn Conv,
     vault: &mut dyn Vault,
@@ -200,7 +183,7 @@ fn remember_in_history(
         OnErr result ((vault_holds vault.new).files ≡ (vault_holds vault.old).files) }
     ensures told { IsTrue (conv_tells conv.old) → IsTrue (vault_tells vault.old) →
         (clock : ClockState) →
-        IfOk result (λ code. Yields code (remember_in_history (plain_call asked.now.call.now)
+        IfOk result (λ code. Yields code (compares_token (plain_call asked.now.call.now)
         (remember_of asked.now.call.now.args.now) user.now hash.now token.now history)
         (scene_of_parts transaction.old (conv_holds conv.old) (vault_holds vault.old) clock
         (plain_process asked.now.process.now))
@@ -223,33 +206,9 @@ fn remember_in_history(
         hashes,
     )?;
     if refused {
-        drop(held);
         refuse_token(asked.alloc, transaction, conv)?;
         return Ok(Code::AuthtokErr);
     }
-    let text = renewed_text(asked.alloc, remember_of(asked.call), user, hash, &history)?;
-    let code = store_text(asked.alloc, asked.process, vault, text.bytes())?;
+    let code = lock_history(asked, user, hash, token, hashes, transaction, conv, vault)?;
     Ok(code)
-}
-
-// How many hashes of a user are kept.
-#[tactic(auto, unfolding(crate::specs::Pwhistory::remember_of))]
-fn remember_of(call: &Call) -> u32
-    ensures { result ≡ remember_of call.now.args.now }
-{
-    match call.value(b"remember=") {
-        Some(word) => short_number(word).unwrap_or(10),
-        None => 10,
-    }
-}
-
-// A number of one to three digits.
-fn short_number(word: &[u8]) -> Option<u32>
-    ensures { result ≡ short_number word.now }
-{
-    if word.len() <= 3 {
-        number_in(word)
-    } else {
-        None
-    }
 }

@@ -1,8 +1,9 @@
 ghost use Rattle.std.specs.Prelude.{◌≡◌, IfOk};
 ghost use Rattle.std.specs.Option.{option_copied};
-ghost use Rattle.mod_history.specs.History.{ReadsHistory, all_in, are_distinct, has_name, history_of, part_in, remembered_in};
+ghost use Rattle.mod_history.specs.History.{ReadsHistory, all_in, history_of, part_in, remembered_in};
 ghost use Rattle.mod_history.specs.Renewal.{hashes_of, line_of};
 
+use crate::distinct::are_distinct;
 use pam_base::{Lines, NoMemory, Parts, Refuse, Sequence, Text, Texts};
 use std::alloc::Global;
 
@@ -33,10 +34,13 @@ pub(crate) fn history_of(alloc: Global, text: &[u8]) -> Result<Option<History>, 
     ensures { IfOk result (λ found. found ≡ history_of text.now) }
 {
     let mut lines = Lines::new(text);
-    match read_lines(alloc, &mut lines)? {
-        Some(history) if are_distinct(history.items()) => Ok(Some(history)),
-        Some(_) => Ok(None),
-        None => Ok(None),
+    let Some(history) = read_lines(alloc, &mut lines)? else {
+        return Ok(None);
+    };
+    if are_distinct(alloc, history.items())? {
+        Ok(Some(history))
+    } else {
+        Ok(None)
     }
 }
 
@@ -92,26 +96,6 @@ fn part_in(alloc: Global, part: &[u8]) -> Result<Option<Text>, NoMemory>
     } else {
         Ok(Some(Text::from_bytes(alloc, part)?))
     }
-}
-
-// Whether no name occurs twice.
-fn are_distinct(history: &[Remembered]) -> bool
-    ensures { result ≡ are_distinct history.now }
-{
-    let mut rest = history;
-    while let [line, after @ ..] = rest {
-        if has_name(line.name.bytes(), after) {
-            return false;
-        }
-        rest = after;
-    }
-    true
-}
-
-fn has_name(name: &[u8], history: &[Remembered]) -> bool
-    ensures { result ≡ has_name name.now history.now }
-{
-    history.iter().any(|line| line.name.bytes() == name)
 }
 
 /// The hashes of a user: those of the line with that name, if there is one.

@@ -3,10 +3,13 @@
 //! `pam_securetty.rt`, and for the history at `change.rt`.
 #![tactic(auto)]
 
+mod arguments;
 mod change;
+mod distinct;
 mod file;
 mod history;
 pub mod laws;
+mod locked;
 mod pam_pwhistory;
 mod pam_securetty;
 mod pam_wheel;

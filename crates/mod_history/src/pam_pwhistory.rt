@@ -7,7 +7,7 @@ use crate::change::check_token;
 use conv_port::Conv;
 use module_acts::{Asked, Work, laws};
 use pam_base::{Code, ConvErr, Func, PRELIM_CHECK, Refuse};
-use pam_outside::{Clock, Vault};
+use pam_outside::Vault;
 use pam_room::{Call, Transaction};
 
 /// The work of `Pwhistory`.
@@ -35,7 +35,7 @@ impl Work for PwhistoryWork {
         transaction: &mut Transaction,
         conv: &mut dyn Conv,
         vault: &mut dyn Vault,
-        _clock: &dyn Clock,
+        _moment: u64,
     ) -> Result<Code, Refuse<ConvErr>> {
         laws::talking();
         laws::codes_finish();

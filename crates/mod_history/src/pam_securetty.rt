@@ -14,7 +14,7 @@ use module_acts::{
     read_named,
 };
 use pam_base::{Code, ItemName, Lines, NoMemory};
-use pam_outside::{Clock, Vault};
+use pam_outside::Vault;
 use pam_room::{Call, get_item, value_in};
 
 /// What `Securetty` decides.
@@ -37,7 +37,7 @@ impl Check for SecurettyCheck {
         code_unchecked(call.func, Code::Success)
     }
 
-    fn decide(seen: &Seen, vault: &mut dyn Vault, _clock: &dyn Clock) -> Result<Code, NoMemory> {
+    fn decide(seen: &Seen, vault: &mut dyn Vault, _moment: u64) -> Result<Code, NoMemory> {
         laws::act_steps();
         let mut accounts = Accounts::new();
         let account = account_of(seen, &mut accounts, vault)?;

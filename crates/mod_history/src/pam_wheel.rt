@@ -7,7 +7,7 @@ ghost use Rattle.mod_history.specs.Wheel.{by_group, by_membership, checks_user, 
 use account_db::{Group, Groups, Passwd, PasswdFile, entry_of, entry_of_uid, group_of, is_member};
 use module_acts::{Accounts, Check, Seen, code_unchecked, has_argument, laws, user_of};
 use pam_base::{Code, NoMemory, Texts};
-use pam_outside::{Clock, Vault};
+use pam_outside::Vault;
 use pam_room::Call;
 use std::alloc::Global;
 
@@ -31,7 +31,7 @@ impl Check for WheelCheck {
         code_unchecked(call.func, Code::Success)
     }
 
-    fn decide(seen: &Seen, vault: &mut dyn Vault, _clock: &dyn Clock) -> Result<Code, NoMemory> {
+    fn decide(seen: &Seen, vault: &mut dyn Vault, _moment: u64) -> Result<Code, NoMemory> {
         laws::act_steps();
         let caller = seen.process.caller;
         let mut accounts = Accounts::new();

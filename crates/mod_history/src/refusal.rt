@@ -1,4 +1,6 @@
-ghost use Rattle.std.specs.Prelude.{◌≡◌, ◌≤◌, None, IsTrue, IfOk, OnOk, length};
+ghost use Rattle.std.specs.Prelude.{◌≡◌, ◌≤◌, None, IsTrue, IfOk, OnOk, length, false};
+ghost use Rattle.std.specs.List.{list_any};
+ghost use Rattle.std.specs.Str.{bytes_eq};
 ghost use Rattle.item_store.specs.Items.{with_text};
 ghost use Rattle.conv_port.specs.Conv.{ConvState};
 ghost use Rattle.pam_outside.specs.Files.{VaultState};
@@ -36,6 +38,28 @@ pub(crate) fn is_refused(
     was_used(alloc, token, hash, hashes)
 }
 
+/// The same, if by the user's earlier hashes it isn't refused: only hashes that are new are compared.
+pub(crate) fn is_refused_now(
+    alloc: Global,
+    call: &Call,
+    caller: u32,
+    token: &[u8],
+    hash: &[u8],
+    earlier: &[Text],
+    hashes: &[Text],
+) -> Result<bool, NoMemory>
+    requires short { length token.now ≤ 512 }
+    requires earlier { is_refused call.now.args.now caller token.now hash.now earlier.now
+        ≡ false }
+    ensures { IfOk result (λ refused. refused ≡ is_refused call.now.args.now caller token.now
+        hash.now hashes.now) }
+{
+    if !is_enforced(call, caller) {
+        return Ok(false);
+    }
+    has_new_hash(alloc, token, hash, earlier, hashes)
+}
+
 // Whether root, too, may not use a password again.
 fn is_enforced(call: &Call, caller: u32) -> bool
     ensures { result ≡ is_enforced call.now.args.now caller }
@@ -60,6 +84,56 @@ fn was_used(alloc: Global, token: &[u8], hash: &[u8], hashes: &[Text]) -> Result
         rest = after;
     }
     Ok(false)
+}
+
+// Whether the user had the token, who by the earlier hashes neither has it nor had it.
+#[tactic(auto, unfolding(crate::specs::Pwhistory::was_used))]
+fn has_new_hash(
+    alloc: Global,
+    token: &[u8],
+    hash: &[u8],
+    earlier: &[Text],
+    hashes: &[Text],
+) -> Result<bool, NoMemory>
+    requires short { length token.now ≤ 512 }
+    requires earlier { was_used token.now hash.now earlier.now ≡ false }
+    ensures { IfOk result (λ used. used ≡ was_used token.now hash.now hashes.now) }
+{
+    let mut rest = hashes;
+    while let [other, after @ ..] = rest {
+        if is_new_hash(alloc, token, hash, earlier, other.bytes())? {
+            return Ok(true);
+        }
+        rest = after;
+    }
+    Ok(false)
+}
+
+// Whether a hash is the token's. One of the earlier ones isn't.
+fn is_new_hash(
+    alloc: Global,
+    token: &[u8],
+    hash: &[u8],
+    earlier: &[Text],
+    other: &[u8],
+) -> Result<bool, NoMemory>
+    requires short { length token.now ≤ 512 }
+    requires earlier { was_used token.now hash.now earlier.now ≡ false }
+    ensures { IfOk result (λ has. has ≡ has_hash token.now other.now) }
+{
+    if other == hash {
+        return Ok(false);
+    }
+    if is_among(other, earlier) {
+        return Ok(false);
+    }
+    has_hash(alloc, token, other)
+}
+
+fn is_among(hash: &[u8], hashes: &[Text]) -> bool
+    ensures { result ≡ list_any (λ t. bytes_eq t hash.now) hashes.now }
+{
+    hashes.iter().any(|t| t.bytes() == hash)
 }
 
 // Whether the token's hash, under this one as the setting, is this one (`crypt(3)`).

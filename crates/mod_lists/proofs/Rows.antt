@@ -6,7 +6,7 @@ use Rattle.pam_base.specs.declared.call.Func.TheVariants.{Authenticate, AcctMgmt
 use Rattle.pam_base.specs.declared.style.Style.TheVariants.{ErrorMsg}
 use Rattle.pam_base.specs.Lines.{cut, lines_of}
 use Rattle.item_store.specs.Items.{no_texts}
-use Rattle.pam_outside.specs.Files.{File}
+use Rattle.pam_outside.specs.Files.{File, no_locks}
 use Rattle.pam_room.specs.State.{PlainRoom, new_transaction, room_of, scene_of}
 use Rattle.pam_room.specs.Call.{PlainCall}
 use Rattle.pam_room.specs.Module.{Played, Plays, failing_of, seen_of, sight_of}
@@ -35,7 +35,7 @@ joe = let t = new_transaction 1 in room_of (record t { items = record no_texts {
 -- with these files below /r/, of whose calls those with these numbers are set to fail
 abbrev play : Plays → PlainCall → List File → List ℕ → Played
 play plays call files fails =
-    plays call (seen_of joe) [] (sight_of (scene_of joe (record { files = files; calls = 0; fails = fails }) (record { moment = 0; word = 0; draws = 0 }) (record { ledger = record { births = []; filed = [] }; root = codes "/r/"; caller = 65534 })))
+    plays call (seen_of joe) [] (sight_of (scene_of joe (record { files = files; locks = no_locks; calls = 0; fails = fails }) (record { moment = 0; word = 0; draws = 0 }) (record { ledger = record { births = []; filed = [] }; root = codes "/r/"; caller = 65534 })))
 
 abbrev notice : File
 notice = record { path = codes "/r/etc/nologin"; bytes = codes "closed" }

@@ -12,7 +12,7 @@ use crate::trial::try_words;
 use crate::truth::Truth;
 use module_acts::{Accounts, Check, Seen, laws};
 use pam_base::{Code, Func, NoMemory, Text, Texts};
-use pam_outside::{Clock, Vault};
+use pam_outside::Vault;
 use pam_room::Call;
 use std::alloc::Global;
 
@@ -36,7 +36,7 @@ impl Check for SucceedIfCheck {
         at_once(call.func).or(unsupported(uses_uid(call.args)))
     }
 
-    fn decide(seen: &Seen, vault: &mut dyn Vault, _clock: &dyn Clock) -> Result<Code, NoMemory> {
+    fn decide(seen: &Seen, vault: &mut dyn Vault, _moment: u64) -> Result<Code, NoMemory> {
         let conditions = conditions_in(seen.alloc, seen.call.args)?;
         let code = meet_all(seen, &conditions, vault)?;
         Ok(code)

@@ -1,5 +1,6 @@
 mod Going
 mod Counting
+mod Replacing
 mod Doing
 mod Following
 mod Spelling

@@ -7,13 +7,14 @@ use Rattle.pam_base.specs.declared.code.Code.TheVariants as returns
 use Rattle.pam_base.specs.declared.call.Func.{Func}
 use Rattle.pam_base.specs.declared.call.Func.TheVariants.{Authenticate, SetCred, AcctMgmt, OpenSession, CloseSession, ChAuthTok}
 use Rattle.item_store.specs.Items.{ItemTexts}
+use Rattle.pam_outside.specs.declared.held.LockKind.TheVariants.{Whole}
 use Rattle.module_acts.specs.pam_room.specs.Call.{PlainCall}
 use Rattle.module_acts.specs.pam_room.specs.Module.{Plays}
 use Rattle.module_acts.specs.declared.content.Content.{Content}
 use Rattle.module_acts.specs.declared.content.Content.TheVariants.{Absent, Unreadable, Holds}
 use Rattle.module_acts.specs.Content.{is_rooted}
 use Rattle.module_acts.specs.Accounts.{Account, found, missing, unreadable}
-use Rattle.module_acts.specs.Act.{Act, answers, asks_user, finds_account, plays_by, reads_file, replaces_file, sees_items, sees_moment}
+use Rattle.module_acts.specs.Act.{Act, answers, asks_user, finds_account, holds_lock, lets_go, plays_by, reads_file, replaces_file, sees_items, sees_moment}
 use Rattle.mod_tally.specs.declared.tally.Failure.{Failure}
 use Rattle.mod_tally.specs.declared.settings.Task.{Task}
 use Rattle.mod_tally.specs.declared.settings.Task.TheVariants.{Preauth, AuthFail, AuthSucc, Clear}
@@ -31,6 +32,11 @@ is_no_file user = length user == 0 || (bytes_eq user (codes ".") || bytes_eq use
 abbrev pub tally_name : List ℕ → List ℕ → List ℕ
 tally_name folder user = if is_rooted folder then folder ++ (47 ∷ user) else []
 
+-- The lock of a user's file is another file in the directory. No user's tally has its name, since no name in
+-- /etc/passwd has a colon.
+abbrev pub lock_name : List ℕ → List ℕ → List ℕ
+lock_name folder user = tally_name folder (46 ∷ (user ++ codes ":pamsess-lock"))
+
 -- the maximum number of bytes of the file
 abbrev pub tally_limit : ℕ
 tally_limit = 65536
@@ -44,22 +50,22 @@ failures_in (Holds text) = failures_of text
 abbrev pub reads_tally : List ℕ → (Option (List Failure) → Act) → Act
 reads_tally name act = reads_file name tally_limit (λ content. act (failures_in content))
 
--- if it can't be set, the result is SERVICE_ERR
-abbrev pub write_result : Code → Bool → Act
-write_result code done = answers (if done then code else returns.ServiceErr)
+-- if it wasn't done, the result is SERVICE_ERR
+abbrev pub write_result : Code → Bool → Code
+write_result code done = if done then code else returns.ServiceErr
 
-abbrev pub sets_if : Bool → List ℕ → List ℕ → Code → Act
-sets_if true name text code = replaces_file name text (write_result code)
-sets_if false name text code = answers returns.ServiceErr
+abbrev pub sets_if : Bool → List ℕ → List ℕ → Code → (Code → Act) → Act
+sets_if true name text code act = replaces_file name text (λ done. act (write_result code done))
+sets_if false name text code act = act returns.ServiceErr
 
 -- the file is replaced by one with this text, unless that is too long
-abbrev pub sets_text : List ℕ → List ℕ → Code → Act
-sets_text name text code =
-    sets_if (is_rooted name && nat_le (length text) tally_limit) name text code
+abbrev pub sets_text : List ℕ → List ℕ → Code → (Code → Act) → Act
+sets_text name text code act =
+    sets_if (is_rooted name && nat_le (length text) tally_limit) name text code act
 
 -- the file is replaced by one with these failures
-abbrev pub writes_tally : List ℕ → List Failure → Code → Act
-writes_tally name failures code = sets_text name (tally_text failures) code
+abbrev pub writes_tally : List ℕ → List Failure → Code → (Code → Act) → Act
+writes_tally name failures code act = sets_text name (tally_text failures) code act
 
 -- ---- what is done
 
@@ -80,36 +86,74 @@ new_failure moment items = from_host moment (unwrap_or items.rhost []) (unwrap_o
     (unwrap_or items.service [])
 
 -- a failure is recorded after those in the file, and those that don't count any more are dropped
-abbrev pub records : PlainSettings → List ℕ → List Failure → Act
-records s name failures =
+abbrev pub records : PlainSettings → List ℕ → List Failure → (Code → Act) → Act
+records s name failures act =
     sees_moment (λ now. sees_items (λ items.
     writes_tally name (counting s.interval (failures ++ new_failure now items ∷ []))
-    returns.Ignore))
+    returns.Ignore act))
 
 -- failures are cleared if there are any
-abbrev pub clears : List ℕ → List Failure → Act
-clears name [] = answers returns.Success
-clears name (f ∷ fs) = writes_tally name [] returns.Success
+abbrev pub clears : List ℕ → List Failure → (Code → Act) → Act
+clears name [] act = act returns.Success
+clears name (f ∷ fs) act = writes_tally name [] returns.Success act
 
-abbrev pub by_lock : Bool → Act → Act
-by_lock true act = answers returns.AuthErr
-by_lock false act = act
+abbrev pub by_lock : Bool → ((Code → Act) → Act) → (Code → Act) → Act
+by_lock true step act = act returns.AuthErr
+by_lock false step act = step act
 
-abbrev pub unless_locked : PlainSettings → List Failure → Act → Act
-unless_locked s failures act =
-    sees_moment (λ now. by_lock (is_locked s.deny s.interval s.unlock now failures) act)
+abbrev pub unless_locked : PlainSettings → List Failure → ((Code → Act) → Act) → (Code → Act) → Act
+unless_locked s failures step act =
+    sees_moment (λ now. by_lock (is_locked s.deny s.interval s.unlock now failures) step act)
 
-abbrev pub by_task : Task → PlainSettings → List ℕ → List Failure → Act
-by_task Preauth s name failures = unless_locked s failures (answers returns.Success)
-by_task AuthFail s name failures = unless_locked s failures (records s name failures)
-by_task AuthSucc s name failures = unless_locked s failures (clears name failures)
-by_task Clear s name failures = clears name failures
+-- The lock is taken and let go: a failure that couldn't be recorded isn't verified for.
+abbrev pub if_taken : List ℕ → (Code → Act) → Bool → Act
+if_taken lock act true = lets_go (is_rooted lock) (act returns.Success)
+if_taken lock act false = act returns.ServiceErr
+
+abbrev pub tries_lock : List ℕ → (Code → Act) → Act
+tries_lock lock act = holds_lock lock Whole (if_taken lock act)
+
+-- with the failures in the file: `preauth`, `authfail`, `authsucc`, acct_mgmt
+abbrev pub by_task : Task → PlainSettings → List ℕ → List ℕ → List Failure → (Code → Act) → Act
+by_task Preauth s file lock failures act = unless_locked s failures (tries_lock lock) act
+by_task AuthFail s file lock failures act = unless_locked s failures (records s file failures) act
+by_task AuthSucc s file lock failures act = unless_locked s failures (clears file failures) act
+by_task Clear s file lock failures act = clears file failures act
+
+abbrev pub by_tally : Task → PlainSettings → List ℕ → List ℕ → (Code → Act) → Option (List Failure)
+    → Act
+by_tally task s file lock act None = act returns.ServiceErr
+by_tally task s file lock act (Some failures) = by_task task s file lock failures act
+
+-- the file is read
+abbrev pub by_file : Task → PlainSettings → List ℕ → List ℕ → (Code → Act) → Act
+by_file task s file lock act = reads_tally file (by_tally task s file lock act)
+
+-- without the lock no file is read, and the result is SERVICE_ERR
+abbrev pub if_held : Task → PlainSettings → List ℕ → List ℕ → (Code → Act) → Bool → Act
+if_held task s file lock act true =
+    by_file task s file lock (λ code. lets_go (is_rooted lock) (act code))
+if_held task s file lock act false = act returns.ServiceErr
+
+-- the file is read; meanwhile it is locked
+abbrev pub locks_file : Task → PlainSettings → List ℕ → List ℕ → (Code → Act) → Act
+locks_file task s file lock act = holds_lock lock Whole (if_held task s file lock act)
+
+-- it is locked, and read again, only if there are failures to clear
+abbrev pub if_any : Task → PlainSettings → List ℕ → List ℕ → (Code → Act) → Option (List Failure)
+    → Act
+if_any task s file lock act None = act returns.ServiceErr
+if_any task s file lock act (Some []) = act returns.Success
+if_any task s file lock act (Some (f ∷ fs)) = locks_file task s file lock act
 
 -- ---- the module
 
-abbrev pub by_tally : Task → PlainSettings → List ℕ → Option (List Failure) → Act
-by_tally task s name None = answers returns.ServiceErr
-by_tally task s name (Some failures) = by_task task s name failures
+-- a failure is recorded under the lock; the other three read the file first
+abbrev pub does_task : Task → PlainSettings → List ℕ → List ℕ → (Code → Act) → Act
+does_task Preauth s file lock act = by_file Preauth s file lock act
+does_task AuthFail s file lock act = locks_file AuthFail s file lock act
+does_task AuthSucc s file lock act = reads_tally file (if_any AuthSucc s file lock act)
+does_task Clear s file lock act = reads_tally file (if_any Clear s file lock act)
 
 -- the code for root, who isn't locked without `even_deny_root`
 abbrev pub spared_answer : Task → Code
@@ -119,7 +163,7 @@ spared_answer other = returns.Success
 abbrev pub by_spared : Bool → Task → PlainSettings → List ℕ → Act
 by_spared true task s user = answers (spared_answer task)
 by_spared false task s user =
-    reads_tally (tally_name s.folder user) (by_tally task s (tally_name s.folder user))
+    does_task task s (tally_name s.folder user) (lock_name s.folder user) answers
 
 abbrev pub by_account : Task → PlainSettings → List ℕ → Account → Act
 by_account task s user unreadable = answers returns.ServiceErr

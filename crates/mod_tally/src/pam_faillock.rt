@@ -1,29 +1,34 @@
-ghost use Rattle.std.specs.Prelude.{◌≡◌, ◌≢◌, ◌&&◌, ◌==◌, not, false, None, IsTrue, IfOk, OnErr, codes};
+ghost use Rattle.std.specs.Prelude.{◌≡◌, ◌≢◌, ◌&&◌, ◌==◌, not, false, true, None, Some, IsTrue, IfOk, OnErr, codes};
 ghost use Rattle.conv_port.specs.Conv.{ConvState};
+ghost use Rattle.pam_outside.specs.Time.{ClockState};
 ghost use Rattle.module_acts.specs.Accounts.{Known};
-ghost use Rattle.module_acts.specs.Act.{Acts};
+ghost use Rattle.module_acts.specs.Act.{Acts, Yields};
 ghost use Rattle.module_acts.specs.Returns.{Follows};
 ghost use Rattle.module_acts.specs.Seen.{scene_seen, user_seen};
 ghost use Rattle.mod_tally.specs.Settings.{plain_settings, settings_of, task_among};
-ghost use Rattle.mod_tally.specs.Faillock.{by_name, by_spared, faillock_plays, for_user, is_no_file, refused, spared_answer, task_of};
+ghost use Rattle.mod_tally.specs.Faillock.{by_file, by_name, by_spared, does_task, faillock_plays, for_user, if_any, is_no_file, locks_file, reads_tally, refused, spared_answer, task_of};
 
 use crate::settings::{TallySettings, Task, settings_of, task_among};
-use crate::tally_file::{hold_tallies, is_no_file, read_tally, tally_name};
+use crate::tally::Failure;
+use crate::tally_file::{hold_tally, is_no_file, lock_name, read_tally, tally_name};
 use crate::task::by_task;
 use module_acts::pam_room::Call;
-use module_acts::{Account, Accounts, Check, Seen, account_of, laws, user_of};
+use module_acts::{Account, Accounts, Check, Seen, account_of, laws, release, user_of};
 use pam_base::{Code, Func, NoMemory};
-use pam_outside::{Clock, Vault};
+use pam_outside::Vault;
 
 /// What `Faillock` decides.
 pub struct FaillockCheck;
 
-/// What is done for a user: what the module sees, the task and the arguments.
+/// What is done for a user: what the module sees, the task, the arguments, and the names of the
+/// user's file and of its lock.
 #[derive(Clone, Copy)]
 pub struct Job<'a> {
     pub seen: &'a Seen<'a>,
     pub task: Task,
     pub settings: TallySettings<'a>,
+    pub file: &'a [u8],
+    pub lock: &'a [u8],
 }
 
 impl Check for FaillockCheck {
@@ -44,17 +49,12 @@ impl Check for FaillockCheck {
         refused(task_of(call.func, task_among(call.args)))
     }
 
-    fn decide(seen: &Seen, vault: &mut dyn Vault, clock: &dyn Clock) -> Result<Code, NoMemory> {
+    fn decide(seen: &Seen, vault: &mut dyn Vault, moment: u64) -> Result<Code, NoMemory> {
         laws::act_steps();
         match task_of(seen.call.func, task_among(seen.call.args)) {
             Ok(task) => {
                 let settings = settings_of(seen.call);
-                let job = Job {
-                    seen,
-                    task,
-                    settings,
-                };
-                check_user(&job, vault, clock)
+                check_user(seen, task, &settings, vault, moment)
             }
             Err(code) => Ok(code),
         }
@@ -89,32 +89,39 @@ fn refused(task: Result<Task, Code>) -> Option<Code>
 }
 
 // Looks the user's account up.
-fn check_user(job: &Job, vault: &mut dyn Vault, clock: &dyn Clock) -> Result<Code, NoMemory>
-    requires { job.now.seen.now.transaction.now.items.user ≢ None }
+fn check_user(
+    seen: &Seen,
+    task: Task,
+    settings: &TallySettings<'_>,
+    vault: &mut dyn Vault,
+    moment: u64,
+) -> Result<Code, NoMemory>
+    requires { seen.now.transaction.now.items.user ≢ None }
     ensures tells { vault_tells vault.new ≡ vault_tells vault.old }
     ensures err { IsTrue (vault_tells vault.old) →
         OnErr result ((vault_holds vault.new).files ≡ (vault_holds vault.old).files) }
-    ensures told { IsTrue (vault_tells vault.old) → IsTrue (clock_tells clock.now) →
+    ensures told { IsTrue (vault_tells vault.old) → (clock : ClockState) → moment ≡ clock.moment →
         (conv : ConvState) →
-        IfOk result (λ code. Follows (by_name (is_no_file (user_seen job.now.seen.now)) job.now.task
-        (plain_settings job.now.settings) (user_seen job.now.seen.now))
-        (scene_seen job.now.seen.now conv (vault_holds vault.old) (clock_holds clock.now)) code
-        (scene_seen job.now.seen.now conv (vault_holds vault.new) (clock_holds clock.now))) }
+        IfOk result (λ code. Follows (by_name (is_no_file (user_seen seen.now)) task
+        (plain_settings settings.now) (user_seen seen.now))
+        (scene_seen seen.now conv (vault_holds vault.old) clock) code
+        (scene_seen seen.now conv (vault_holds vault.new) clock)) }
 {
     laws::act_steps();
-    if is_no_file(user_of(job.seen.transaction)) {
+    let user = user_of(seen.transaction);
+    if is_no_file(user) {
         return Ok(Code::UserUnknown);
     }
     let mut accounts = Accounts::new();
-    let account = account_of(job.seen, &mut accounts, vault)?;
+    let account = account_of(seen, &mut accounts, vault)?;
     match account {
         Account::Unreadable => Ok(Code::ServiceErr),
         Account::Missing => Ok(Code::Ignore),
         Account::Found(entry) => {
-            if is_spared(entry.uid, job.settings.locks_root) {
-                return Ok(spared_answer(job.task));
+            if is_spared(entry.uid, settings.locks_root) {
+                return Ok(spared_answer(task));
             }
-            let code = hold_file(job, vault, clock)?;
+            let code = check_tally(seen, task, settings, vault, moment)?;
             Ok(code)
         }
     }
@@ -136,29 +143,123 @@ fn spared_answer(task: Task) -> Code
     }
 }
 
-// Holds the user's file until the end.
-fn hold_file(job: &Job, vault: &mut dyn Vault, clock: &dyn Clock) -> Result<Code, NoMemory>
-    requires { job.now.seen.now.transaction.now.items.user ≢ None }
+// Does the task with the user's file.
+fn check_tally(
+    seen: &Seen,
+    task: Task,
+    settings: &TallySettings<'_>,
+    vault: &mut dyn Vault,
+    moment: u64,
+) -> Result<Code, NoMemory>
+    requires { seen.now.transaction.now.items.user ≢ None }
     ensures tells { vault_tells vault.new ≡ vault_tells vault.old }
     ensures err { IsTrue (vault_tells vault.old) →
         OnErr result ((vault_holds vault.new).files ≡ (vault_holds vault.old).files) }
-    ensures told { IsTrue (vault_tells vault.old) → IsTrue (clock_tells clock.now) →
+    ensures told { IsTrue (vault_tells vault.old) → (clock : ClockState) → moment ≡ clock.moment →
         (conv : ConvState) (known : Known) →
-        IfOk result (λ code. Acts (by_spared false job.now.task (plain_settings job.now.settings)
-        (user_seen job.now.seen.now)) known
-        (scene_seen job.now.seen.now conv (vault_holds vault.old) (clock_holds clock.now)) code
-        (scene_seen job.now.seen.now conv (vault_holds vault.new) (clock_holds clock.now))) }
+        IfOk result (λ code. Acts (by_spared false task (plain_settings settings.now)
+        (user_seen seen.now)) known
+        (scene_seen seen.now conv (vault_holds vault.old) clock) code
+        (scene_seen seen.now conv (vault_holds vault.new) clock)) }
 {
     laws::act_steps();
-    match hold_tallies(
-        job.seen.alloc,
-        job.task,
-        job.seen.process,
-        vault,
-        job.settings.folder,
-    )? {
-        Some(_held) => {
-            let code = by_file(job, vault, clock)?;
+    let user = user_of(seen.transaction);
+    let file = tally_name(seen.alloc, settings.folder, user)?;
+    let lock = lock_name(seen.alloc, settings.folder, user)?;
+    let job = Job {
+        seen,
+        task,
+        settings: *settings,
+        file: file.bytes(),
+        lock: lock.bytes(),
+    };
+    let code = do_task(&job, vault, moment)?;
+    Ok(code)
+}
+
+// A failure is recorded under the lock; the other three read the file first.
+fn do_task(job: &Job, vault: &mut dyn Vault, moment: u64) -> Result<Code, NoMemory>
+    ensures tells { vault_tells vault.new ≡ vault_tells vault.old }
+    ensures err { IsTrue (vault_tells vault.old) →
+        OnErr result ((vault_holds vault.new).files ≡ (vault_holds vault.old).files) }
+    ensures told { IsTrue (vault_tells vault.old) → (clock : ClockState) → moment ≡ clock.moment →
+        (conv : ConvState) →
+        IfOk result (λ code. Yields code (does_task job.now.task (plain_settings job.now.settings)
+        job.now.file.now job.now.lock.now)
+        (scene_seen job.now.seen.now conv (vault_holds vault.old) clock)
+        (scene_seen job.now.seen.now conv (vault_holds vault.new) clock)) }
+{
+    match job.task {
+        Task::Preauth => by_file(job, vault, moment),
+        Task::AuthFail => lock_file(job, vault, moment),
+        Task::AuthSucc => clear_any(job, vault, moment),
+        Task::Clear => clear_any(job, vault, moment),
+    }
+}
+
+// Clears the failures, under the lock, if there are any.
+fn clear_any(job: &Job, vault: &mut dyn Vault, moment: u64) -> Result<Code, NoMemory>
+    ensures tells { vault_tells vault.new ≡ vault_tells vault.old }
+    ensures err { IsTrue (vault_tells vault.old) →
+        OnErr result ((vault_holds vault.new).files ≡ (vault_holds vault.old).files) }
+    ensures told { IsTrue (vault_tells vault.old) → (clock : ClockState) → moment ≡ clock.moment →
+        (conv : ConvState) →
+        IfOk result (λ code. Yields code (λ act. reads_tally job.now.file.now
+        (if_any job.now.task (plain_settings job.now.settings) job.now.file.now job.now.lock.now
+        act))
+        (scene_seen job.now.seen.now conv (vault_holds vault.old) clock)
+        (scene_seen job.now.seen.now conv (vault_holds vault.new) clock)) }
+{
+    match read_tally(job.seen.alloc, job.seen.process, vault, job.file)? {
+        Some(failures) => {
+            let code = lock_if_any(job, failures.items(), vault, moment)?;
+            Ok(code)
+        }
+        None => Ok(Code::ServiceErr),
+    }
+}
+
+fn lock_if_any(
+    job: &Job,
+    failures: &[Failure],
+    vault: &mut dyn Vault,
+    moment: u64,
+) -> Result<Code, NoMemory>
+    ensures tells { vault_tells vault.new ≡ vault_tells vault.old }
+    ensures err { IsTrue (vault_tells vault.old) →
+        OnErr result ((vault_holds vault.new).files ≡ (vault_holds vault.old).files) }
+    ensures told { IsTrue (vault_tells vault.old) → (clock : ClockState) → moment ≡ clock.moment →
+        (conv : ConvState) →
+        IfOk result (λ code. Yields code (λ act. if_any job.now.task (plain_settings job.now.settings)
+        job.now.file.now job.now.lock.now act (Some failures.now))
+        (scene_seen job.now.seen.now conv (vault_holds vault.old) clock)
+        (scene_seen job.now.seen.now conv (vault_holds vault.new) clock)) }
+{
+    match failures {
+        [] => Ok(Code::Success),
+        [_, ..] => {
+            let code = lock_file(job, vault, moment)?;
+            Ok(code)
+        }
+    }
+}
+
+// Reads the user's file; meanwhile it is locked.
+fn lock_file(job: &Job, vault: &mut dyn Vault, moment: u64) -> Result<Code, NoMemory>
+    ensures tells { vault_tells vault.new ≡ vault_tells vault.old }
+    ensures err { IsTrue (vault_tells vault.old) →
+        OnErr result ((vault_holds vault.new).files ≡ (vault_holds vault.old).files) }
+    ensures told { IsTrue (vault_tells vault.old) → (clock : ClockState) → moment ≡ clock.moment →
+        (conv : ConvState) →
+        IfOk result (λ code. Yields code (locks_file job.now.task (plain_settings job.now.settings)
+        job.now.file.now job.now.lock.now)
+        (scene_seen job.now.seen.now conv (vault_holds vault.old) clock)
+        (scene_seen job.now.seen.now conv (vault_holds vault.new) clock)) }
+{
+    match hold_tally(job.seen.alloc, job.seen.process, vault, job.lock)? {
+        Some(held) => {
+            let code = by_file(job, vault, moment)?;
+            release(vault, held);
             Ok(code)
         }
         None => Ok(Code::ServiceErr),
@@ -166,25 +267,20 @@ fn hold_file(job: &Job, vault: &mut dyn Vault, clock: &dyn Clock) -> Result<Code
 }
 
 // Reads the user's file.
-fn by_file(job: &Job, vault: &mut dyn Vault, clock: &dyn Clock) -> Result<Code, NoMemory>
-    requires { job.now.seen.now.transaction.now.items.user ≢ None }
+fn by_file(job: &Job, vault: &mut dyn Vault, moment: u64) -> Result<Code, NoMemory>
     ensures tells { vault_tells vault.new ≡ vault_tells vault.old }
     ensures err { IsTrue (vault_tells vault.old) →
         OnErr result ((vault_holds vault.new).files ≡ (vault_holds vault.old).files) }
-    ensures told { IsTrue (vault_tells vault.old) → IsTrue (clock_tells clock.now) →
-        (conv : ConvState) (known : Known) →
-        IfOk result (λ code. Acts (by_spared false job.now.task (plain_settings job.now.settings)
-        (user_seen job.now.seen.now)) known
-        (scene_seen job.now.seen.now conv (vault_holds vault.old) (clock_holds clock.now)) code
-        (scene_seen job.now.seen.now conv (vault_holds vault.new) (clock_holds clock.now))) }
+    ensures told { IsTrue (vault_tells vault.old) → (clock : ClockState) → moment ≡ clock.moment →
+        (conv : ConvState) →
+        IfOk result (λ code. Yields code (by_file job.now.task (plain_settings job.now.settings)
+        job.now.file.now job.now.lock.now)
+        (scene_seen job.now.seen.now conv (vault_holds vault.old) clock)
+        (scene_seen job.now.seen.now conv (vault_holds vault.new) clock)) }
 {
-    laws::act_steps();
-    let alloc = job.seen.alloc;
-    let process = job.seen.process;
-    let name = tally_name(alloc, job.settings.folder, user_of(job.seen.transaction))?;
-    match read_tally(alloc, process, vault, name.bytes())? {
+    match read_tally(job.seen.alloc, job.seen.process, vault, job.file)? {
         Some(failures) => {
-            let code = by_task(job, name.bytes(), failures, vault, clock)?;
+            let code = by_task(job, failures, vault, moment)?;
             Ok(code)
         }
         None => Ok(Code::ServiceErr),

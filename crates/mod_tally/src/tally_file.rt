@@ -1,15 +1,11 @@
-ghost use Rattle.std.specs.Prelude.{◌≡◌, ◌==◌, ◌&&◌, ◌||◌, codes, nat_le, length, if◌then◌else◌, IsTrue, IfOk, OnErr, IsSome};
+ghost use Rattle.std.specs.Prelude.{◌≡◌, ◌==◌, ◌&&◌, ◌||◌, codes, nat_le, length, if◌then◌else◌, IsTrue, IfOk, IfSome, OnErr, is_some};
 ghost use Rattle.std.specs.List.{list_any};
 ghost use Rattle.std.specs.Str.{bytes_eq};
-ghost use Rattle.pam_outside.specs.Time.{ClockState};
-ghost use Rattle.module_acts.specs.pam_room.specs.Plain.{plain_process};
-ghost use Rattle.module_acts.specs.pam_room.specs.State.{PlainRoom, scene_of};
-ghost use Rattle.module_acts.specs.Accounts.{Known};
+ghost use Rattle.pam_outside.specs.declared.held.LockKind.{LockKind};
 ghost use Rattle.module_acts.specs.Content.{is_rooted};
-ghost use Rattle.module_acts.specs.Act.{Acts, StepsTo};
-ghost use Rattle.mod_tally.specs.Faillock.{failures_in, is_no_file, reads_tally, sets_text, tally_limit, tally_name};
+ghost use Rattle.module_acts.specs.Act.{StepsTo, holds_lock};
+ghost use Rattle.mod_tally.specs.Faillock.{failures_in, is_no_file, lock_name, reads_tally, sets_text, tally_limit, tally_name, write_result};
 
-use crate::settings::Task;
 use crate::tally::{Failures, read_failures};
 use module_acts::pam_room::Process;
 use module_acts::{Content, Seen, hold_named, is_rooted, laws, read_named, replace_named};
@@ -52,28 +48,33 @@ pub(crate) fn tally_name(alloc: Global, folder: &[u8], user: &[u8]) -> Result<Te
     Ok(Text::from_vec(name))
 }
 
-/// Holds the tallies in the directory until the result is dropped, if the task may change one; None
-/// if that failed. If the files are modelled, nothing of them changes, and it is never None.
-pub(crate) fn hold_tallies(
+/// The name of the lock of a user's file.
+pub(crate) fn lock_name(alloc: Global, folder: &[u8], user: &[u8]) -> Result<Text, NoMemory>
+    ensures { IfOk result (λ name. name ≡ lock_name folder.now user.now) }
+{
+    let mut name = Vec::from_slice(alloc, b".")?;
+    name.extend_from_slice(user)?;
+    name.extend_from_slice(b":pamsess-lock")?;
+    tally_name(alloc, folder, name.as_slice())
+}
+
+/// Takes the lock with this name; None if that failed. The files stay.
+pub(crate) fn hold_tally(
     alloc: Global,
-    task: Task,
     process: &Process,
     vault: &mut dyn Vault,
-    folder: &[u8],
+    lock: &[u8],
 ) -> Result<Option<Held>, NoMemory>
     ensures tells { vault_tells vault.new ≡ vault_tells vault.old }
     ensures told { IsTrue (vault_tells vault.old) →
-        vault_holds vault.new ≡ vault_holds vault.old }
-    ensures held { IsTrue (vault_tells vault.old) → IfOk result (λ held. IsSome held) }
+        IfOk result (λ held. StepsTo (holds_lock lock.now LockKind.Whole) (is_some held)
+        process.now (vault_holds vault.old) (vault_holds vault.new)) }
+    ensures held { IfOk result (λ found. IfSome found (λ held. held ≡ is_rooted lock.now)) }
+    ensures files { IsTrue (vault_tells vault.old) →
+        (vault_holds vault.new).files ≡ (vault_holds vault.old).files }
 {
-    match task {
-        Task::Preauth => Ok(Some(Held::nothing())),
-        Task::AuthFail | Task::AuthSucc | Task::Clear => {
-            let name = tally_name(alloc, folder, b".pamsess-lock")?;
-            let held = hold_named(alloc, vault, process, name.bytes(), LockKind::Whole)?;
-            Ok(held)
-        }
-    }
+    let held = hold_named(alloc, vault, process, lock, LockKind::Whole)?;
+    Ok(held)
 }
 
 /// Reads the failures in the file with this name; None if it can't be read.
@@ -118,12 +119,9 @@ pub(crate) fn set_text(
     ensures err { IsTrue (vault_tells vault.old) →
         OnErr result ((vault_holds vault.new).files ≡ (vault_holds vault.old).files) }
     ensures told { IsTrue (vault_tells vault.old) →
-        (room : PlainRoom) (clock : ClockState) (known : Known) →
-        IfOk result (λ answer. Acts (sets_text name.now text.now code) known
-        (scene_of room (vault_holds vault.old) clock (plain_process seen.now.process.now)) answer
-        (scene_of room (vault_holds vault.new) clock (plain_process seen.now.process.now))) }
+        IfOk result (λ answer. StepsTo (sets_text name.now text.now code) answer
+        seen.now.process.now (vault_holds vault.old) (vault_holds vault.new)) }
 {
-    laws::act_steps();
     if !can_be_set(name, text) {
         return Ok(Code::ServiceErr);
     }
@@ -134,11 +132,11 @@ pub(crate) fn set_text(
 fn can_be_set(name: &[u8], text: &[u8]) -> bool
     ensures { result ≡ (is_rooted name.now && nat_le (length text.now) tally_limit) }
 {
-    is_rooted(name) && text.len() <= 65536
+    is_rooted(name) && text.len() <= TALLY_LIMIT as usize
 }
 
 fn write_result(code: Code, done: bool) -> Code
-    ensures { result ≡ (if done then code else Code.ServiceErr) }
+    ensures { result ≡ write_result code done }
 {
     if done { code } else { Code::ServiceErr }
 }

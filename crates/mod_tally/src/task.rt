@@ -1,46 +1,41 @@
 ghost use Rattle.std.specs.Prelude.{◌≡◌, IsTrue, IfOk, OnErr, ◌∷◌, [], ◌++◌};
 ghost use Rattle.conv_port.specs.Conv.{ConvState};
 ghost use Rattle.pam_outside.specs.Time.{ClockState};
-ghost use Rattle.module_acts.specs.pam_room.specs.Plain.{plain_process};
-ghost use Rattle.module_acts.specs.pam_room.specs.State.{PlainRoom, scene_of};
-ghost use Rattle.module_acts.specs.Accounts.{Known};
-ghost use Rattle.module_acts.specs.Act.{Acts};
+ghost use Rattle.module_acts.specs.Act.{StepsTo, Yields};
 ghost use Rattle.module_acts.specs.Seen.{scene_seen};
 ghost use Rattle.mod_tally.specs.Settings.{plain_settings};
 ghost use Rattle.mod_tally.specs.Tally.{counting, tally_text};
-ghost use Rattle.mod_tally.specs.Faillock.{by_task, clears, new_failure, writes_tally};
+ghost use Rattle.mod_tally.specs.Faillock.{by_task, clears, new_failure, tries_lock, writes_tally};
 
 use crate::counted::{counting_text, is_locked};
 use crate::failure::new_failure;
 use crate::pam_faillock::Job;
 use crate::settings::Task;
 use crate::tally::{Failure, Failures};
-use crate::tally_file::set_text;
-use module_acts::{Seen, laws};
+use crate::tally_file::{hold_tally, set_text};
+use module_acts::{Seen, laws, release};
 use pam_base::{Code, NoMemory, Text};
-use pam_outside::{Clock, Vault, current_moment};
+use pam_outside::Vault;
 use std::alloc::Global;
 
 /// Does what is to be done with the failures in the file.
 pub(crate) fn by_task(
     job: &Job,
-    name: &[u8],
     failures: Failures,
     vault: &mut dyn Vault,
-    clock: &dyn Clock,
+    moment: u64,
 ) -> Result<Code, NoMemory>
     ensures tells { vault_tells vault.new ≡ vault_tells vault.old }
     ensures err { IsTrue (vault_tells vault.old) →
         OnErr result ((vault_holds vault.new).files ≡ (vault_holds vault.old).files) }
-    ensures told { IsTrue (vault_tells vault.old) → IsTrue (clock_tells clock.now) →
-        (conv : ConvState) (known : Known) →
-        IfOk result (λ code. Acts (by_task job.now.task (plain_settings job.now.settings) name.now
-        failures) known
-        (scene_seen job.now.seen.now conv (vault_holds vault.old) (clock_holds clock.now)) code
-        (scene_seen job.now.seen.now conv (vault_holds vault.new) (clock_holds clock.now))) }
+    ensures told { IsTrue (vault_tells vault.old) → (clock : ClockState) → moment ≡ clock.moment →
+        (conv : ConvState) →
+        IfOk result (λ code. Yields code (by_task job.now.task (plain_settings job.now.settings)
+        job.now.file.now job.now.lock.now failures)
+        (scene_seen job.now.seen.now conv (vault_holds vault.old) clock)
+        (scene_seen job.now.seen.now conv (vault_holds vault.new) clock)) }
 {
     laws::act_steps();
-    let moment = current_moment(clock);
     let locked = is_locked(
         job.settings.deny,
         job.settings.interval,
@@ -50,20 +45,21 @@ pub(crate) fn by_task(
     );
     match job.task {
         Task::Clear => {
-            let code = clear(job.seen, name, failures.items(), vault)?;
+            let code = clear(job.seen, job.file, failures.items(), vault)?;
             Ok(code)
         }
         Task::Preauth => {
             if locked {
                 return Ok(Code::AuthErr);
             }
-            Ok(Code::Success)
+            let code = try_lock(job, vault)?;
+            Ok(code)
         }
         Task::AuthSucc => {
             if locked {
                 return Ok(Code::AuthErr);
             }
-            let code = clear(job.seen, name, failures.items(), vault)?;
+            let code = clear(job.seen, job.file, failures.items(), vault)?;
             Ok(code)
         }
         Task::AuthFail => {
@@ -71,9 +67,27 @@ pub(crate) fn by_task(
                 return Ok(Code::AuthErr);
             }
             let interval = job.settings.interval;
-            let code = record_failure(job.seen, interval, moment, name, failures, vault)?;
+            let code = record_failure(job.seen, interval, moment, job.file, failures, vault)?;
             Ok(code)
         }
+    }
+}
+
+// Takes the lock, and lets it go.
+fn try_lock(job: &Job, vault: &mut dyn Vault) -> Result<Code, NoMemory>
+    ensures tells { vault_tells vault.new ≡ vault_tells vault.old }
+    ensures files { IsTrue (vault_tells vault.old) →
+        (vault_holds vault.new).files ≡ (vault_holds vault.old).files }
+    ensures told { IsTrue (vault_tells vault.old) →
+        IfOk result (λ code. StepsTo (tries_lock job.now.lock.now) code
+        job.now.seen.now.process.now (vault_holds vault.old) (vault_holds vault.new)) }
+{
+    match hold_tally(job.seen.alloc, job.seen.process, vault, job.lock)? {
+        Some(held) => {
+            release(vault, held);
+            Ok(Code::Success)
+        }
+        None => Ok(Code::ServiceErr),
     }
 }
 
@@ -88,12 +102,9 @@ fn clear(
     ensures err { IsTrue (vault_tells vault.old) →
         OnErr result ((vault_holds vault.new).files ≡ (vault_holds vault.old).files) }
     ensures told { IsTrue (vault_tells vault.old) →
-        (room : PlainRoom) (clock : ClockState) (known : Known) →
-        IfOk result (λ code. Acts (clears name.now failures.now) known
-        (scene_of room (vault_holds vault.old) clock (plain_process seen.now.process.now)) code
-        (scene_of room (vault_holds vault.new) clock (plain_process seen.now.process.now))) }
+        IfOk result (λ code. StepsTo (clears name.now failures.now) code seen.now.process.now
+        (vault_holds vault.old) (vault_holds vault.new)) }
 {
-    laws::act_steps();
     match failures {
         [] => Ok(Code::Success),
         [_, ..] => {
@@ -117,12 +128,9 @@ fn record_failure(
     ensures err { IsTrue (vault_tells vault.old) →
         OnErr result ((vault_holds vault.new).files ≡ (vault_holds vault.old).files) }
     ensures told { IsTrue (vault_tells vault.old) →
-        (room : PlainRoom) (clock : ClockState) (known : Known) →
-        IfOk result (λ code.
-        Acts (writes_tally name.now (counting interval (failures ++ new_failure moment
-        seen.now.transaction.now.items ∷ [])) Code.Ignore) known
-        (scene_of room (vault_holds vault.old) clock (plain_process seen.now.process.now)) code
-        (scene_of room (vault_holds vault.new) clock (plain_process seen.now.process.now))) }
+        IfOk result (λ code. StepsTo (writes_tally name.now (counting interval (failures
+        ++ new_failure moment seen.now.transaction.now.items ∷ [])) Code.Ignore) code
+        seen.now.process.now (vault_holds vault.old) (vault_holds vault.new)) }
 {
     let failure = new_failure(seen.alloc, moment, &seen.transaction.items)?;
     let text = text_with(seen.alloc, interval, failures, failure)?;

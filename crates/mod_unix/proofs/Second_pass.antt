@@ -5,7 +5,10 @@ use Rattle.std.proofs.lemmas.Bool.{and_parts, ltb-false}
 use Rattle.conv_port.specs.declared.conv.ConvFault.{ConvFault}
 use Rattle.item_store.specs.Items.{ItemTexts}
 use Rattle.conv_port.specs.declared.message.Reply.{Reply}
+use Rattle.pam_outside.specs.declared.held.LockKind.TheVariants.{Record}
+use Rattle.pam_outside.specs.declared.vault.TheConstants.{MAX_FILE}
 use Rattle.pam_outside.specs.Files.{File, file_at, file_put}
+use Rattle.pam_outside.specs.Paths.{path_of}
 use Rattle.pam_outside.specs.Time.{Time}
 use Rattle.pam_room.specs.Call.{PlainCall, has_flag, prelim_check}
 use Rattle.pam_room.specs.Module.{Played, SeenRoom}
@@ -16,7 +19,7 @@ use Rattle.account_db.specs.Replace.{unless_faulty_file, with_hash}
 use Rattle.account_db.specs.Shadow.{shadow_of, shadows_of}
 use Rattle.module_acts.specs.declared.content.Content.{Content}
 use Rattle.module_acts.specs.Accounts.{account_limit}
-use Rattle.module_acts.specs.Act.{Stage, answers, called, content_seen, draws_word, in_room, later, reads_file, replaced, replaces_file, sees_items}
+use Rattle.module_acts.specs.Act.{Act, Stage, answers, called, content_seen, draws_word, holds_lock, holds_unless, in_room, later, lets_go, reads_file, replaced, replaces_file, sees_items}
 use Rattle.module_acts.specs.Content.{content_of}
 use Rattle.module_acts.specs.Steps.{exchanges, sees_clock, sets_item, with_replies}
 use Rattle.mod_unix.specs.declared.look.Field.{Field}
@@ -25,10 +28,11 @@ use Rattle.mod_unix.specs.declared.look.KnownPassword.TheVariants.{Unknown, Unav
 use Rattle.mod_unix.specs.Aging.{day_of}
 use Rattle.module_acts.specs.Arguments.{has_argument}
 use Rattle.mod_unix.specs.Flags.{change_expired_authtok}
-use Rattle.mod_unix.specs.Change.{by_authtok, write_result, by_kept, by_pass, by_text, change_by, changed_by, changed_shadow, changes_entry, changes_shadow, is_kept, new_prompts, same_reply, sets_new, stores_token, takes_token, usable}
+use Rattle.mod_unix.specs.Change.{by_authtok, write_result, by_kept, by_pass, by_text, change_by, changed_by, changed_shadow, changes_entry, changes_locked, changes_shadow, if_locked, is_kept, new_prompts, same_reply, sets_new, stores_token, takes_token, usable}
 use Rattle.mod_unix.specs.Look.{by_field, by_x, field_in, is_x, looks, shadow_among, shadow_in, shadowed}
 use Rattle.mod_unix.specs.NewHash.{hashed_token}
 use Rattle.mod_unix.specs.Stands.{shadow_path}
+use Rattle.pam_base.specs.declared.code.Code.{Code}
 use Rattle.pam_base.specs.declared.code.Code.TheVariants as returns
 use Rattle.module_acts.specs.declared.content.Content.TheVariants as content
 use Rattle.mod_unix.specs.declared.look.Field.TheVariants as field
@@ -71,50 +75,67 @@ holds false limit None old e = absurd cc
 holds false limit (Some text) old e = holds_by (nat_lt limit (length text)) text old e
 
 module _ (user hash : List ℕ) (today : ℕ) where
-  put_by : (failing : Bool) (path text : List ℕ) (stage : Stage) → (answers (write_result (not failing)) (record stage { sight = replaced failing path text stage.sight })).code ≡ returns.Success
-      → ((answers (write_result (not failing)) (record stage { sight = replaced failing path text stage.sight })).files ≡ file_put path text stage.sight.files)
-      × ((answers (write_result (not failing)) (record stage { sight = replaced failing path text stage.sight })).room ≡ stage.room)
-  unfolding answers
+  -- the lock is let go, and the code returned
+  abbrev ends : Code → Act
+  ends code = lets_go true (answers code)
+
+  put_by : (failing : Bool) (path text : List ℕ) (stage : Stage) → (ends (write_result (not failing)) (record stage { sight = replaced failing path text stage.sight })).code ≡ returns.Success
+      → ((ends (write_result (not failing)) (record stage { sight = replaced failing path text stage.sight })).files ≡ file_put path text stage.sight.files)
+      × ((ends (write_result (not failing)) (record stage { sight = replaced failing path text stage.sight })).room ≡ stage.room)
+  unfolding answers lets_go
   put_by true path text stage e = absurd cc
   put_by false path text stage e = (refl, refl)
 
   put : (old text : List ℕ) (es : List Shadow) (entry : Shadow) (stage : Stage) → file_at (shadow_path stage.sight.root) stage.sight.files ≡ Some old → shadows_of old ≡ Ok es → shadow_of user es ≡ Some entry → text ≡ with_hash user hash today old
-      → (replaces_file (codes "/etc/shadow") text (λ done. answers (write_result done)) stage).code ≡ returns.Success
-      → Replaced user hash stage.sight.root today stage.sight.files stage.room (replaces_file (codes "/etc/shadow") text (λ done. answers (write_result done)) stage)
+      → (replaces_file (codes "/etc/shadow") text (λ done. ends (write_result done)) stage).code ≡ returns.Success
+      → Replaced user hash stage.sight.root today stage.sight.files stage.room (replaces_file (codes "/etc/shadow") text (λ done. ends (write_result done)) stage)
   unfolding replaces_file
   put old text es entry stage at are is new e =
-      let made = put_by (stage.sight.failing 0) (shadow_path stage.sight.root) text stage e in
+      let made = put_by (stage.sight.failing 0 || nat_lt MAX_FILE (length text)) (shadow_path stage.sight.root) text stage e in
       record { old = old; old_is = at; entries = es; entries_are = are; entry = entry; entry_is = is; room_is = made.1; after_is = made.0 ∙ ap (λ (t : List ℕ). file_put (shadow_path stage.sight.root) t stage.sight.files) new }
 
   by_entry : (found : Option Shadow) (old : List ℕ) (es : List Shadow) (stage : Stage) → file_at (shadow_path stage.sight.root) stage.sight.files ≡ Some old → shadows_of old ≡ Ok es → shadow_of user es ≡ found
-      → (by_text (changed_by (shadowed found) (Ok (with_hash user hash today old))) answers stage).code ≡ returns.Success
-      → Replaced user hash stage.sight.root today stage.sight.files stage.room (by_text (changed_by (shadowed found) (Ok (with_hash user hash today old))) answers stage)
-  unfolding answers
+      → (by_text (changed_by (shadowed found) (Ok (with_hash user hash today old))) ends stage).code ≡ returns.Success
+      → Replaced user hash stage.sight.root today stage.sight.files stage.room (by_text (changed_by (shadowed found) (Ok (with_hash user hash today old))) ends stage)
+  unfolding answers lets_go
   by_entry None old es stage at are is e = absurd cc
   by_entry (Some entry) old es stage at are is e = put old (with_hash user hash today old) es entry stage at are is refl e
 
   by_entries : (r : Result (List Shadow) DbFault) (old : List ℕ) (stage : Stage) → file_at (shadow_path stage.sight.root) stage.sight.files ≡ Some old → shadows_of old ≡ r
-      → (by_text (changed_by (shadow_among user r) (unless_faulty_file r (with_hash user hash today old))) answers stage).code ≡ returns.Success
-      → Replaced user hash stage.sight.root today stage.sight.files stage.room (by_text (changed_by (shadow_among user r) (unless_faulty_file r (with_hash user hash today old))) answers stage)
-  unfolding answers
+      → (by_text (changed_by (shadow_among user r) (unless_faulty_file r (with_hash user hash today old))) ends stage).code ≡ returns.Success
+      → Replaced user hash stage.sight.root today stage.sight.files stage.room (by_text (changed_by (shadow_among user r) (unless_faulty_file r (with_hash user hash today old))) ends stage)
+  unfolding answers lets_go
   by_entries (Err fault) old stage at are e = absurd cc
   by_entries (Ok es) old stage at are e = by_entry (shadow_of user es) old es stage at are refl e
 
   by_content : (c : Content) (stage : Stage) → ((old : List ℕ) → c ≡ content.Holds old → file_at (shadow_path stage.sight.root) stage.sight.files ≡ Some old)
-      → (by_text (changed_shadow user hash today c) answers stage).code ≡ returns.Success
-      → Replaced user hash stage.sight.root today stage.sight.files stage.room (by_text (changed_shadow user hash today c) answers stage)
-  unfolding answers changed_shadow
+      → (by_text (changed_shadow user hash today c) ends stage).code ≡ returns.Success
+      → Replaced user hash stage.sight.root today stage.sight.files stage.room (by_text (changed_shadow user hash today c) ends stage)
+  unfolding answers lets_go changed_shadow
   by_content content.Absent stage at e = absurd cc
   by_content content.Unreadable stage at e = absurd cc
   by_content (content.Holds old) stage at e = by_entries (shadows_of old) old stage (at old refl) refl e
 
-  changed : (stage : Stage) → (changes_shadow user hash today answers stage).code ≡ returns.Success
-      → Replaced user hash stage.sight.root today stage.sight.files stage.room (changes_shadow user hash today answers stage)
-  unfolding changes_shadow reads_file
-  changed stage e =
+  locked : (stage : Stage) → (changes_locked user hash today ends stage).code ≡ returns.Success
+      → Replaced user hash stage.sight.root today stage.sight.files stage.room (changes_locked user hash today ends stage)
+  unfolding changes_locked reads_file
+  locked stage e =
       let r = by_content (content_seen (codes "/etc/shadow") account_limit stage.sight) (record stage { sight = later stage.sight })
       (λ old h. holds (stage.sight.failing 0) account_limit (file_at (shadow_path stage.sight.root) stage.sight.files) old h) e in
       record { old = r.old; old_is = r.old_is; entries = r.entries; entries_are = r.entries_are; entry = r.entry; entry_is = r.entry_is; room_is = r.room_is; after_is = r.after_is }
+
+  by_failing : (fails : Bool) (stage : Stage) → (holds_unless fails (path_of stage.sight.root (codes "/etc/.pwd.lock")) Record (if_locked user hash today answers) stage).code ≡ returns.Success
+      → Replaced user hash stage.sight.root today stage.sight.files stage.room (holds_unless fails (path_of stage.sight.root (codes "/etc/.pwd.lock")) Record (if_locked user hash today answers) stage)
+  unfolding answers
+  by_failing true stage e = absurd cc
+  by_failing false stage e =
+      let r = locked (record stage { sight = later stage.sight }) e in
+      record { old = r.old; old_is = r.old_is; entries = r.entries; entries_are = r.entries_are; entry = r.entry; entry_is = r.entry_is; room_is = r.room_is; after_is = r.after_is }
+
+  changed : (stage : Stage) → (changes_shadow user hash today answers stage).code ≡ returns.Success
+      → Replaced user hash stage.sight.root today stage.sight.files stage.room (changes_shadow user hash today answers stage)
+  unfolding changes_shadow holds_lock
+  changed stage e = by_failing (stage.sight.failing 0) stage e
 
 -- ---- the second pass
 

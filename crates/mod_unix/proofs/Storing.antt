@@ -23,7 +23,7 @@ use Rattle.mod_unix.specs.declared.look.KnownPassword.TheVariants.{Unknown, Unav
 use Rattle.mod_unix.specs.Aging.{day_of}
 use Rattle.module_acts.specs.Arguments.{has_argument}
 use Rattle.mod_unix.specs.NewHash.{hashed_token}
-use Rattle.mod_unix.specs.Change.{change_by, by_authtok, write_result, by_kept, by_pass, by_text, changed_shadow, changes_entry, changes_shadow, is_kept, new_prompts, same_reply, sets_new, stores_token, takes_token, tries_change, usable}
+use Rattle.mod_unix.specs.Change.{change_by, by_authtok, write_result, by_kept, by_pass, by_text, changed_shadow, changes_entry, changes_locked, changes_shadow, is_kept, new_prompts, same_reply, sets_new, stores_token, takes_token, tries_change, usable}
 
 -- ---- the new token
 
@@ -53,12 +53,12 @@ module _ (call : PlainCall) (s new : Scene) where
 -- ---- the new hash
 
 module _ (user hash : List ℕ) (today : ℕ) (content : Content) (s mid : Scene) (read : Yields content (reads_file (codes "/etc/shadow") account_limit) s mid) where
-  pub not_changed : None ≡ changed_shadow user hash today content → Yields returns.AuthtokErr (changes_shadow user hash today) s mid
-  unfolding changes_shadow
+  pub not_changed : None ≡ changed_shadow user hash today content → Yields returns.AuthtokErr (changes_locked user hash today) s mid
+  unfolding changes_locked
   not_changed e = λ act known code end rest. read (λ c. by_text (changed_shadow user hash today c) act) known code end (subst (λ (x : Option (List ℕ)). Acts (by_text x act) known mid code end) e rest)
 
-  pub changed : (new : Scene) (text : List ℕ) (done : Bool) → Some text ≡ changed_shadow user hash today content → Yields done (replaces_file (codes "/etc/shadow") text) mid new → Yields (write_result done) (changes_shadow user hash today) s new
-  unfolding changes_shadow
+  pub changed : (new : Scene) (text : List ℕ) (done : Bool) → Some text ≡ changed_shadow user hash today content → Yields done (replaces_file (codes "/etc/shadow") text) mid new → Yields (write_result done) (changes_locked user hash today) s new
+  unfolding changes_locked
   changed new text done e d = λ act known code end rest. read (λ c. by_text (changed_shadow user hash today c) act) known code end
       (subst (λ (x : Option (List ℕ)). Acts (by_text x act) known mid code end) e (d (λ b. act (write_result b)) known code end rest))
 

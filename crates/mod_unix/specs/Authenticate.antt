@@ -1,5 +1,5 @@
 -- pam_unix(8), authenticate.
-use Rattle.std.specs.Prelude.{ℕ, Bool, true, false, ◌==◌, ◌&&◌, not, List, [], ◌∷◌, Option, Some, None, codes}
+use Rattle.std.specs.Prelude.{ℕ, Bool, true, false, ◌&&◌, not, List, [], ◌∷◌, Option, Some, None, codes}
 use Rattle.pam_base.specs.Code.{number_of}
 use Rattle.pam_base.specs.declared.code.Code.{Code}
 use Rattle.pam_base.specs.declared.code.Code.TheVariants as returns
@@ -32,7 +32,8 @@ is_open call look = has_empty_hash look && has_argument (codes "nullok") call.ar
     && not (has_flag call.flags disallow_null_authtok)
 
 abbrev pub is_success : Code → Bool
-is_success code = number_of code == 0
+is_success returns.Success = true
+is_success code = false
 
 -- a token is asked for and verified
 unfoldable pub asks_password : KnownPassword → (Authenticated → Act) → Act

@@ -1,13 +1,13 @@
 -- pam_unix(8), chauthtok.
 use Rattle.std.specs.Prelude.{ℕ, ◌+◌, ◌==◌, ◌&&◌, ◌||◌, not, nat_lt, Bool, true, false, if◌then◌else◌, List, [], ◌∷◌, length, Option, Some, None, Result, Ok, Err, codes}
 use Rattle.std.specs.Str.{bytes_eq}
-use Rattle.pam_base.specs.Code.{number_of}
 use Rattle.pam_base.specs.declared.code.Code.{Code}
 use Rattle.pam_base.specs.declared.code.Code.TheVariants as returns
 use Rattle.pam_base.specs.declared.item.ItemName.TheVariants.{AuthTok}
 use Rattle.pam_base.specs.declared.style.Style.TheVariants.{EchoOff}
 use Rattle.conv_port.specs.declared.message.Message.{Message}
 use Rattle.conv_port.specs.declared.message.Reply.{Reply}
+use Rattle.pam_outside.specs.declared.held.LockKind.TheVariants.{Record}
 use Rattle.pam_room.specs.Call.{PlainCall, has_flag, prelim_check}
 use Rattle.account_db.specs.declared.fault.DbFault.{DbFault}
 use Rattle.account_db.specs.declared.shadow.Shadow.{Shadow}
@@ -15,7 +15,7 @@ use Rattle.account_db.specs.Replace.{hash_replaced}
 use Rattle.module_acts.specs.declared.content.Content.{Content}
 use Rattle.module_acts.specs.declared.content.Content.TheVariants as content
 use Rattle.module_acts.specs.Accounts.{account_limit}
-use Rattle.module_acts.specs.Act.{Act, asks_user, draws_word, reads_file, sees_items, replaces_file}
+use Rattle.module_acts.specs.Act.{Act, asks_user, draws_word, holds_lock, lets_go, reads_file, sees_items, replaces_file}
 use Rattle.module_acts.specs.Steps.{asks_token, exchanges, sees_caller, sees_clock, sets_item}
 use Rattle.mod_unix.specs.declared.look.KnownPassword.{KnownPassword}
 use Rattle.mod_unix.specs.declared.look.KnownPassword.TheVariants.{Unknown, Unavailable, Plain, Shadowed}
@@ -111,9 +111,20 @@ by_text (Some text) act = replaces_file (codes "/etc/shadow") text (λ done. act
 by_text None act = act returns.AuthtokErr
 
 -- shadow is read again, and replaced
-unfoldable pub changes_shadow : List ℕ → List ℕ → ℕ → (Code → Act) → Act
-changes_shadow user hash today act = reads_file (codes "/etc/shadow") account_limit (λ c.
+unfoldable pub changes_locked : List ℕ → List ℕ → ℕ → (Code → Act) → Act
+changes_locked user hash today act = reads_file (codes "/etc/shadow") account_limit (λ c.
     by_text (changed_shadow user hash today c) act)
+
+-- without the lock no file is read, and the result is AUTHTOK_ERR
+abbrev pub if_locked : List ℕ → List ℕ → ℕ → (Code → Act) → Bool → Act
+if_locked user hash today act true =
+    changes_locked user hash today (λ code. lets_go true (act code))
+if_locked user hash today act false = act returns.AuthtokErr
+
+-- meanwhile the account files are locked
+unfoldable pub changes_shadow : List ℕ → List ℕ → ℕ → (Code → Act) → Act
+changes_shadow user hash today act =
+    holds_lock (codes "/etc/.pwd.lock") Record (if_locked user hash today act)
 
 abbrev pub by_token : PlainCall → List ℕ → Option (List ℕ) → (Code → Act) → Act
 by_token call user (Some token) act = sees_clock (λ clock. draws_word (λ word.
@@ -125,10 +136,14 @@ stores_token call user token act = by_token call user token act
 
 -- ---- both passes
 
+abbrev pub asks_for_new : Code → Bool
+asks_for_new returns.NewAuthtokReqd = true
+asks_for_new code = false
+
 -- with CHANGE_EXPIRED_AUTHTOK a token that need not be changed stays
 abbrev pub is_kept : PlainCall → ℕ → Shadow → Bool
-is_kept call today entry = has_flag call.flags change_expired_authtok
-    && not (number_of (aged today entry) == number_of returns.NewAuthtokReqd)
+is_kept call today entry =
+    has_flag call.flags change_expired_authtok && not (asks_for_new (aged today entry))
 
 abbrev pub by_pass : Bool → PlainCall → List ℕ → ℕ → Shadow → (Code → Act) → Act
 by_pass true call user today entry act = tries_change today entry act

@@ -1,5 +1,6 @@
 ghost use Rattle.std.specs.Prelude.{◌≡◌, IsTrue};
 ghost use Rattle.pam_outside.specs.Files.{VaultState};
+ghost use Rattle.pam_outside.specs.Time.{ClockState};
 ghost use Rattle.pam_room.specs.Plain.{plain_process};
 ghost use Rattle.pam_room.specs.State.{PlainProcess, PlainRoom, scene_of};
 ghost use Rattle.module_acts.specs.Act.{Yields};
@@ -12,7 +13,7 @@ use crate::look::{KnownPassword, look_up};
 use conv_port::Conv;
 use module_acts::{laws, require_user, user_of};
 use pam_base::{Code, ConvErr, Refuse};
-use pam_outside::{Clock, Vault, current_moment};
+use pam_outside::Vault;
 use pam_room::{Process, Transaction};
 use std::alloc::Global;
 
@@ -23,39 +24,39 @@ pub(crate) fn check_account(
     process: &Process,
     conv: &mut dyn Conv,
     vault: &mut dyn Vault,
-    clock: &dyn Clock,
+    moment: u64,
 ) -> Result<Code, Refuse<ConvErr>>
     ensures conv_tells { conv_tells conv.new ≡ conv_tells conv.old }
     ensures vault_tells { vault_tells vault.new ≡ vault_tells vault.old }
     ensures files { IsTrue (vault_tells vault.old) →
         (vault_holds vault.new).files ≡ (vault_holds vault.old).files }
     ensures told { IsTrue (conv_tells conv.old) → IsTrue (vault_tells vault.old) →
-        IsTrue (clock_tells clock.now) →
+        (clock : ClockState) → moment ≡ clock.moment →
         Returns result checks_account
         (scene_of_parts transaction.old (conv_holds conv.old) (vault_holds vault.old)
-        (clock_holds clock.now) (plain_process process.now))
+        clock (plain_process process.now))
         (scene_of_parts transaction.new (conv_holds conv.new) (vault_holds vault.new)
-        (clock_holds clock.now) (plain_process process.now)) }
+        clock (plain_process process.now)) }
     ensures talks { OnlyTalks transaction.old transaction.new }
 {
     require_user(alloc, transaction, conv)?;
     let look = look_up(alloc, vault, process, user_of(transaction))?;
-    let code = account_by(&look, clock);
+    let code = account_by(&look, moment);
     Ok(code)
 }
 
 // The code, given what is known of the user's password.
-fn account_by(look: &KnownPassword, clock: &dyn Clock) -> Code
-    ensures told { IsTrue (clock_tells clock.now) →
+fn account_by(look: &KnownPassword, moment: u64) -> Code
+    ensures told { (clock : ClockState) → moment ≡ clock.moment →
         (room : PlainRoom) (vault : VaultState) (process : PlainProcess) →
-        Yields result (account_by look.now) (scene_of room vault (clock_holds clock.now) process)
-        (scene_of room vault (clock_holds clock.now) process) }
+        Yields result (account_by look.now) (scene_of room vault clock process)
+        (scene_of room vault clock process) }
 {
     laws::acting();
     match look {
         KnownPassword::Unknown => Code::UserUnknown,
         KnownPassword::Unavailable => Code::AuthinfoUnavail,
         KnownPassword::Plain(_) => Code::Success,
-        KnownPassword::Shadowed(entry) => aged(day_of(current_moment(clock)), entry),
+        KnownPassword::Shadowed(entry) => aged(day_of(moment), entry),
     }
 }

@@ -118,7 +118,7 @@ fn verify_token(
 fn is_success(code: Code) -> bool
     ensures { result ≡ is_success code }
 {
-    code as u32 == 0
+    code == Code::Success
 }
 
 // Asks for a token, and verifies it.

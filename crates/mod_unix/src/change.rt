@@ -8,7 +8,7 @@ ghost use Rattle.module_acts.specs.Act.{Yields};
 ghost use Rattle.module_acts.specs.Returns.{Returns, scene_of_parts};
 ghost use Rattle.module_acts.specs.OnlyTalks.{OnlyTalks};
 ghost use Rattle.mod_unix.specs.Aging.{day_of};
-ghost use Rattle.mod_unix.specs.Change.{asks_old, change_by, changes_entry, changes_token, is_kept, is_too_early, takes_token, tries_change};
+ghost use Rattle.mod_unix.specs.Change.{asks_for_new, asks_old, change_by, changes_entry, changes_token, is_kept, is_too_early, takes_token, tries_change};
 
 use crate::aging::aged;
 use crate::look::{KnownPassword, look_up};
@@ -164,8 +164,13 @@ fn change_entry(
 fn is_kept(call: &Call, today: u64, entry: &Shadow) -> bool
     ensures { result ≡ is_kept (plain_call call.now) today entry.now }
 {
-    call.has_flag(CHANGE_EXPIRED_AUTHTOK)
-        && !(aged(today, entry) as u32 == Code::NewAuthtokReqd as u32)
+    call.has_flag(CHANGE_EXPIRED_AUTHTOK) && !asks_for_new(aged(today, entry))
+}
+
+fn asks_for_new(code: Code) -> bool
+    ensures { result ≡ asks_for_new code }
+{
+    code == Code::NewAuthtokReqd
 }
 
 // Whether the token may be changed.

@@ -4,7 +4,7 @@ ghost use Rattle.sha_crypt.specs.Characters.{characters};
 ghost use Rattle.mod_unix.specs.NewHash.{hashed_token, method_text, new_setting, rounds_in, rounds_of, short_number};
 
 use module_acts::has_argument;
-use pam_base::{NoMemory, Refuse, Text, number_in};
+use pam_base::{MAX_TEXT, NoMemory, Refuse, Text, number_in};
 use pam_room::Call;
 use sha_crypt::{crypt, laws};
 use std::alloc::Global;
@@ -19,7 +19,7 @@ pub(crate) fn hashed_token(
     word: u64,
     token: &[u8],
 ) -> Result<Text, NoMemory>
-    requires { length token.now ≤ 512 }
+    requires { length token.now ≤ MAX_TEXT }
     ensures { IfOk result (λ hash. hash ≡ hashed_token call.now.args.now word token.now) }
 {
     laws::plain_settings_have_no_fault();

@@ -10,7 +10,7 @@ ghost use Rattle.mod_unix.specs.Change.{new_prompts, same_reply, takes_token, us
 
 use conv_port::{Conv, Message, Messages, Replies};
 use module_acts::{exchange, has_argument, laws, set_token};
-use pam_base::{ConvErr, ItemName, NoMemory, Refuse, Style, Text};
+use pam_base::{ConvErr, ItemName, MAX_TEXT, NoMemory, Refuse, Style, Text};
 use pam_room::{Call, Transaction, get_item};
 use std::alloc::Global;
 
@@ -28,7 +28,7 @@ pub fn take_token(
         Returns result (takes_token (plain_call call.now))
         (scene_of_parts transaction.old (conv_holds conv.old) vault clock process)
         (scene_of_parts transaction.new (conv_holds conv.new) vault clock process) }
-    ensures short { IfOk result (λ token. IfSome token (λ t. length t ≤ 512)) }
+    ensures short { IfOk result (λ token. IfSome token (λ t. length t ≤ MAX_TEXT)) }
     ensures talks { OnlyTalks transaction.old transaction.new }
 {
     module_acts::laws::act_steps();
@@ -48,14 +48,14 @@ pub fn take_token(
     }
 }
 
-// A token, unless it is empty or has more than 512 bytes.
+// A token, unless it is empty or has more than `MAX_TEXT` bytes.
 fn usable(alloc: Global, token: Option<&[u8]>) -> Result<Option<Text>, NoMemory>
     ensures usable { IfOk result (λ text. text ≡ usable (option_copied token.entry)) }
-    ensures short { IfOk result (λ text. IfSome text (λ t. length t ≤ 512)) }
+    ensures short { IfOk result (λ text. IfSome text (λ t. length t ≤ MAX_TEXT)) }
 {
     match token {
         Some(token) => {
-            if token.is_empty() || token.len() > 512 {
+            if token.is_empty() || token.len() > MAX_TEXT {
                 Ok(None)
             } else {
                 Ok(Some(Text::from_bytes(alloc, token)?))
@@ -82,7 +82,7 @@ fn new_prompts(alloc: Global) -> Result<Messages, NoMemory>
 
 fn same_reply(alloc: Global, replies: &Replies) -> Result<Option<Text>, NoMemory>
     ensures same { IfOk result (λ text. text ≡ same_reply replies.now) }
-    ensures short { IfOk result (λ text. IfSome text (λ t. length t ≤ 512)) }
+    ensures short { IfOk result (λ text. IfSome text (λ t. length t ≤ MAX_TEXT)) }
 {
     match replies.items() {
         [first, second] => {

@@ -20,7 +20,7 @@ use conv_port::Conv;
 use data_cleanup::{DataList, Datum, Receipt};
 use module_acts::{answer_and_keep, code_or_conv_err, laws};
 use pam_base::{Code, ConvErr, Func, NoMemory, Refuse, code_number, code_of};
-use pam_outside::{Clock, Vault, current_moment};
+use pam_outside::{Clock, Vault};
 use pam_room::{Call, Module, Process, Transaction, spend_by_length};
 use std::alloc::Global;
 
@@ -59,6 +59,7 @@ impl Module for Unix {
         process: &mut Process,
         conv: &mut dyn Conv,
         vault: &mut dyn Vault,
+        moment: u64,
         clock: &mut dyn Clock,
     ) -> Result<Code, NoMemory> {
         module_acts::laws::act_steps();
@@ -72,11 +73,11 @@ impl Module for Unix {
             }
             Func::SetCred => Ok(kept_code(&transaction.datums)),
             Func::AcctMgmt => {
-                let answer = check_account(alloc, transaction, process, conv, vault, clock);
+                let answer = check_account(alloc, transaction, process, conv, vault, moment);
                 code_or_conv_err(answer)
             }
             Func::ChAuthTok => {
-                let today = day_of(current_moment(clock));
+                let today = day_of(moment);
                 let answer = change_token(
                     alloc,
                     call,

@@ -6,12 +6,12 @@ ghost use Rattle.module_acts.specs.Accounts.{account_limit};
 ghost use Rattle.module_acts.specs.Content.{IsWithin};
 ghost use Rattle.module_acts.specs.Act.{Yields, StepsTo};
 ghost use Rattle.mod_unix.specs.Aging.{day_of};
-ghost use Rattle.mod_unix.specs.Change.{write_result, changed_shadow, changes_shadow, stores_token};
+ghost use Rattle.mod_unix.specs.Change.{write_result, changed_shadow, changes_locked, changes_shadow, stores_token};
 
 use crate::new_hash::hashed_token;
 use account_db::{entry_of, replace_hash, shadows};
-use module_acts::{ACCOUNT_LIMIT, Content, hold_named, laws, read_named, replace_named};
-use pam_base::{Code, NoMemory, Refuse, Text};
+use module_acts::{ACCOUNT_LIMIT, Content, hold_named, laws, read_named, release, replace_named};
+use pam_base::{Code, MAX_TEXT, NoMemory, Refuse, Text};
 use pam_outside::{Clock, LockKind, Vault, random_word};
 use pam_room::{Call, Process};
 use std::alloc::Global;
@@ -27,7 +27,7 @@ pub(crate) fn store_token(
     vault: &mut dyn Vault,
     clock: &mut dyn Clock,
 ) -> Result<Code, NoMemory>
-    requires { IfSome token (λ t. length t ≤ 512) }
+    requires { IfSome token (λ t. length t ≤ MAX_TEXT) }
     ensures vault_tells { vault_tells vault.new ≡ vault_tells vault.old }
     ensures err { IsTrue (vault_tells vault.old) →
         OnErr result ((vault_holds vault.new).files ≡ (vault_holds vault.old).files) }
@@ -52,8 +52,7 @@ pub(crate) fn store_token(
     Ok(code)
 }
 
-// Changes shadow: it is read again, and replaced by one with the user's new hash. Meanwhile the
-// account files are locked as lckpwdf(3) locks them.
+// Changes shadow. Meanwhile the account files are locked as lckpwdf(3) locks them.
 fn change_shadow(
     alloc: Global,
     today: u64,
@@ -69,10 +68,32 @@ fn change_shadow(
         IfOk result (λ code. StepsTo (changes_shadow user.now hash.now today) code process.now
         (vault_holds vault.old) (vault_holds vault.new)) }
 {
-    let _held = match hold_named(alloc, vault, process, b"/etc/.pwd.lock", LockKind::Record)? {
-        Some(held) => held,
-        None => return Ok(Code::AuthtokErr),
-    };
+    match hold_named(alloc, vault, process, b"/etc/.pwd.lock", LockKind::Record)? {
+        Some(held) => {
+            let code = change_locked(alloc, today, user, hash, process, vault)?;
+            release(vault, held);
+            Ok(code)
+        }
+        None => Ok(Code::AuthtokErr),
+    }
+}
+
+// Reads shadow again, and replaces it by one with the user's new hash.
+fn change_locked(
+    alloc: Global,
+    today: u64,
+    user: &[u8],
+    hash: &[u8],
+    process: &Process,
+    vault: &mut dyn Vault,
+) -> Result<Code, NoMemory>
+    ensures tells { vault_tells vault.new ≡ vault_tells vault.old }
+    ensures err { IsTrue (vault_tells vault.old) →
+        OnErr result ((vault_holds vault.new).files ≡ (vault_holds vault.old).files) }
+    ensures told { IsTrue (vault_tells vault.old) →
+        IfOk result (λ code. StepsTo (changes_locked user.now hash.now today) code process.now
+        (vault_holds vault.old) (vault_holds vault.new)) }
+{
     let content = read_named(alloc, vault, process, b"/etc/shadow", ACCOUNT_LIMIT)?;
     let text = match changed_shadow(alloc, today, user, hash, content)? {
         Some(text) => text,

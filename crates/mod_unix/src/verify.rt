@@ -2,7 +2,7 @@ ghost use Rattle.std.specs.Prelude.{◌≡◌, IfOk};
 ghost use Rattle.mod_unix.specs.Verify.{hash_verified, is_locked, verified};
 
 use crate::look::KnownPassword;
-use pam_base::{Code, NoMemory, Refuse};
+use pam_base::{Code, MAX_TEXT, NoMemory, Refuse};
 use sha_crypt::crypt;
 use std::alloc::Global;
 
@@ -23,7 +23,7 @@ pub(crate) fn verify(alloc: Global, look: &KnownPassword, token: &[u8]) -> Resul
 pub(crate) fn verify_hash(alloc: Global, hash: &[u8], token: &[u8]) -> Result<Code, NoMemory>
     ensures { IfOk result (λ code. code ≡ hash_verified hash.now token.now) }
 {
-    if is_locked(hash) || token.len() > 512 {
+    if is_locked(hash) || token.len() > MAX_TEXT {
         return Ok(Code::AuthErr);
     }
     match crypt(alloc, hash, token) {

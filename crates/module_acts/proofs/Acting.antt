@@ -1,16 +1,19 @@
 -- Steps of a module's definition, put before the rest of the definition.
-use Rattle.std.proofs.Common.{◌≡◌, ℕ, zero, suc, Bool, true, false, cond, List, [], Option, Some, None, is_some, unwrap_or, codes, Result, Ok, Err, IfOk, refl, sym, ap, ◌∙◌}
+use Rattle.std.proofs.Common.{◌≡◌, ℕ, zero, suc, Bool, true, false, ◌||◌, cond, nat_lt, length, List, [], Option, Some, None, is_some, unwrap_or, codes, Result, Ok, Err, IfOk, refl, sym, ap, ◌∙◌}
 use Rattle.std.proofs.lemmas.List.{append-nil}
 use Rattle.pam_base.specs.declared.code.Code.{Code}
 use Rattle.pam_base.specs.declared.fault.NoMemory.{NoMemory}
 use Rattle.pam_room.specs.item_store.specs.Items.{ItemTexts}
-use Rattle.pam_outside.specs.Files.{File, VaultState, counted, file_put, is_failing}
+use Rattle.pam_outside.specs.declared.held.LockKind.{LockKind}
+use Rattle.pam_outside.specs.declared.vault.TheConstants.{MAX_FILE}
+use Rattle.pam_outside.specs.Files.{File, Locks, VaultState, counted, file_put, is_failing, locked, refuses, unlocked}
+use Rattle.pam_outside.specs.Counts.{next_count}
 use Rattle.pam_outside.specs.Time.{ClockState, drawn}
 use Rattle.pam_room.specs.Call.{PlainCall}
 use Rattle.pam_room.specs.declared.process.Process.{Process}
 use Rattle.pam_room.specs.Plain.{plain_process}
 use Rattle.pam_room.specs.State.{PlainProcess, PlainRoom, Scene, scene_of}
-use Rattle.pam_room.specs.Module.{Played, PlaysIn, after_calls, failing_of, sight_of, with_played}
+use Rattle.pam_room.specs.Module.{Played, PlaysIn, Sight, after_calls, failing_of, sight_of, with_played}
 use Rattle.account_db.specs.declared.group.Group.{Group}
 use Rattle.account_db.specs.declared.passwd.Passwd.{Passwd}
 use Rattle.module_acts.specs.declared.content.Content.{Content}
@@ -18,7 +21,7 @@ use Rattle.module_acts.specs.declared.content.Content.TheVariants.{Absent}
 use Rattle.pam_outside.specs.Paths.{path_of}
 use Rattle.module_acts.specs.Content.{content_at, is_rooted}
 use Rattle.module_acts.specs.Accounts.{Known, account_limit, groups_in, known_groups, known_passwds, nothing_known, passwds_in, shells_in}
-use Rattle.module_acts.specs.Act.{Act, Acts, LooksTo, answers, called, content_seen, draws_word, groups_by, later, passwds_by, plays_by, reads_file, reads_groups, reads_if, reads_passwds, reads_shells, replaced, replaces_file, sees_items, sees_moment, stage_of}
+use Rattle.module_acts.specs.Act.{Act, Acts, LooksTo, after_letting_go, answers, called, content_seen, draws_word, groups_by, holds_lock, later, lets_go, passwds_by, plays_by, reads_file, reads_groups, reads_if, reads_passwds, reads_shells, replaced, replaces_file, sees_items, sees_moment, stage_of, took}
 
 -- ---- a step that leaves the files, and one that calls `Vault` once
 
@@ -173,12 +176,24 @@ module _ (process : Process) (known : Known) (vault : VaultState) where
 -- ---- a file that is set
 
 -- which calls fail, and how many were made, doesn't depend on the files
-calls_apart : (n : ℕ) (v : VaultState) (x f : List File) → record (after_calls n (record v { files = x })) { files = f } ≡ record (after_calls n v) { files = f }
-calls_apart zero v x f = refl
-calls_apart (suc n) v x f = calls_apart n (counted v) x f
+calls_apart : (n : ℕ) (v : VaultState) (x f : List File) (l : Locks) → record (after_calls n (record v { files = x })) { files = f; locks = l } ≡ record (after_calls n v) { files = f; locks = l }
+calls_apart zero v x f l = refl
+calls_apart (suc n) v x f l = calls_apart n (counted v) x f l
 
 fails_apart : (n : ℕ) (v : VaultState) (x : List File) → is_failing (after_calls n (record v { files = x })) ≡ is_failing (after_calls n v)
-fails_apart n v x = ap is_failing (calls_apart n v x [])
+fails_apart n v x = ap is_failing (calls_apart n v x [] v.locks)
+
+-- nor on the locks
+lock_calls_apart : (n : ℕ) (v : VaultState) (x l : Locks) (f : List File) → record (after_calls n (record v { locks = x })) { files = f; locks = l } ≡ record (after_calls n v) { files = f; locks = l }
+lock_calls_apart zero v x l f = refl
+lock_calls_apart (suc n) v x l f = lock_calls_apart n (counted v) x l f
+
+locks_fail : (n : ℕ) (v : VaultState) (x : Locks) → is_failing (after_calls n v) ≡ is_failing (after_calls n (record v { locks = x }))
+locks_fail n v x = sym (ap is_failing (lock_calls_apart n v x x []))
+
+locks_apart : (v : VaultState) (x : Locks) → failing_of v ≡ failing_of (record v { locks = x })
+unfolding failing_of
+locks_apart v x = λ i k. locks_fail k v x i
 
 failing_apart : (v : VaultState) (x : List File) → failing_of (record v { files = x }) ≡ failing_of v
 unfolding failing_of
@@ -188,35 +203,97 @@ module _ (room : PlainRoom) (vault : VaultState) (clock : ClockState) (process :
   abbrev set_whole : VaultState
   set_whole = counted (record vault { files = file_put (path_of process.root name) bytes vault.files })
 
-  next_fails : (sight_of (scene_of room vault clock process)).failing 0 ≡ is_failing vault
-  unfolding failing_of
-  next_fails = refl
-
   set_sight : replaced false (path_of process.root name) bytes (sight_of (scene_of room vault clock process)) ≡ sight_of (scene_of room set_whole clock process)
   unfolding failing_of
   set_sight =
       ap (λ (f : ℕ → Bool). record (sight_of (scene_of room set_whole clock process)) { failing = f }) (sym (failing_apart (counted vault) (file_put (path_of process.root name) bytes vault.files)))
 
   set_played : (p : Played) → with_played p (scene_of room set_whole clock process) ≡ with_played (called p) (scene_of room vault clock process)
-  set_played p = λ i. record (with_played (called p) (scene_of room vault clock process)) { vault = calls_apart p.calls (counted vault) (file_put (path_of process.root name) bytes vault.files) p.files i }
+  set_played p = λ i. record (with_played (called p) (scene_of room vault clock process)) { vault = calls_apart p.calls (counted vault) (file_put (path_of process.root name) bytes vault.files) p.files (p.locks (next_count vault.calls) vault.locks) i }
 
-  pub replacing : is_failing vault ≡ false → Acts (act true) known (scene_of room set_whole clock process) code new → Acts (replaces_file name bytes act) known (scene_of room vault clock process) code new
+  next_refuses : ((sight_of (scene_of room vault clock process)).failing 0 || nat_lt MAX_FILE (length bytes)) ≡ refuses bytes vault
+  unfolding failing_of
+  next_refuses = refl
+
+  pub replacing : refuses bytes vault ≡ false → Acts (act true) known (scene_of room set_whole clock process) code new → Acts (replaces_file name bytes act) known (scene_of room vault clock process) code new
   unfolding replaces_file
   replacing e a =
       let s = scene_of room vault clock process in
       let t = scene_of room set_whole clock process in
-      let same : replaces_file name bytes act (stage_of known s) ≡ called (act true (stage_of known t)) = rw (next_fails, e, set_sight) refl in
+      let same : replaces_file name bytes act (stage_of known s) ≡ called (act true (stage_of known t)) = rw (next_refuses, e, set_sight) refl in
       record {
         code_is = a.code_is ∙ ap (λ (p : Played). p.code) (sym same);
         scene_is = a.scene_is ∙ set_played (act true (stage_of known t)) ∙ ap (λ (p : Played). with_played p s) (sym same);
       }
 
-  pub not_replacing : is_failing vault ≡ true → Acts (act false) known (scene_of room (counted vault) clock process) code new → Acts (replaces_file name bytes act) known (scene_of room vault clock process) code new
+  pub not_replacing : refuses bytes vault ≡ true → Acts (act false) known (scene_of room (counted vault) clock process) code new → Acts (replaces_file name bytes act) known (scene_of room vault clock process) code new
   unfolding replaces_file
   not_replacing e a =
       let s = scene_of room vault clock process in
-      let same : replaces_file name bytes act (stage_of known s) ≡ called (act false (stage_of known (after_call s))) = rw (next_fails, e, later_sight s) refl in
+      let same : replaces_file name bytes act (stage_of known s) ≡ called (act false (stage_of known (after_call s))) = rw (next_refuses, e, later_sight s) refl in
       counted_once (replaces_file name bytes act) (act false) known known s code new same a
+
+-- ---- a lock
+
+module _ (room : PlainRoom) (vault : VaultState) (clock : ClockState) (process : PlainProcess) (name : List ℕ) (kind : LockKind) (act : Bool → Act) (known : Known) (code : Code) (new : Scene) where
+  next_is : (sight_of (scene_of room vault clock process)).failing 0 ≡ is_failing vault
+  unfolding failing_of
+  next_is = refl
+
+  -- the scene after the call that took it
+  abbrev held_scene : Scene
+  held_scene = scene_of room (locked (path_of process.root name) kind (counted vault)) clock process
+
+  held_sight : later (sight_of (scene_of room vault clock process)) ≡ sight_of held_scene
+  unfolding failing_of
+  held_sight = later_sight (scene_of room vault clock process) ∙ ap (λ (f : ℕ → Bool). record (sight_of held_scene) { failing = f }) (locks_apart (counted vault) (locked (path_of process.root name) kind (counted vault)).locks)
+
+  held_played : (p : Played) → with_played p held_scene ≡ with_played (called (took (path_of process.root name) kind p)) (scene_of room vault clock process)
+  held_played p = λ i. record (with_played (called (took (path_of process.root name) kind p)) (scene_of room vault clock process)) { vault = lock_calls_apart p.calls (counted vault) (locked (path_of process.root name) kind (counted vault)).locks (p.locks (next_count vault.calls) (locked (path_of process.root name) kind (counted vault)).locks) p.files i }
+
+  pub holding : is_rooted name ≡ true → is_failing vault ≡ false → Acts (act true) known held_scene code new → Acts (holds_lock name kind act) known (scene_of room vault clock process) code new
+  unfolding holds_lock
+  holding rooted e a =
+      let s = scene_of room vault clock process in
+      let same : holds_lock name kind act (stage_of known s) ≡ called (took (path_of process.root name) kind (act true (stage_of known held_scene))) = rw (rooted, next_is, e, held_sight) refl in
+      record {
+        code_is = a.code_is ∙ ap (λ (p : Played). p.code) (sym same);
+        scene_is = a.scene_is ∙ held_played (act true (stage_of known held_scene)) ∙ ap (λ (p : Played). with_played p s) (sym same);
+      }
+
+  pub refusing : is_rooted name ≡ true → is_failing vault ≡ true → Acts (act false) known (scene_of room (counted vault) clock process) code new → Acts (holds_lock name kind act) known (scene_of room vault clock process) code new
+  unfolding holds_lock
+  refusing rooted e a =
+      let s = scene_of room vault clock process in
+      let same : holds_lock name kind act (stage_of known s) ≡ called (act false (stage_of known (after_call s))) = rw (rooted, next_is, e, later_sight s) refl in
+      counted_once (holds_lock name kind act) (act false) known known s code new same a
+
+  pub not_holding : is_rooted name ≡ false → Acts (act true) known (scene_of room vault clock process) code new → Acts (holds_lock name kind act) known (scene_of room vault clock process) code new
+  unfolding holds_lock
+  not_holding rooted a =
+      let s = scene_of room vault clock process in
+      carried (holds_lock name kind act) (act true) known known s s code new (rw rooted refl) (λ p. refl) a
+
+module _ (room : PlainRoom) (vault : VaultState) (clock : ClockState) (process : PlainProcess) (held : Bool) (act : Act) (known : Known) (code : Code) (new : Scene) where
+  abbrev freed_scene : Scene
+  freed_scene = scene_of room (unlocked held vault) clock process
+
+  freed_sight : sight_of (scene_of room vault clock process) ≡ sight_of freed_scene
+  unfolding failing_of
+  freed_sight = ap (λ (f : ℕ → Bool). record (sight_of freed_scene) { failing = f }) (locks_apart vault (unlocked held vault).locks)
+
+  freed_played : (p : Played) → with_played p freed_scene ≡ with_played (record p { locks = after_letting_go held p.locks }) (scene_of room vault clock process)
+  freed_played p = λ i. record (with_played (record p { locks = after_letting_go held p.locks }) (scene_of room vault clock process)) { vault = lock_calls_apart p.calls vault (unlocked held vault).locks (p.locks vault.calls (unlocked held vault).locks) p.files i }
+
+  pub freeing : Acts act known freed_scene code new → Acts (lets_go held act) known (scene_of room vault clock process) code new
+  unfolding lets_go
+  freeing a =
+      let s = scene_of room vault clock process in
+      let same : lets_go held act (stage_of known s) ≡ record (act (stage_of known freed_scene)) { locks = after_letting_go held (act (stage_of known freed_scene)).locks } = ap (λ (x : Sight). lets_go held act (record (stage_of known s) { sight = x })) freed_sight in
+      record {
+        code_is = a.code_is ∙ ap (λ (p : Played). p.code) (sym same);
+        scene_is = a.scene_is ∙ freed_played (act (stage_of known freed_scene)) ∙ ap (λ (p : Played). with_played p s) (sym same);
+      }
 
 -- ---- modules
 

@@ -1,18 +1,20 @@
 -- What a module does, step by step, if all objects that it gets are modelled (this project's own).
-use Rattle.std.specs.Prelude.{◌≡◌, ℕ, suc, Bool, true, false, not, if◌then◌else◌, List, [], ◌∷◌, take, Option, Some, None, codes, unwrap_or}
+use Rattle.std.specs.Prelude.{◌≡◌, ℕ, suc, Bool, true, false, not, ◌||◌, nat_lt, if◌then◌else◌, List, [], ◌∷◌, take, Option, Some, None, codes, length, unwrap_or}
 use Rattle.pam_base.specs.declared.code.Code.{Code}
 use Rattle.pam_base.specs.declared.code.Code.TheVariants.{ConvErr}
 use Rattle.pam_base.specs.declared.style.Style.{Style}
-use Rattle.pam_outside.specs.Files.{file_at, file_put, VaultState}
+use Rattle.pam_outside.specs.declared.held.LockKind.{LockKind}
+use Rattle.pam_outside.specs.declared.vault.TheConstants.{MAX_FILE}
+use Rattle.pam_outside.specs.Files.{file_at, file_put, with_lock, without_lock, VaultState}
 use Rattle.pam_room.specs.item_store.specs.Items.{ItemTexts}
 use Rattle.pam_room.specs.Call.{PlainCall}
-use Rattle.pam_room.specs.State.{PlainRoom, Scene, room_of, scene_of}
+use Rattle.pam_room.specs.State.{PlainProcess, PlainRoom, Scene, room_of, scene_of}
 use Rattle.pam_room.specs.Plain.{plain_process, plain_transaction}
 use Rattle.pam_room.specs.declared.process.Process.{Process}
 use Rattle.pam_room.specs.declared.transaction.Transaction.{Transaction}
 use Rattle.pam_outside.specs.Time.{ClockState}
 use Rattle.conv_port.specs.Conv.{ConvState}
-use Rattle.pam_room.specs.Module.{NamedData, Played, Plays, SeenRoom, Sight, answered, named_data, seen_of, sight_of, with_played}
+use Rattle.pam_room.specs.Module.{Locking, NamedData, Played, Plays, SeenRoom, Sight, a_call_later, answered, named_data, seen_of, sight_of, with_played}
 use Rattle.pam_room.specs.Say.{Asked, speak, user_asked}
 use Rattle.account_db.specs.declared.passwd.Passwd.{Passwd}
 use Rattle.account_db.specs.declared.group.Group.{Group}
@@ -80,7 +82,7 @@ later sight = record sight { failing = λ n. sight.failing (suc n) }
 
 -- one more call was made
 abbrev pub called : Played → Played
-called played = record played { calls = suc played.calls }
+called played = record played { locks = a_call_later played.locks; calls = suc played.calls }
 
 -- what the next call finds, if it reads the file with this name
 abbrev pub content_seen : List ℕ → ℕ → Sight → Content
@@ -101,12 +103,48 @@ abbrev pub replaced : Bool → List ℕ → List ℕ → Sight → Sight
 replaced true path bytes sight = later sight
 replaced false path bytes sight = record (later sight) { files = file_put path bytes sight.files }
 
--- the file with this name is set whole by one call of `Vault`, and stays as it was if that fails
+-- the file with this name is set whole by one call of `Vault`, and stays as it was if that fails, or if the bytes are
+-- more than can be read back
 unfoldable pub replaces_file : List ℕ → List ℕ → (Bool → Act) → Act
 replaces_file name bytes act stage =
-    let fails = stage.sight.failing 0 in
+    let fails = stage.sight.failing 0 || nat_lt MAX_FILE (length bytes) in
     let sight = replaced fails (path_of stage.sight.root name) bytes stage.sight in
     called (act (not fails) (record stage { sight = sight }))
+
+-- ---- locks
+
+-- a lock was taken before the rest
+abbrev pub after_lock : List ℕ → LockKind → Locking → Locking
+after_lock path kind locking calls locks = locking calls (with_lock path kind calls locks)
+
+-- a lock was let go before the rest
+abbrev pub after_letting_go : Bool → Locking → Locking
+after_letting_go held locking calls locks = locking calls (without_lock held calls locks)
+
+-- this lock was taken
+abbrev pub took : List ℕ → LockKind → Played → Played
+took path kind played = record played { locks = after_lock path kind played.locks }
+
+-- a call that is to take a lock, given whether it is set to fail
+abbrev pub holds_unless : Bool → List ℕ → LockKind → (Bool → Act) → Act
+holds_unless true path kind act stage = called (act false (record stage { sight = later stage.sight }))
+holds_unless false path kind act stage =
+    called (took path kind (act true (record stage { sight = later stage.sight })))
+
+abbrev pub holds_if : Bool → List ℕ → LockKind → (Bool → Act) → Act
+holds_if true name kind act stage =
+    holds_unless (stage.sight.failing 0) (path_of stage.sight.root name) kind act stage
+holds_if false name kind act stage = act true stage
+
+-- The lock of the file with this name is taken by one call of `Vault`, and the rest is told whether it is held; if the
+-- name isn't a path from the root nothing is locked, without a call.
+unfoldable pub holds_lock : List ℕ → LockKind → (Bool → Act) → Act
+holds_lock name kind act stage = holds_if (is_rooted name) name kind act stage
+
+-- the lock is let go here, if one was taken
+unfoldable pub lets_go : Bool → Act → Act
+lets_go held act stage =
+    record (act stage) { locks = after_letting_go held (act stage).locks }
 
 -- ---- the clock
 
@@ -218,3 +256,9 @@ LooksTo {A} step value process known old now new =
     (room : PlainRoom) (clock : ClockState) (act : A → Act) (code : Code) (end : Scene)
     → Acts (act value) now (scene_of room new clock (plain_process process)) code end
     → Acts (step act) known (scene_of room old clock (plain_process process)) code end
+
+-- A step over files without a value left the files so.
+abbrev pub StepsOn : (Act → Act) → VaultState → VaultState → Type 0
+StepsOn step old new =
+    (room : PlainRoom) (clock : ClockState) (process : PlainProcess)
+    → Reaches step (scene_of room old clock process) (scene_of room new clock process)

@@ -1,6 +1,7 @@
 ghost use Rattle.std.specs.Prelude.{◌≡◌, ◌≢◌, ℕ, List, Option, None, IsTrue, IfOk, OnErr};
 ghost use Rattle.pam_base.specs.declared.code.Code.{Code};
 ghost use Rattle.conv_port.specs.Conv.{ConvState};
+ghost use Rattle.pam_outside.specs.Time.{ClockState};
 ghost use Rattle.pam_room.specs.Call.{PlainCall};
 ghost use Rattle.pam_room.specs.Module.{Plays, PlaysIn};
 ghost use Rattle.pam_room.specs.Plain.{plain_call};
@@ -11,7 +12,7 @@ ghost use Rattle.module_acts.specs.Seen.{scene_seen, user_seen};
 
 use crate::seen::Seen;
 use pam_base::{Code, NoMemory};
-use pam_outside::{Clock, Vault};
+use pam_outside::Vault;
 use pam_room::Call;
 
 /// A module that asks for the user's name, and then decides by files and the time.
@@ -37,17 +38,17 @@ pub trait Check {
         ensures { result ≡ at_once (plain_call call.now) };
 
     /// Decides; USER is set. If an allocation fails, the files are as they were.
-    fn decide(seen: &Seen, vault: &mut dyn Vault, clock: &dyn Clock) -> Result<Code, NoMemory>
+    fn decide(seen: &Seen, vault: &mut dyn Vault, moment: u64) -> Result<Code, NoMemory>
         requires { seen.now.transaction.now.items.user ≢ None }
         ensures tells { vault_tells vault.new ≡ vault_tells vault.old }
         ensures err { IsTrue (vault_tells vault.old) →
             OnErr result ((vault_holds vault.new).files ≡ (vault_holds vault.old).files) }
-        ensures told { IsTrue (vault_tells vault.old) → IsTrue (clock_tells clock.now) →
-            (conv : ConvState) → IfOk result (λ code. Follows
+        ensures told { IsTrue (vault_tells vault.old) → (clock : ClockState) →
+            moment ≡ clock.moment → (conv : ConvState) → IfOk result (λ code. Follows
             (decides (plain_call seen.now.call.now) seen.now.process.now.caller
             (user_seen seen.now))
-            (scene_seen seen.now conv (vault_holds vault.old) (clock_holds clock.now)) code
-            (scene_seen seen.now conv (vault_holds vault.new) (clock_holds clock.now))) };
+            (scene_seen seen.now conv (vault_holds vault.old) clock) code
+            (scene_seen seen.now conv (vault_holds vault.new) clock)) };
 
     /// A law: a call returns what is returned at once, or else what is decided for the user.
     fn plays_so()

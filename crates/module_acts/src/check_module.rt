@@ -11,7 +11,7 @@ use crate::seen::Seen;
 use crate::work::Work;
 use conv_port::Conv;
 use pam_base::{Code, ConvErr, Refuse};
-use pam_outside::{Clock, Vault};
+use pam_outside::Vault;
 use pam_room::{Call, Transaction};
 use std::marker::PhantomData;
 
@@ -42,7 +42,7 @@ impl<T: Check> Work for CheckWork<T> {
         transaction: &mut Transaction,
         conv: &mut dyn Conv,
         vault: &mut dyn Vault,
-        clock: &dyn Clock,
+        moment: u64,
     ) -> Result<Code, Refuse<ConvErr>> {
         talking();
         require_user(asked.alloc, transaction, conv)?;
@@ -52,7 +52,7 @@ impl<T: Check> Work for CheckWork<T> {
             transaction: &*transaction,
             process: asked.process,
         };
-        let code = T::decide(&seen, vault, clock)?;
+        let code = T::decide(&seen, vault, moment)?;
         Ok(code)
     }
 

@@ -1,11 +1,12 @@
-ghost use Rattle.std.specs.Prelude.{◌≡◌, ◌≢◌, ◌≤◌, IsTrue, IfOk, IsSome, None, Ok, OnOk, OnErr, false};
+ghost use Rattle.std.specs.Prelude.{◌≡◌, ◌≢◌, ◌≤◌, IsTrue, IfOk, IfSome, is_some, None, Ok, OnOk, OnErr, false};
 ghost use Rattle.pam_outside.specs.Files.{counted};
-ghost use Rattle.module_acts.specs.Act.{StepsTo, reads_file, replaces_file};
+ghost use Rattle.module_acts.specs.Act.{StepsOn, StepsTo, holds_lock, lets_go, reads_file, replaces_file};
 ghost use Rattle.module_acts.specs.Content.{IsWithin, content_at, is_rooted};
 
-use pam_base::{Failed, NoMemory, Text};
+use pam_base::{NoMemory, Text};
 use pam_outside::{
-    Held, LockKind, ReplaceFault, Vault, VaultFault, hold_file, path_of, read_file, replace_file,
+    Held, LockKind, ReplaceFault, Vault, VaultFault, hold_file, let_go, path_of, read_file,
+    replace_file,
 };
 use pam_room::Process;
 use std::alloc::Global;
@@ -109,9 +110,8 @@ pub fn replace_named(
     }
 }
 
-/// Holds the lock of the file with this name until the result is dropped; None if that failed. This
-/// isn't counted as a call and changes no file, and with modelled files the result is never None.
-/// If the name isn't a path from the root, nothing is held.
+/// Takes the lock of the file with this name, by one call of `Vault`, and holds it until the result is let go or
+/// dropped; None if that failed. If the name isn't a path from the root, nothing is held, and no call is made. The files stay.
 pub fn hold_named(
     alloc: Global,
     vault: &mut dyn Vault,
@@ -119,10 +119,13 @@ pub fn hold_named(
     name: &[u8],
     kind: LockKind,
 ) -> Result<Option<Held>, NoMemory>
+    ensures held { IfOk result (λ found. IfSome found (λ held. held ≡ is_rooted name.now)) }
     ensures tells { vault_tells vault.new ≡ vault_tells vault.old }
     ensures told { IsTrue (vault_tells vault.old) →
-        vault_holds vault.new ≡ vault_holds vault.old }
-    ensures held { IsTrue (vault_tells vault.old) → IfOk result (λ held. IsSome held) }
+        IfOk result (λ held. StepsTo (holds_lock name.now kind) (is_some held) process.now
+        (vault_holds vault.old) (vault_holds vault.new)) }
+    ensures files { IsTrue (vault_tells vault.old) →
+        (vault_holds vault.new).files ≡ (vault_holds vault.old).files }
     ensures faults { vault_faults vault.old ≤ vault_faults vault.new }
     ensures no_fault { result ≢ Ok None → vault_faults vault.new ≡ vault_faults vault.old }
 {
@@ -130,10 +133,23 @@ pub fn hold_named(
         return Ok(Some(Held::nothing()));
     }
     let path = path_of(alloc, process.root.bytes(), name)?;
-    match hold_file(vault, path.bytes(), kind) {
+    match hold_file(vault, alloc, path.bytes(), kind) {
         Ok(held) => Ok(Some(held)),
-        Err(Failed) => Ok(None),
+        Err(ReplaceFault::Failed) => Ok(None),
+        Err(ReplaceFault::NoMemory) => Err(NoMemory),
     }
+}
+
+/// Lets a lock go.
+pub fn release(vault: &mut dyn Vault, held: Held)
+    ensures tells { vault_tells vault.new ≡ vault_tells vault.old }
+    ensures told { IsTrue (vault_tells vault.old) →
+        StepsOn (lets_go held) (vault_holds vault.old) (vault_holds vault.new) }
+    ensures files { IsTrue (vault_tells vault.old) →
+        (vault_holds vault.new).files ≡ (vault_holds vault.old).files }
+    ensures faults { vault_faults vault.new ≡ vault_faults vault.old }
+{
+    let_go(vault, held)
 }
 
 /// Whether a name that an argument gives is a path from the root.

@@ -28,7 +28,9 @@ pub use asking::{exchange, require_token, require_user};
 pub use changing::{answer_and_keep, request_delay, set_token};
 pub use check::Check;
 pub use check_module::CheckWork;
-pub use content::{Content, SMALL_FILE_LIMIT, hold_named, is_rooted, read_named, replace_named};
+pub use content::{
+    Content, SMALL_FILE_LIMIT, hold_named, is_rooted, read_named, release, replace_named,
+};
 pub use ending::code_or_conv_err;
 pub use pam_room;
 pub use pam_room::data_cleanup;

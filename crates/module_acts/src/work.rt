@@ -1,5 +1,6 @@
 ghost use Rattle.std.specs.Prelude.{◌≡◌, ℕ, List, Option, IsTrue, OnErr};
 ghost use Rattle.pam_base.specs.declared.code.Code.{Code};
+ghost use Rattle.pam_outside.specs.Time.{ClockState};
 ghost use Rattle.pam_room.specs.Call.{PlainCall};
 ghost use Rattle.pam_room.specs.Module.{Plays, PlaysIn};
 ghost use Rattle.pam_room.specs.Plain.{plain_call};
@@ -11,7 +12,7 @@ ghost use Rattle.module_acts.specs.SetsNoData.{SetsNoData};
 use crate::asked::Asked;
 use conv_port::Conv;
 use pam_base::{Code, ConvErr, Refuse};
-use pam_outside::{Clock, Vault};
+use pam_outside::Vault;
 use pam_room::{Call, Transaction};
 
 /// A module without state that sets no data: the code that it returns at once, or else what it
@@ -44,19 +45,19 @@ pub trait Work {
         transaction: &mut Transaction,
         conv: &mut dyn Conv,
         vault: &mut dyn Vault,
-        clock: &dyn Clock,
+        moment: u64,
     ) -> Result<Code, Refuse<ConvErr>>
         ensures conv_tells { conv_tells conv.new ≡ conv_tells conv.old }
         ensures vault_tells { vault_tells vault.new ≡ vault_tells vault.old }
         ensures err { IsTrue (vault_tells vault.old) →
             OnErr result ((vault_holds vault.new).files ≡ (vault_holds vault.old).files) }
         ensures told { IsTrue (conv_tells conv.old) → IsTrue (vault_tells vault.old) →
-            IsTrue (clock_tells clock.now) → Finishes result
+            (clock : ClockState) → moment ≡ clock.moment → Finishes result
             (does (plain_call asked.now.call.now) asked.now.process.now.caller)
             (scene_at transaction.old (conv_holds conv.old) (vault_holds vault.old)
-            (clock_holds clock.now) asked.now.process.now)
+            clock asked.now.process.now)
             (scene_at transaction.new (conv_holds conv.new) (vault_holds vault.new)
-            (clock_holds clock.now) asked.now.process.now) }
+            clock asked.now.process.now) }
         ensures sets { SetsNoData transaction.old transaction.new };
 
     /// A law: a call returns what is returned at once, or else does this.

@@ -48,7 +48,8 @@ impl<T: Work> Module for WorkModule<T> {
         process: &mut Process,
         conv: &mut dyn Conv,
         vault: &mut dyn Vault,
-        clock: &mut dyn Clock,
+        moment: u64,
+        _clock: &mut dyn Clock,
     ) -> Result<Code, NoMemory> {
         laws::act_steps();
         no_data_are_set();
@@ -62,7 +63,7 @@ impl<T: Work> Module for WorkModule<T> {
                     call,
                     process: &*process,
                 };
-                let answer = T::work(&asked, transaction, conv, vault, clock);
+                let answer = T::work(&asked, transaction, conv, vault, moment);
                 code_or_conv_err(answer)
             }
         }

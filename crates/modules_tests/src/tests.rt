@@ -1,3 +1,4 @@
 mod lists;
 mod scene;
+mod tally;
 mod unix;

@@ -1,3 +1,4 @@
+mod below;
 mod real;
 
 use pam_base::{Failed, Text};

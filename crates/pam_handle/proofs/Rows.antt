@@ -19,6 +19,7 @@ use Rattle.pam_base.specs.declared.item.ItemName.TheVariants.{Tty, User}
 use Rattle.pam_base.specs.declared.style.Style.TheVariants.{EchoOn}
 use Rattle.data_cleanup.specs.declared.receipt.Filed.{Filed}
 use Rattle.data_cleanup.specs.declared.receipt.Receipt.{Receipt}
+use Rattle.dispatch_core.specs.pam_outside.specs.Files.{no_locks}
 use Rattle.dispatch_core.specs.pam_room.specs.Call.{has_flag, prelim_check}
 use Rattle.dispatch_core.specs.pam_room.specs.Module.{NamedData, Note, Played, Player, Plays, Sight, answered, never_breaks, notes_of}
 use Rattle.dispatch_core.specs.pam_room.specs.Say.{Spoken, speak}
@@ -75,7 +76,7 @@ abbrev started_with : List Player → List Offer → Stacks → PlainHandle
 started_with players offers s = new_handle 1 (codes "t") (Some (codes "joe")) (record { offers = offers; waits = false; handed = [] }) (names_of players) s
 
 abbrev world : ℕ → PlainWorld
-world word = world_of (record { files = []; calls = 0; fails = [] }) (record { moment = 0; word = word; draws = 0 }) (record { waits = 0; sum = 0 }) (record { ledger = record { births = []; filed = [] }; root = []; caller = 0 })
+world word = world_of (record { files = []; locks = no_locks; calls = 0; fails = [] }) (record { moment = 0; word = word; draws = 0 }) (record { waits = 0; sum = 0 }) (record { ledger = record { births = []; filed = [] }; root = []; caller = 0 })
 
 -- the application's delay function: at most 3 seconds
 abbrev three_seconds : Code → ℕ → ℕ

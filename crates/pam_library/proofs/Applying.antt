@@ -27,6 +27,7 @@ use Rattle.pam_library.specs.Step.{Stepped, StepsAs, stepped, stepped_at}
 use Rattle.pam_library.specs.Sound.{IsAtPlace, IsSound}
 use Rattle.pam_library.specs.AnyWorld.{AnswersBy, Fails, FailsAt, SpendsAt, StopsAt, end_at, refusal, stays_inside, takes_no_memory}
 use Rattle.pam_library.specs.InPlace.{CalledInSlot, IsReadyAt}
+use Rattle.pam_library.specs.Traced.{TracesAt}
 use Rattle.pam_library.proofs.Stopping.{stops_on, stops_when}
 use Rattle.pam_library.proofs.Placing.{slot_at-with_slot_other, slot_at-with_slot_same, slot_at-within}
 use Rattle.pam_library.proofs.Stacking.{IsOnly}
@@ -252,6 +253,11 @@ module _ (players : List Player) (gives : (Code → ℕ → ℕ) → Type 0) (te
 
   pub answer_after : IfOk result (λ o. AnswersBy (refusal (slot_at slots number) call) call o.answer)
   answer_after = subst (λ (s : Option PlainSlot). IfOk result (λ o. AnswersBy (refusal s call) call o.answer)) (sym is.there) goes.answers
+
+  pub traces_after : IfOk result (λ o. TracesAt call (slot_at slots number) (slot_at next number) (plain_outcome o))
+  traces_after =
+      subst (λ (s : Option PlainSlot). IfOk result (λ o. TracesAt call s (slot_at next number) (plain_outcome o))) (sym is.there)
+      (subst (λ (s : Option PlainSlot). IfOk result (λ o. TracesAt call (Some old) s (plain_outcome o))) (sym new_there) goes.traces)
 
   pub succeeds_after : takes_no_memory (slot_at slots number) call ≡ true → IsOk result
   succeeds_after e = goes.succeeds (subst (λ (s : Option PlainSlot). takes_no_memory s call ≡ true) is.there e)

@@ -16,7 +16,9 @@ use Rattle.pam_library.specs.Slots.{PlainSlot, lists_of, slot_at}
 use Rattle.pam_library.specs.SlotStep.{filed_in}
 use Rattle.pam_library.specs.AnyWorld.{AnswersBy, CountsRefusal, FailsAt, HidesNoFault, SpendsAt, StopsAt, end_at, refusal}
 use Rattle.pam_library.specs.Applied.{Answers, Keeps, Leaves, RunsOut}
+use Rattle.pam_library.specs.Outcome.{plain_outcome}
 use Rattle.pam_library.specs.Seen.{IsSoundIn, Seen, slot_of}
+use Rattle.pam_library.specs.Traced.{TracesAt}
 use Rattle.pam_library.proofs.Stacking.{IsOnly}
 
 abbrev pub NothingMoves : Type 0
@@ -48,6 +50,7 @@ leaves_all players step slots w none = record {
 pub bad_answers : (step : Step) (s : Seen) (o : Outcome) → slot_of step s ≡ None → IsOnly o (filed_in s.world) answers.BadNumber → Answers step s s o
 bad_answers step s o none only = record {
   answer = subst (λ (slot : Option PlainSlot). AnswersBy (refusal slot step.call) step.call o.answer) (sym none) only.answer_is;
+  traces = subst (λ (slot : Option PlainSlot). TracesAt step.call slot slot (plain_outcome o)) (sym none) tt;
   filed_from = only.filed_is;
   faults = subst (λ (a : Answer). CountsRefusal a s.faults s.faults) (sym only.answer_is) tt;
 }
@@ -55,10 +58,11 @@ bad_answers step s o none only = record {
 -- an outcome, or the step ran out of memory
 module _ (step : Step) (old new : Seen) where
   pub answers_with : (result : Result Outcome NoMemory)
-      → IfOk result (λ o. AnswersBy (refusal (slot_of step old) step.call) step.call o.answer) → IfOk result (λ o. o.filed_from ≡ length old.world.process.ledger.filed)
+      → IfOk result (λ o. AnswersBy (refusal (slot_of step old) step.call) step.call o.answer)
+      → IfOk result (λ o. TracesAt step.call (slot_of step old) (slot_of step new) (plain_outcome o)) → IfOk result (λ o. o.filed_from ≡ length old.world.process.ledger.filed)
       → IfOk result (λ o. CountsRefusal o.answer old.faults new.faults) → IfOk result (λ o. Answers step old new o)
-  answers_with (Ok o) answer filed faults = record { answer = answer; filed_from = filed; faults = faults }
-  answers_with (Err e) answer filed faults = tt
+  answers_with (Ok o) answer traces filed faults = record { answer = answer; traces = traces; filed_from = filed; faults = faults }
+  answers_with (Err e) answer traces filed faults = tt
 
   pub runs_out : {Nap : Type 0} (result : Result Outcome NoMemory) (before after : Nap)
       → OnErr result (FailsAt old.tells step.call (slot_of step old) (slot_of step new))

@@ -4,6 +4,7 @@ pub mod Naming
 pub mod Neighbours
 pub mod Following
 pub mod Spending
+pub mod Tracing
 pub mod Stacking
 pub mod Within
 pub mod Starting

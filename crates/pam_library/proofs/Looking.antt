@@ -4,7 +4,7 @@ use Rattle.std.proofs.Common.{◌≡◌, ℕ, ◌+◌, Bool, true, false, if◌t
 use Rattle.std.specs.Prelude.{nat_lt, nat_le}
 use Rattle.pam_base.specs.declared.fault.FaultKind.TheVariants.{TooDeep, TooManyLines, TooManyFiles, ReadFailed}
 use Rattle.pam_outside.specs.Counts.{next_count, fails_next}
-use Rattle.pam_outside.specs.Files.{File, VaultState, is_failing}
+use Rattle.pam_outside.specs.Files.{File, VaultState, is_failing, no_locks}
 use Rattle.pam_handle.specs.service_load.specs.Entry.{entry_of, folder_name}
 use Rattle.pam_handle.specs.service_load.specs.Files.{Held, absent, faulty, holds, held, is_in_folder}
 use Rattle.pam_handle.specs.service_load.specs.FirstFault.{Counts, Stop, absent_file, asked, behind, checked_rule, fault_at, going_on, held_file, look, refused_opening, stop}
@@ -16,13 +16,13 @@ use Rattle.pam_library.proofs.Quiet.{quiet_counted, quiet_now, quiet_with_files}
 
 -- by the numbers of the accesses planned to fail, and the number of accesses made
 abbrev pub QuietAt : List ℕ → ℕ → Type 0
-QuietAt fails calls = NoCallFails (record { files = []; calls = calls; fails = fails })
+QuietAt fails calls = NoCallFails (record { files = []; locks = no_locks; calls = calls; fails = fails })
 
 none_fails : (fails : List ℕ) (calls : ℕ) → QuietAt fails calls → fails_next calls fails ≡ false
-none_fails fails calls quiet = quiet_now (record { files = []; calls = calls; fails = fails }) quiet
+none_fails fails calls quiet = quiet_now (record { files = []; locks = no_locks; calls = calls; fails = fails }) quiet
 
 one_more : (fails : List ℕ) (calls : ℕ) → QuietAt fails calls → QuietAt fails (next_count calls)
-one_more fails calls quiet = quiet_counted (record { files = []; calls = calls; fails = fails }) quiet
+one_more fails calls quiet = quiet_counted (record { files = []; locks = no_locks; calls = calls; fails = fails }) quiet
 
 module _ (some others : List ℕ) where
   -- two results are the same except for the number of accesses
@@ -108,7 +108,7 @@ module _ (some others : List ℕ) where
 -- ---- the load of a service
 
 quiet_at : (v : VaultState) → NoCallFails v → QuietAt v.fails v.calls
-quiet_at v quiet = quiet_with_files [] v quiet
+quiet_at v quiet = quiet_with_files [] no_locks v quiet
 
 same_files : (v w : VaultState) (root service : List ℕ) → NoCallFails v → NoCallFails w
     → LookTwins v.fails w.fails (loaded v root service) (loaded (record w { files = v.files }) root service)
@@ -134,4 +134,4 @@ loaded_twins v w root root' service files roots first second =
 
 -- a file store without a planned failure has none with another number of accesses either
 pub quiet_with_calls : (v : VaultState) (calls : ℕ) → QuietAt v.fails calls → NoCallFails (record v { calls = calls })
-quiet_with_calls v calls quiet = quiet_with_files v.files (record { files = []; calls = calls; fails = v.fails }) quiet
+quiet_with_calls v calls quiet = quiet_with_files v.files v.locks (record { files = []; locks = no_locks; calls = calls; fails = v.fails }) quiet

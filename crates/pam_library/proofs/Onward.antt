@@ -23,6 +23,8 @@ use Rattle.pam_library.specs.SlotStep.{is_refused_for_flags, other_pending}
 use Rattle.pam_library.specs.Sound.{IsPlaced}
 use Rattle.pam_library.specs.AnyWorld.{AnswersBy, CanAnswer, CountsRefusal, Fails, GetsItem, StackFails, StackStops, StopsBy, is_code, refusal}
 use Rattle.pam_library.specs.InPlace.{CalledInSlot}
+use Rattle.pam_library.specs.Traced.{stack_of}
+use Rattle.pam_library.proofs.Tracing.{traced_before}
 use Rattle.pam_library.proofs.Within.{failed_by}
 
 stack_fails : (func : Func) (h : PlainHandle) (new : PlainSlot) → StackFails func (opened (all_told h)) new → StackFails func (opened h) new
@@ -61,6 +63,7 @@ module _ (players : List Player) (gives : (Code → ℕ → ℕ) → Type 0) (te
     told = goes.told;
     alone = goes.alone;
     answers = goes.answers;
+    traces = traced_before (stack_of call) result h new goes.traces;
     filed_from = goes.filed_from;
     succeeds = goes.succeeds;
     fails = failed_by result (Fails tells call (opened (all_told h)) new) (Fails tells call (opened h) new) (fails_told tells call h new) goes.fails;

@@ -10,6 +10,7 @@ use Rattle.pam_base.specs.declared.call.AppCall.TheVariants as calls
 use Rattle.conv_port.specs.Conv.{ConvState}
 use Rattle.data_cleanup.specs.Cleanup.{Notes, receipts_for}
 use Rattle.data_cleanup.specs.declared.receipt.Filed.{Filed}
+use Rattle.pam_outside.specs.Files.{no_locks}
 use Rattle.pam_handle.specs.env_list.specs.Environment.{Variable, is_refused as is_refused_text, after_put, value_of, variable_text}
 use Rattle.fail_delay.specs.Delay.{counted_request}
 use Rattle.pam_handle.specs.item_store.specs.Items.{text_of, with_text}
@@ -295,7 +296,7 @@ module _ (n number : ℕ) (first second : PlainWorld) where
         → PlaceTwins (closed_step players delay number conv v (calls.Start service user)) (closed_step players delay number conv w (calls.Start service user))
     start_twins delay =
         start_by (loaded v.vault v.process.root service) (loaded w.vault w.process.root service) (stacks_under v.vault v.process.root service) (stacks_under w.vault w.process.root service)
-        (λ i. stacks_under (record { files = (t.shown i).files; calls = 0; fails = [] }) (t.shown i).root service)
+        (λ i. stacks_under (record { files = (t.shown i).files; locks = no_locks; calls = 0; fails = [] }) (t.shown i).root service)
         (loaded_twins v.vault w.vault v.process.root w.process.root service (λ i. (t.shown i).files) (λ i. (t.shown i).root) t.first_kept.quiet t.second_kept.quiet)
 
   -- ---- a call in a slot

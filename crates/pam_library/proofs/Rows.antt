@@ -13,7 +13,7 @@ use Rattle.conv_port.specs.Conv.{ConvState}
 use Rattle.conv_port.specs.declared.offer.Offer.TheVariants.{Answer}
 use Rattle.pam_handle.specs.control_words.specs.Keyword.{required}
 use Rattle.pam_handle.specs.control_words.specs.Stack.{Stack, none, line}
-use Rattle.pam_handle.specs.pam_room.specs.Module.{Player, SeenRoom, NamedData, Sight, length_note, never_breaks, notes_of}
+use Rattle.pam_handle.specs.pam_room.specs.Module.{Player, SeenRoom, NamedData, Sight, length_note, never_breaks, notes_of, same_locks}
 use Rattle.pam_handle.specs.pam_room.specs.Call.{PlainCall}
 use Rattle.pam_handle.specs.pam_room.specs.State.{PlainWorld}
 use Rattle.pam_handle.specs.conf_lex.specs.Reading.{first_piece, pieces_behind}
@@ -32,6 +32,7 @@ use Rattle.pam_library.specs.Outcome.{answers_only}
 use Rattle.pam_library.specs.Slots.{PlainSlot, closed, opened, slot_at, is_open_at}
 use Rattle.pam_library.specs.Step.{Stepped, stepped}
 use Rattle.pam_library.specs.Closing.{ClosedOne, closed_one}
+use Rattle.pam_outside.specs.Files.{no_locks}
 use Rattle.pam_outside.specs.Paths.{path_of}
 
 -- ---- two modules: one sets module data, the other returns INCOMPLETE since its conversation has no reply
@@ -39,7 +40,7 @@ use Rattle.pam_outside.specs.Paths.{path_of}
 abbrev sets_datum : Player
 sets_datum = record {
   name = codes "p";
-  plays = λ (call : PlainCall) (room : SeenRoom) (datums : List NamedData) (sight : Sight). record { code = codes.Success; room = room; births = record { name = codes "a"; payload = codes "x" } ∷ []; files = sight.files; calls = 0; draws = 0 };
+  plays = λ (call : PlainCall) (room : SeenRoom) (datums : List NamedData) (sight : Sight). record { code = codes.Success; room = room; births = record { name = codes "a"; payload = codes "x" } ∷ []; files = sight.files; locks = same_locks; calls = 0; draws = 0 };
   note = length_note;
   breaks = never_breaks;
 }
@@ -47,7 +48,7 @@ sets_datum = record {
 abbrev is_put_off : Player
 is_put_off = record {
   name = codes "q";
-  plays = λ (call : PlainCall) (room : SeenRoom) (datums : List NamedData) (sight : Sight). record { code = codes.Success; room = record room { put_off = true }; births = []; files = sight.files; calls = 0; draws = 0 };
+  plays = λ (call : PlainCall) (room : SeenRoom) (datums : List NamedData) (sight : Sight). record { code = codes.Success; room = record room { put_off = true }; births = []; files = sight.files; locks = same_locks; calls = 0; draws = 0 };
   note = length_note;
   breaks = never_breaks;
 }
@@ -69,7 +70,7 @@ all_closed = replicate 16 (closed no_offers)
 
 abbrev at_first : PlainWorld
 at_first = record {
-  vault = record { files = record { path = codes "/r/etc/pam.d/t"; bytes = codes "auth required p" } ∷ []; calls = 0; fails = [] };
+  vault = record { files = record { path = codes "/r/etc/pam.d/t"; bytes = codes "auth required p" } ∷ []; locks = no_locks; calls = 0; fails = [] };
   clock = record { moment = 0; word = 0; draws = 0 };
   nap = record { waits = 0; sum = 0 };
   process = record { ledger = record { births = []; filed = [] }; root = codes "/r"; caller = 65534 };

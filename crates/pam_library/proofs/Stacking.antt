@@ -30,6 +30,8 @@ use Rattle.pam_library.specs.SlotStep.{SlotStepped, SlotStepsAs, answered, filed
 use Rattle.pam_library.specs.Sound.{IsPlaced}
 use Rattle.pam_library.specs.AnyWorld.{AnswersBy, CanAnswer, Fails, SpendsAt, StopsBy, is_free, leaves_world, needs_outside, refusal, stack_refusal, stays_inside, takes_no_memory, touches_world}
 use Rattle.pam_library.specs.InPlace.{CalledInSlot, stack_app_call}
+use Rattle.pam_library.specs.Traced.{TracesIn}
+use Rattle.pam_library.proofs.Tracing.{refused_untraced}
 
 -- ---- the six calls
 
@@ -232,6 +234,7 @@ module _ (players : List Player) (gives : (Code → ℕ → ℕ) → Type 0) (te
         told = λ number_of given all. steps number_of;
         alone = λ number_of inside. steps number_of;
         answers = subst (λ (r : Option Answer). AnswersBy r (stack_app_call func flags) o.answer) (sym (refusal_is func flags h ∙ is)) only.answer_is;
+        traces = refused_untraced func flags h h (plain_outcome o) refused is;
         filed_from = only.filed_is;
         succeeds = λ free. refl;
         fails = tt;
@@ -248,9 +251,9 @@ module _ (players : List Player) (gives : (Code → ℕ → ℕ) → Type 0) (te
       → ◌≡◌ {A = Option Answer} (stack_refusal h.pending func flags) None
       → ((number_of : Code → ℕ → ℕ) → gives number_of → IsTrue (tells && world_tells) → CallsAs (stack_call players number_of func flags h w) code next v)
       → RunsSoundly (notes_of players) (length players) h next w.process v.process
-      → after ≡ all_told next → IsToldOf o (filed_in w) code next
+      → after ≡ all_told next → IsToldOf o (filed_in w) code next → TracesIn (stack_app_call func flags) (opened h) (opened after) (plain_outcome o)
       → CalledInSlot players gives tells world_tells h.room.transaction.handle (stack_app_call func flags) (opened h) w (Ok o) (opened after) v
-  stack_ran o code next after v told names none calls sound emptied tells_of = record {
+  stack_ran o code next after v told names none calls sound emptied tells_of traces = record {
     told = λ number_of given all.
         let did = calls number_of given all in
         let c : Called = stack_call players number_of func flags h w in
@@ -266,6 +269,7 @@ module _ (players : List Player) (gives : (Code → ℕ → ℕ) → Type 0) (te
     alone = λ number_of inside. absurd (inside_not func flags h none inside);
     answers = subst (λ (r : Option Answer). AnswersBy r (stack_app_call func flags) o.answer) (sym (refusal_is func flags h ∙ none))
         (subst (CanAnswer (stack_app_call func flags)) (sym tells_of.answer_is) (code_can func flags code));
+    traces = traces;
     filed_from = tells_of.filed_is;
     succeeds = λ free. refl;
     fails = tt;
@@ -287,6 +291,7 @@ module _ (players : List Player) (gives : (Code → ℕ → ℕ) → Type 0) (te
     told = λ number_of given all. tt;
     alone = λ number_of inside. tt;
     answers = tt;
+    traces = tt;
     filed_from = tt;
     succeeds = λ free. absurd (memory_not func flags h none free);
     fails = fails_is tells func flags h next (subst (λ (k : PlainHandle). FailsAs func k next) told fails);

@@ -66,6 +66,7 @@ module _ (players : List Player) (gives : (Code → ℕ → ℕ) → Type 0) (te
             };
         alone = λ number_of inside. absurd (cc);
         answers = inl is.answer_is;
+        traces = tt;
         filed_from = is.filed_is;
         succeeds = λ free. refl;
         fails = tt;
@@ -84,6 +85,7 @@ module _ (players : List Player) (gives : (Code → ℕ → ℕ) → Type 0) (te
             told = λ number_of given all. tt;
             alone = λ number_of inside. tt;
             answers = tt;
+            traces = tt;
             filed_from = tt;
             succeeds = λ free. absurd (cc);
             fails = same;
@@ -111,6 +113,7 @@ module _ (players : List Player) (gives : (Code → ℕ → ℕ) → Type 0) (te
           };
       alone = λ number_of inside. absurd (cc);
       answers = inr (refused_is o.answer fault is.answer_is);
+      traces = tt;
       filed_from = is.filed_is;
       succeeds = λ free. refl;
       fails = tt;
@@ -126,6 +129,7 @@ module _ (players : List Player) (gives : (Code → ℕ → ℕ) → Type 0) (te
       told = λ number_of given all. tt;
       alone = λ number_of inside. tt;
       answers = tt;
+      traces = tt;
       filed_from = tt;
       succeeds = λ free. absurd (cc);
       fails = same;

@@ -174,7 +174,7 @@ module _ (n number : ℕ) where
   kept_after : (start : PlainWorld) (notes : Notes) (p : Played) (s : State) → KeptIn start s.world → RecordedIn s.room s.world
       → KeptIn start (after_play notes p s).world
   kept_after start notes p s k d = record {
-    quiet = quiet_with_files p.files (after_calls p.calls s.world.vault) (quiet_after p.calls s.world.vault k.quiet);
+    quiet = quiet_with_files p.files (p.locks s.world.vault.calls s.world.vault.locks) (after_calls p.calls s.world.vault) (quiet_after p.calls s.world.vault k.quiet);
     clock_is = draws_pass p.draws s.world.clock ∙ k.clock_is;
     root_is = k.root_is;
     caller_is = k.caller_is;

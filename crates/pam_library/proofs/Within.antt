@@ -15,11 +15,12 @@ use Rattle.pam_handle.specs.Handle.{PlainHandle}
 use Rattle.pam_handle.specs.Items.{all_told}
 use Rattle.pam_library.specs.declared.outcome.Answer.{Answer}
 use Rattle.pam_library.specs.declared.outcome.Outcome.{Outcome}
-use Rattle.pam_library.specs.Outcome.{plain_outcome}
+use Rattle.pam_library.specs.Outcome.{PlainOutcome, plain_outcome}
 use Rattle.pam_library.specs.Slots.{PlainSlot, opened}
 use Rattle.pam_library.specs.SlotStep.{SlotStepped, SlotStepsAs, filed_in, open_step, slot_step}
 use Rattle.pam_library.specs.AnyWorld.{AnswersBy, CanAnswer, Fails, SpendsAt, StopsBy, is_free, refusal}
 use Rattle.pam_library.specs.InPlace.{CalledInSlot, StaysInside}
+use Rattle.pam_library.specs.Traced.{TracesIn}
 use Rattle.pam_library.proofs.Spending.{NothingGrows}
 
 -- the calls that concern only the transaction itself
@@ -62,6 +63,20 @@ stops_nowhere players tells calls.EnvList result old new w v e = tt
 stops_nowhere players tells (calls.FailDelay micros) result old new w v e = tt
 stops_nowhere players tells (calls.DelayFn on) result old new w v e = tt
 stops_nowhere players tells call result old new w v e = absurd (cc)
+
+untraced : (call : AppCall) (h : PlainHandle) (new : PlainSlot) (o : PlainOutcome) → is_inside call ≡ true → TracesIn call (opened h) new o
+untraced (calls.SetItem item value) h new o e = tt
+untraced (calls.GetItem item) h new o e = tt
+untraced (calls.PutEnv text) h new o e = tt
+untraced (calls.GetEnv name) h new o e = tt
+untraced calls.EnvList h new o e = tt
+untraced (calls.FailDelay micros) h new o e = tt
+untraced (calls.DelayFn on) h new o e = tt
+untraced call h new o e = absurd (cc)
+
+traced_nowhere : {E : Type 0} (call : AppCall) (result : Result Outcome E) (h : PlainHandle) (new : PlainSlot) → is_inside call ≡ true → IfOk result (λ o. TracesIn call (opened h) new (plain_outcome o))
+traced_nowhere call (Ok o) h new e = untraced call h new (plain_outcome o) e
+traced_nowhere call (Err e) h new is = tt
 
 spends_same : (note : Notes) (modules : ℕ) (call : AppCall) (h : PlainHandle) (old new : PlainDataList) (before after : PlainLedger) → is_inside call ≡ true
     → Grows note modules old before new after → SpendsAt note modules (Some (opened h)) call old before new after
@@ -119,6 +134,7 @@ module _ (players : List Player) (gives : (Code → ℕ → ℕ) → Type 0) (te
         told = λ number_of given all. steps number_of;
         alone = λ number_of inside. steps number_of;
         answers = answers_by_none result call (refusal (Some (opened h)) call) (no_refusal call h inside) goes.answers;
+        traces = traced_nowhere call result h (opened next) inside;
         filed_from = filed_by result n (filed_in w) filed goes.filed_from;
         succeeds = λ e. goes.succeeds (memory_by (refusal (Some (opened h)) call) (is_free call) (no_refusal call h inside) e);
         fails = failed_by result (next ≡ h) (Fails tells call (opened h) (opened next)) (λ (same : next ≡ h). fails_same tells call h next inside (same ∙ told)) goes.fails;

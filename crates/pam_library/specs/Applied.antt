@@ -14,6 +14,7 @@ use Rattle.pam_library.specs.Step.{StepsAs, stepped}
 use Rattle.pam_library.specs.Closing.{ClosesAs, closed_one}
 use Rattle.pam_library.specs.AnyWorld.{AnswersBy, CountsRefusal, FailsAt, HidesNoFault, SpendsAt, StopsAt, end_at, refusal}
 use Rattle.pam_library.specs.Seen.{IsSoundIn, Seen, slot_of}
+use Rattle.pam_library.specs.Traced.{TracesAt}
 
 -- What every call keeps, whatever it returns: what was modelled before is modelled after, the module data without a
 -- cleanup record are those of the open transactions, and the cleanup log has its sets and this end.
@@ -42,9 +43,11 @@ abbrev pub LeavesIn : Step → Seen → Seen → Type 0
 LeavesIn step old new = Leaves old.players step old.slots new.slots old.world new.world
 
 -- What the outcome of a step says: the answer by number, slot and pending call, else one of those that the call has;
--- the number of cleanup records before it; and whether a refused start counted a failed file access.
+-- to which code the lines of a stack call lead; the number of cleanup records before it; and whether a refused start
+-- counted a failed file access.
 pub record Answers (step : Step) (old new : Seen) (outcome : Outcome) : Type 0 where
   pub answer : AnswersBy (refusal (slot_of step old) step.call) step.call outcome.answer
+  pub traces : TracesAt step.call (slot_of step old) (slot_of step new) (plain_outcome outcome)
   pub filed_from : outcome.filed_from ≡ length old.world.process.ledger.filed
   pub faults : CountsRefusal outcome.answer old.faults new.faults
 

@@ -26,6 +26,7 @@ use Rattle.pam_library.specs.Slots.{PlainSlot, closed, opened, data_in}
 use Rattle.conv_port.specs.Conv.{ConvState}
 use Rattle.pam_library.specs.SlotStep.{SlotStepsAs, filed_in, offered, open_step, slot_step}
 use Rattle.pam_library.specs.Sound.{IsAtPlace}
+use Rattle.pam_library.specs.Traced.{TracesIn}
 use Rattle.pam_library.specs.AnyWorld.{AnswersBy, CanAnswer, CountsRefusal, Fails, HidesNoFault, SpendsAt, StopsBy, is_free, leaves_world, refusal, stays_inside, takes_no_memory}
 
 -- a slot that may be called: an open transaction has its number, and its module data wait for their cleanup
@@ -45,6 +46,7 @@ pub record CalledInSlot (players : List Player) (gives : (Code → ℕ → ℕ) 
       IfOk result (λ o. SlotStepsAs (slot_step players number_of number old before call)
       (plain_outcome o) new after)
   pub answers : IfOk result (λ o. AnswersBy (refusal (Some old) call) call o.answer)
+  pub traces : IfOk result (λ o. TracesIn call old new (plain_outcome o))
   pub filed_from : IfOk result (λ o. o.filed_from ≡ length before.process.ledger.filed)
   pub succeeds : takes_no_memory (Some old) call ≡ true → IsOk result
   pub fails : OnErr result (Fails tells call old new)

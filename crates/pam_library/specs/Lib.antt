@@ -11,6 +11,7 @@ pub mod Step
 pub mod Closing
 pub mod Sound
 pub mod AnyWorld
+pub mod Traced
 pub mod SideBySide
 pub mod Alike
 pub mod Calls

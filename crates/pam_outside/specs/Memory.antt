@@ -1,6 +1,6 @@
 -- The content of the objects in memory (this project's own).
 use Rattle.std.specs.Prelude.{ℕ, List}
-use Rattle.pam_outside.specs.Files.{File}
+use Rattle.pam_outside.specs.Files.{File, Locks}
 
 -- a source: the bytes that are left, the reads so far and those of them at the end, the failures, and the numbers of
 -- the calls planned to fail
@@ -20,9 +20,10 @@ pub record SinkMemory : Type 0 where
   pub faults : ℕ
   pub fails : List ℕ
 
--- a file store: the files, the calls and the failures so far, and the numbers of the calls planned to fail
+-- a file store: the files, the locks, the calls and the failures so far, and the numbers of the calls planned to fail
 pub record VaultMemory : Type 0 where
   pub files : List File
+  pub locks : Locks
   pub calls : ℕ
   pub faults : ℕ
   pub fails : List ℕ

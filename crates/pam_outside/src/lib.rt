@@ -18,9 +18,9 @@ mod source;
 mod vault;
 mod whole;
 
-pub use clock::{Clock, MAX_MOMENT, current_moment, random_word, set_moment, set_word};
+pub use clock::{Clock, MAX_MOMENT, Owner, current_moment, random_word, set_moment, set_word};
 pub use fixed_clock::FixedClock;
-pub use held::{Held, LockKind, hold_path, is_at};
+pub use held::{Held, LockKind};
 pub use memory_sink::MemSink;
 pub use memory_source::MemSource;
 pub use memory_vault::MemVault;
@@ -29,5 +29,8 @@ pub use nap_sum::NapSum;
 pub use paths::{joined, path_of};
 pub use sink::Sink;
 pub use source::Source;
-pub use vault::{ReplaceFault, Vault, VaultFault, hold_file, is_folder, read_file, replace_file};
+pub use vault::{
+    MAX_FILE, ReplaceFault, Vault, VaultFault, hold_file, is_folder, let_go, read_file,
+    replace_file,
+};
 pub use whole::write_all;

@@ -1,12 +1,12 @@
 ghost use Rattle.std.specs.Prelude.{◌≡◌, ◌≢◌, ℕ, List, [], Some, OnOk, OnErr, option_map};
 ghost use Rattle.std.specs.List.{position};
 ghost use Rattle.std.specs.Str.{bytes_eq};
-ghost use Rattle.pam_outside.specs.Files.{file_at, file_put, is_below, is_folder};
+ghost use Rattle.pam_outside.specs.Files.{file_at, file_put, is_below, is_folder, no_locks, with_lock};
 
 use crate::calls::Calls;
 use crate::held::{Held, LockKind};
-use crate::vault::{ReplaceFault, Vault, VaultFault};
-use pam_base::{Failed, NoMemory, Numbers, Text};
+use crate::vault::{MAX_FILE, ReplaceFault, Vault, VaultFault};
+use pam_base::{NoMemory, Numbers, Text};
 use std::alloc::Global;
 use std::marker::Model;
 
@@ -25,10 +25,29 @@ impl Model for StoredFile {
     ghost view = { λ f. record { path = f.path; bytes = f.bytes } };
 }
 
-/// Files in memory, with any paths. It is modelled: exactly the calls with the given numbers fail.
+// A lock that was taken.
+#[derive(Drop)]
+struct TakenLock {
+    path: Text,
+    kind: LockKind,
+    calls: u64,
+}
+
+impl Model for TakenLock {
+    ghost use Rattle.pam_outside.specs.Files.{Lock};
+
+    ghost Value = { Lock };
+
+    ghost view = { λ l. record { path = l.path; kind = l.kind; calls = l.calls } };
+}
+
+/// Files in memory, with any paths. It is modelled: exactly the calls with the given numbers fail, and replacements of
+/// more than `MAX_FILE` bytes.
 #[derive(Drop)]
 pub struct MemVault {
     files: Vec<StoredFile>,
+    locks: Vec<TakenLock>,
+    let_go: u64,
     calls: Calls,
 }
 
@@ -39,6 +58,7 @@ impl Model for MemVault {
 
     ghost view = { λ v. record {
       files = v.files.items;
+      locks = record { taken = v.locks.items; let_go = v.let_go };
       calls = v.calls.made;
       faults = v.calls.faults;
       fails = v.calls.fails;
@@ -48,10 +68,18 @@ impl Model for MemVault {
 impl MemVault {
     /// A store without files. `fails` has the numbers, from 1, of the calls planned to fail. Allocates nothing.
     pub fn new(alloc: Global, fails: Numbers) -> MemVault
-        ensures { result ≡ record { files = []; calls = 0; faults = 0; fails = fails } }
+        ensures { result ≡ record {
+          files = [];
+          locks = no_locks;
+          calls = 0;
+          faults = 0;
+          fails = fails;
+        } }
     {
         MemVault {
             files: Vec::new(alloc),
+            locks: Vec::new(alloc),
+            let_go: 0,
             calls: Calls::new(fails),
         }
     }
@@ -74,6 +102,18 @@ impl MemVault {
             Some(place) => self.files[place] = file,
             None => self.files.push(file)?,
         }
+        Ok(())
+    }
+
+    // Notes a lock that is taken. If memory runs out, nothing changes.
+    fn note_lock(&mut self, alloc: Global, path: &[u8], kind: LockKind) -> Result<(), NoMemory>
+        ensures ok { OnOk result
+            (self.new ≡ record self.old { locks = with_lock path.now kind self.old.calls self.old.locks }) }
+        ensures err { OnErr result (self.new ≡ self.old) }
+    {
+        let path = Text::from_bytes(alloc, path)?;
+        let calls = self.calls.made;
+        self.locks.push(TakenLock { path, kind, calls })?;
         Ok(())
     }
 }
@@ -119,7 +159,7 @@ impl Vault for MemVault {
 
     ghost vault_tells = { λ v. true };
 
-    ghost vault_holds = { λ v. record { files = v.files; calls = v.calls; fails = v.fails } };
+    ghost vault_holds = { λ v. record { files = v.files; locks = v.locks; calls = v.calls; fails = v.fails } };
 
     ghost vault_faults = { λ v. v.faults };
 
@@ -147,7 +187,7 @@ impl Vault for MemVault {
     }
 
     fn replace(&mut self, alloc: Global, path: &[u8], bytes: &[u8]) -> Result<(), ReplaceFault> {
-        if self.calls.next_fails() {
+        if self.calls.next_fails() || bytes.len() > MAX_FILE as usize {
             self.calls.count_fault();
             return Err(ReplaceFault::Failed);
         }
@@ -157,8 +197,21 @@ impl Vault for MemVault {
         }
     }
 
-    /// No other process has these files.
-    fn hold(&mut self, _path: &[u8], _kind: LockKind) -> Result<Held, Failed> {
-        Ok(Held::nothing())
+    /// No other process has these files: the lock is only noted.
+    fn hold(&mut self, alloc: Global, path: &[u8], kind: LockKind) -> Result<Held, ReplaceFault> {
+        if self.calls.next_fails() {
+            self.calls.count_fault();
+            return Err(ReplaceFault::Failed);
+        }
+        match self.note_lock(alloc, path, kind) {
+            Ok(()) => Ok(Held::in_memory()),
+            Err(NoMemory) => Err(ReplaceFault::NoMemory),
+        }
+    }
+
+    fn let_go(&mut self, held: Held) {
+        if held.is_taken() {
+            self.let_go = self.calls.made;
+        }
     }
 }

@@ -1,10 +1,13 @@
-ghost use Rattle.std.specs.Prelude.{◌≡◌, ◌≢◌, ◌≤◌, ℕ, List, Some, Bool, length, IsTrue, IfOk, OnOk, OnErr, IsOk, Err};
+ghost use Rattle.std.specs.Prelude.{◌≡◌, ◌≢◌, ◌≤◌, ℕ, List, Some, Bool, true, length, IsTrue, IfOk, OnOk, Err};
 ghost use Rattle.pam_outside.specs.Counts.{Rose};
-ghost use Rattle.pam_outside.specs.Files.{VaultState, ReadsFile, TellsFolder, Replaces, counted, file_at};
+ghost use Rattle.pam_outside.specs.Files.{VaultState, ReadsFile, TellsFolder, Replaces, TakesLock, counted, file_at, unlocked};
 
 use crate::held::{Held, LockKind};
-use pam_base::{Failed, Text};
+use pam_base::Text;
 use std::alloc::Global;
+
+/// The most bytes that a file may be replaced by. Nothing reads a longer file.
+pub const MAX_FILE: u32 = 1_048_576;
 
 /// Why a file isn't read.
 #[derive(Clone, Copy, Debug, PartialEq, Eq)]
@@ -18,7 +21,7 @@ pub enum VaultFault {
     Failed,
 }
 
-/// Why a file couldn't be replaced, or a directory couldn't be looked up.
+/// Why a file couldn't be replaced or locked, or a directory couldn't be looked up.
 #[derive(Clone, Copy, Debug, PartialEq, Eq)]
 pub enum ReplaceFault {
     NoMemory,
@@ -28,9 +31,10 @@ pub enum ReplaceFault {
 
 /// Files by their paths, as in a directory.
 ///
-/// Each call except `hold` is counted, and leaves the numbers of the calls planned to fail
+/// Each call but `let_go` is counted, and leaves the numbers of the calls planned to fail
 /// unchanged. If the store is modelled, Failed is returned exactly at these calls, and takes
-/// precedence over every other result, NoMemory too. With real files Failed is returned only if the
+/// precedence over every other result, NoMemory too; a replacement of more than `MAX_FILE` bytes is
+/// refused in the same way. With real files Failed is returned only if the
 /// count of failures rose, and the count rises with no other result.
 pub trait Vault: Drop {
     /// Whether contracts know its content: it is modelled. This never changes.
@@ -70,7 +74,8 @@ pub trait Vault: Drop {
         ensures no_fault { result ≢ Err ReplaceFault.Failed →
             vault_faults self.new ≡ vault_faults self.old };
 
-    /// Replaces the file, or adds it. If it is refused, the files are as before; every other file always stays.
+    /// Replaces the file, or adds it. If it is refused, the files are as before; every other file always stays. More
+    /// than `MAX_FILE` bytes are refused.
     fn replace(&mut self, alloc: Global, path: &[u8], bytes: &[u8]) -> Result<(), ReplaceFault>
         ensures tells { vault_tells self.new ≡ vault_tells self.old }
         ensures told { IsTrue (vault_tells self.old) →
@@ -86,16 +91,26 @@ pub trait Vault: Drop {
         ensures no_fault { result ≢ Err ReplaceFault.Failed →
             vault_faults self.new ≡ vault_faults self.old };
 
-    /// Takes the lock at this path, and holds it until the result is dropped: another process that takes it waits, for
-    /// a limited time. It isn't counted as a call and changes no file, and a modelled store never refuses it.
-    fn hold(&mut self, path: &[u8], kind: LockKind) -> Result<Held, Failed>
+    /// Takes the lock at this path, and holds it until the result is handed to `let_go` or dropped: another process
+    /// that takes it waits, for a limited time. The files stay.
+    fn hold(&mut self, alloc: Global, path: &[u8], kind: LockKind) -> Result<Held, ReplaceFault>
+        ensures held { IfOk result (λ held. held ≡ true) }
         ensures tells { vault_tells self.new ≡ vault_tells self.old }
         ensures told { IsTrue (vault_tells self.old) →
-            vault_holds self.new ≡ vault_holds self.old }
-        ensures held { IsTrue (vault_tells self.old) → IsOk result }
+            TakesLock result path.now kind (vault_holds self.old) (vault_holds self.new) }
         ensures faults { vault_faults self.old ≤ vault_faults self.new }
-        ensures failed { OnErr result (Rose (vault_faults self.old) (vault_faults self.new)) }
-        ensures no_fault { OnOk result (vault_faults self.new ≡ vault_faults self.old) };
+        ensures failed { result ≡ Err ReplaceFault.Failed →
+            Rose (vault_faults self.old) (vault_faults self.new) }
+        ensures no_fault { result ≢ Err ReplaceFault.Failed →
+            vault_faults self.new ≡ vault_faults self.old };
+
+    /// Lets a lock go. It isn't counted and can't fail; the files stay. A lock that is dropped is let go, too, but
+    /// the store doesn't say when.
+    fn let_go(&mut self, held: Held)
+        ensures tells { vault_tells self.new ≡ vault_tells self.old }
+        ensures told { IsTrue (vault_tells self.old) →
+            vault_holds self.new ≡ unlocked held (vault_holds self.old) }
+        ensures faults { vault_faults self.new ≡ vault_faults self.old };
 }
 
 /// `Vault::read` of a borrowed store.
@@ -160,14 +175,31 @@ pub fn replace_file(
 }
 
 /// `Vault::hold` of a borrowed store.
-pub fn hold_file(vault: &mut dyn Vault, path: &[u8], kind: LockKind) -> Result<Held, Failed>
+pub fn hold_file(
+    vault: &mut dyn Vault,
+    alloc: Global,
+    path: &[u8],
+    kind: LockKind,
+) -> Result<Held, ReplaceFault>
+    ensures held { IfOk result (λ held. held ≡ true) }
     ensures tells { vault_tells vault.new ≡ vault_tells vault.old }
     ensures told { IsTrue (vault_tells vault.old) →
-        vault_holds vault.new ≡ vault_holds vault.old }
-    ensures held { IsTrue (vault_tells vault.old) → IsOk result }
+        TakesLock result path.now kind (vault_holds vault.old) (vault_holds vault.new) }
     ensures faults { vault_faults vault.old ≤ vault_faults vault.new }
-    ensures failed { OnErr result (Rose (vault_faults vault.old) (vault_faults vault.new)) }
-    ensures no_fault { OnOk result (vault_faults vault.new ≡ vault_faults vault.old) }
+    ensures failed { result ≡ Err ReplaceFault.Failed →
+        Rose (vault_faults vault.old) (vault_faults vault.new) }
+    ensures no_fault { result ≢ Err ReplaceFault.Failed →
+        vault_faults vault.new ≡ vault_faults vault.old }
 {
-    vault.hold(path, kind)
+    vault.hold(alloc, path, kind)
+}
+
+/// `Vault::let_go` of a borrowed store.
+pub fn let_go(vault: &mut dyn Vault, held: Held)
+    ensures tells { vault_tells vault.new ≡ vault_tells vault.old }
+    ensures told { IsTrue (vault_tells vault.old) →
+        vault_holds vault.new ≡ unlocked held (vault_holds vault.old) }
+    ensures faults { vault_faults vault.new ≡ vault_faults vault.old }
+{
+    vault.let_go(held)
 }

@@ -15,6 +15,7 @@ use crate::visits::Visit;
 use crate::world::{World, WorldTold};
 use data_cleanup::laws;
 use pam_base::{Code, NoMemory, SharedText};
+use pam_outside::current_moment;
 use std::alloc::Global;
 
 /// A line of a stack that is run.
@@ -153,6 +154,7 @@ fn play(
     ensures sets { Sets room.old.transaction.serving room.old.transaction.datums
         world.old.process.ledger room.new.transaction.datums world.new.process.ledger }
 {
+    let moment = current_moment(&world.clock);
     handler.serve(
         alloc,
         call,
@@ -160,6 +162,7 @@ fn play(
         &mut world.process,
         &mut *room.conv,
         &mut *world.vault,
+        moment,
         &mut *world.clock,
     )
 }

@@ -24,6 +24,9 @@ module _ (asked : Option Command) (status : ℕ) (players : List Player) (slots 
     wire_reads = wire.wire_reads;
     wire_complete = wire.wire_complete;
     wire_writes = wire.wire_writes;
+    wire_reports = λ told.
+        let r = wire.wire_reports told in
+        record { result = r.result; is = r.is; reports = r.reports };
     wire_no_read_fault = wire.wire_no_read_fault;
   }
 
@@ -36,3 +39,9 @@ module _ (asked : Option Command) (status : ℕ) (players : List Player) (slots 
     write_causes = s.write_causes;
     cleaned_up = s.cleaned_up;
   }
+
+  -- the same for modules that are known
+  pub served_as : (others : List Player) → ServesFrames asked status (setup_of players slots (IsNumberGiven Post) tells) world input output
+      → IsNumberGiven Post served_wait → players ≡ others → ServesFrames asked status (setup_of others slots (λ number. number ≡ served_wait) tells) world input output
+  served_as others s given same =
+      subst (λ ps. ServesFrames asked status (setup_of ps slots (λ number. number ≡ served_wait) tells) world input output) same (served_with s given)

@@ -1,17 +1,23 @@
 -- What `pam_service` is asked for, and how it ends (this project's own).
-use Rattle.std.specs.Prelude.{◌≡◌, ◌⊎◌, ℕ, min, Bool, if◌then◌else◌, List, [], ◌∷◌, Option, Some, None, String, codes}
-use Rattle.std.specs.declared.alloc.Global.{Global}
+use Rattle.std.specs.Prelude.{◌≡◌, ◌⊎◌, ℕ, min, if◌then◌else◌, List, Option, Some, None}
 use Rattle.pam_base.specs.declared.code.Code.{Code}
 use Rattle.pam_base.specs.declared.code.Code.TheVariants as results
-use Rattle.session_program.specs.Command.{Command, runs, checks, logs_in, generates, tallies, audits, wires, wire_command}
+use Rattle.session_program.specs.Command.{Command, runs, checks, logs_in, generates, tallies, audits, wires, is_operand}
 use Rattle.session_program.specs.Wire.{IsWireStatus}
+use Rattle.who_calls.specs.Request.{Asked}
 
--- The frames of a front end, under `/` if there is no argument. Another root may be given to a
--- process that has only the rights of its caller.
-abbrev pub service_request : Bool → List (String Global) → Option Command
-service_request has_own_ids [] = Some (wires (codes "/"))
-service_request has_own_ids (root ∷ []) = if has_own_ids then wire_command (root ∷ []) else None
-service_request has_own_ids words = None
+-- frames under a root; none if it can't be one
+abbrev pub wires_under : List ℕ → Option Command
+wires_under root = if is_operand root then Some (wires root) else None
+
+-- what a request asks the program for, and for whom: nothing and nobody, if there is none
+abbrev pub asked_command : Option Asked → Option Command
+asked_command None = None
+asked_command (Some a) = wires_under a.root
+
+abbrev pub caller_in : Option Asked → ℕ
+caller_in None = 65534
+caller_in (Some a) = a.caller
 
 -- the command: frames, or none
 abbrev pub IsOfFrames : Option Command → Type 0

@@ -1,36 +1,36 @@
-//! `pam_service [ROOT]`: the frames of docs/wire.md for programs that really let somebody in, such as the C library of
-//! libpam. It does what `pamsess wire` does, with the system's clock and random words, with
-//! the process's real user as the caller, and with a conversation that waits for the front end. It
-//! never sleeps: after a failure the answer says how long to wait, and the front end waits.
+//! `pam_service [ROOT]`, `pam_service --caller UID`: the frames of docs/wire.md for programs that really let somebody in,
+//! such as the C library of clients/libpam. It does what `pamsess wire` does, with the system's clock and random words,
+//! for the process's real user or for the one that its arguments name, and with a conversation that waits for the front
+//! end. It never sleeps: after a failure the answer says how long to wait, and the front end waits.
 //!
 //! Begin at `run`; `answer_frames` has the contract.
 #![tactic(auto)]
 
-ghost use Rattle.std.specs.Prelude.{◌≡◌, ◌≤◌, ◌<◌, ◌^◌, ℕ, nat_eq, List, [], IfOk, length};
+mod asked;
+
+ghost use Rattle.std.specs.Prelude.{◌≡◌, ◌≤◌, ◌<◌, ◌^◌, ℕ, [], false, true, IfOk, length};
 ghost use Rattle.pam_base.specs.declared.code.Code.{Code};
-ghost use Rattle.pam_room.specs.Module.{Player};
 ghost use Rattle.fail_delay.specs.DelayFn.{GivesOneNumber, IsNumberGiven};
+ghost use Rattle.session_login.specs.session_run.specs.pam_handle.specs.Plain.{in_box};
 ghost use Rattle.session_program.specs.Command.{command_of};
-ghost use Rattle.pam_service.specs.Service.{IsOfFrames, StatusOf, served_wait, service_request};
+ghost use Rattle.shipped_modules.specs.Shipped.{shipped_players};
+ghost use Rattle.who_calls.specs.Request.{service_request};
+ghost use Rattle.pam_service.specs.Service.{IsOfFrames, StatusOf, asked_command, caller_in, served_wait};
 ghost use Rattle.pam_service.specs.Serving.{ServesFrames};
 ghost use Rattle.session_program.specs.ByCommand.{object_of, setup_of};
 
-use command_line::{arguments, exit_status};
+use crate::asked::{Asked, asked_of};
+use command_line::{NO_STREAMS, arguments, exit_status, reserve_streams};
 use fail_delay::{DelayRule, LONGEST_ASKED};
 use front_conv::FrontConv;
-use mod_basic::conv_port::{Conv, TermConv, WireConv};
-use mod_basic::{Debug, Deny, Permit, Probe, Rootok};
-use mod_env::Env as EnvModule;
-use mod_history::mod_unix::Unix;
-use mod_history::{Pwhistory, Securetty, Wheel};
-use mod_lists::{Listfile, Nologin, Shells, SucceedIf};
 use pam_base::{Code, Text};
-use pam_outside::{NapSum, Sink, Source, Vault};
-use pam_room::{Module, Process, World};
-use session_program::mod_tally::Faillock;
-use session_program::{Desk, DeskTold, Outside, OutsideTold, pamsess};
+use pam_outside::{Clock, Nap, NapSum, Sink, Source, Vault};
+use pam_room::conv_port::{Conv, TermConv, WireConv};
+use pam_room::{Process, World};
+use session_program::{Desk, DeskTold, Outside, OutsideTold, TimeOfDay, pamsess};
+use shipped_modules::{SystemTime, shipped_modules};
 use std::alloc::Global;
-use std::io;
+use std::io::{self, ErrorKind};
 use std::process::ExitCode;
 use system_objects::{FolderVault, ReaderSource, RealClock, WriterSink};
 
@@ -46,14 +46,12 @@ const STATUS: &str = "/proc/self/status";
 /// The maximum number of bytes of that file that are read.
 const MAX_STATUS: u32 = 65_536;
 
-/// The caller if the system doesn't say: nobody.
-const NOBODY: u32 = 65_534;
-
-// A conversation for each transaction, and one that is never used.
+// A conversation for each transaction, one that is never used, and the time of day.
 #[derive(Drop)]
 struct Conversations {
     convs: Vec<Box<dyn Conv>>,
     term: Box<dyn Conv>,
+    time: Option<Box<dyn TimeOfDay>>,
 }
 
 // What contracts see of `Conversations`.
@@ -61,49 +59,44 @@ trait ConversationsTold {
     ghost use Rattle.std.specs.Prelude.{Bool, List};
     ghost use Rattle.session_check.specs.pam_library.specs.Slots.{PlainSlot};
 
-    // Whether all conversations of the transactions are modelled.
+    // Whether all conversations of the transactions are modelled, and the time is a script's.
     ghost tells: { Self → Bool };
+
+    // Whether there is a time of day.
+    ghost has_time: { Self → Bool };
 
     // The closed slots that they make.
     ghost slots: { Self → List PlainSlot };
 }
 
 impl ConversationsTold for Conversations {
-    ghost use Rattle.std.specs.Prelude.{map};
+    ghost use Rattle.std.specs.Prelude.{◌&&◌, is_none, is_some, map};
     ghost use Rattle.std.specs.List.{list_all};
     ghost use Rattle.session_check.specs.pam_library.specs.Slots.{closed};
 
-    ghost tells = { λ c. list_all (λ b. (Conv-box b).conv_tells b.value) c.convs.items };
+    ghost tells = { λ c. is_none c.time
+        && list_all (λ b. (Conv-box b).conv_tells b.value) c.convs.items };
+
+    ghost has_time = { λ c. is_some c.time };
 
     ghost slots = { λ c. map (λ b. closed ((Conv-box b).conv_holds b.value)) c.convs.items };
-}
-
-// The real and the effective ID.
-#[derive(Drop)]
-struct Ids {
-    real: u32,
-    effective: u32,
-}
-
-impl Ids {
-    fn are_one(&self) -> bool
-        ensures { result ≡ nat_eq self.now.real self.now.effective }
-    {
-        self.real == self.effective
-    }
 }
 
 fn main(rt: HostRuntime) -> ExitCode {
     ExitCode::from(exit_status(run(rt)))
 }
 
-// Makes the streams, the conversation with the front end for transaction 1, and the world, and calls the program.
+// Reads the arguments and what the system says about the process, makes the streams, the conversation with the front end
+// for transaction 1, and the world, and serves the caller.
 fn run(rt: HostRuntime) -> io::Result<u8> {
     let alloc = rt.alloc();
+    let _streams = match reserve_streams(&rt) {
+        Ok(streams) => streams,
+        Err(_) => return Ok(NO_STREAMS),
+    };
+    let words = words_of(&rt)?;
     let status = own_status(rt);
-    let user = ids_in(&status, "Uid:");
-    let group = ids_in(&status, "Gid:");
-    let words = words_for(alloc, &words_of(&rt)?, has_own_ids(&user, &group))?;
+    let asked = asked_of(alloc, &words, &status)?;
     let mut script = ReaderSource::new(rt.reader());
     let mut out = WriterSink::new(io::writer(&rt));
     let term: Box<dyn Conv> = Box::new(alloc, TermConv::new(rt.stdin(), rt.stderr()))?;
@@ -113,14 +106,31 @@ fn run(rt: HostRuntime) -> io::Result<u8> {
         convs.push(conv)?;
     }
     convs[0] = Box::new(alloc, FrontConv::new(rt.stdin(), rt.stdout()))?;
+    let vault: Box<dyn Vault> = Box::new(alloc, folder(rt, asked.root())?)?;
+    let clock: Box<dyn Clock> = Box::new(alloc, RealClock::new(rt))?;
+    let nap: Box<dyn Nap> = Box::new(alloc, NapSum::new())?;
     let mut world = World {
-        vault: Box::new(alloc, FolderVault::new(rt))?,
-        clock: Box::new(alloc, RealClock::new(rt))?,
-        nap: Box::new(alloc, NapSum::new())?,
-        process: Process::new(alloc, Text::new(alloc), caller_of(&user)),
+        vault,
+        clock,
+        nap,
+        process: Process::new(alloc, Text::new(alloc), asked.caller),
     };
-    let talks = Conversations { convs, term };
-    serve(alloc, &words, talks, &mut script, &mut out, &mut world)
+    let time: Box<dyn TimeOfDay> = Box::new(alloc, SystemTime::new(rt))?;
+    let talks = Conversations {
+        convs,
+        term,
+        time: Some(time),
+    };
+    serve_caller(
+        alloc,
+        &words,
+        &status,
+        &asked,
+        talks,
+        &mut script,
+        &mut out,
+        &mut world,
+    )
 }
 
 // What the system says about the process; empty if it can't be read.
@@ -131,52 +141,44 @@ fn own_status(rt: HostRuntime) -> Text {
         .unwrap_or(Text::new(alloc))
 }
 
-// The first two numbers of the first line that begins so: the real and the effective ID.
-fn ids_in(status: &Text, name: &str) -> Option<Ids> {
-    let text = str::from_utf8(status.bytes()).ok()?;
-    let line = text.lines().find_map(|line| line.strip_prefix(name))?;
-    let mut numbers = line.split_ascii_whitespace();
-    let real = numbers.next()?.parse::<u32>().ok()?;
-    let effective = numbers.next()?.parse::<u32>().ok()?;
-    Some(Ids { real, effective })
+// The files under a root.
+fn folder(rt: HostRuntime, root: &[u8]) -> io::Result<FolderVault> {
+    FolderVault::below(rt, root).map_err(|_| ErrorKind::OutOfMemory.into())
 }
 
-// The process's real user ID; nobody's if it isn't known.
-fn caller_of(user: &Option<Ids>) -> u32 {
-    match user {
-        Some(ids) => ids.real,
-        None => NOBODY,
-    }
-}
-
-// Whether the process is known to have only the rights of its caller.
-fn has_own_ids(user: &Option<Ids>, group: &Option<Ids>) -> bool {
-    match (user, group) {
-        (Some(user), Some(group)) => user.are_one() && group.are_one(),
-        _ => false,
-    }
-}
-
-// The arguments for the program: `wire /`, or `wire ROOT` if one argument names a root and the
-// process has only the rights of its caller. Otherwise none; then only the usage line is written.
-fn words_for(alloc: Global, words: &[String], has_own_ids: bool) -> io::Result<Vec<String>>
-    ensures request { IfOk result (λ asked. command_of asked.items
-        ≡ service_request has_own_ids words.now) }
-    ensures frames { IfOk result (λ asked. IsOfFrames (command_of asked.items)) }
+// Serves the calls of a front end for the caller that these arguments and this text of
+// /proc/self/status give, over the system's files and clock.
+fn serve_caller<S: Source, K: Sink>(
+    alloc: Global,
+    words: &[String],
+    said: &Text,
+    asked: &Asked,
+    talks: Conversations,
+    script: &mut S,
+    out: &mut K,
+    world: &mut World,
+) -> io::Result<u8>
+    requires request { command_of asked.now.words.items
+        ≡ asked_command (service_request said.now words.now) }
+    requires caller { world.old.process.caller ≡ caller_in (service_request said.now words.now) }
+    requires files { vault_tells (in_box world.old.vault) ≡ false }
+    requires clock { clock_tells (in_box world.old.clock) ≡ false }
+    requires time { ⟦<Conversations as ConversationsTold>⟧.has_time talks ≡ true }
+    requires frames { IsOfFrames (command_of asked.now.words.items) }
+    requires sixteen { length talks.convs.items ≡ TRANSACTIONS }
+    requires no_births { world.old.process.ledger.births ≡ [] }
+    requires no_receipts { world.old.process.ledger.filed ≡ [] }
+    ensures status { IfOk result (λ status.
+        StatusOf (asked_command (service_request said.now words.now)) status) }
+    ensures served { IfOk result (λ status. ServesFrames
+        (asked_command (service_request said.now words.now)) status
+        (setup_of shipped_players (⟦<Conversations as ConversationsTold>⟧.slots talks)
+        (λ number. number ≡ served_wait) (⟦<Conversations as ConversationsTold>⟧.tells talks))
+        (⟦<Outside as OutsideTold>⟧.around world.old world.new)
+        (object_of S.source_tells S.source_holds S.source_faults script.old script.new)
+        (object_of K.sink_tells K.sink_holds K.sink_faults out.old out.new)) }
 {
-    let mut asked = Vec::new(alloc);
-    match words {
-        [] => {
-            asked.push(String::from_str(alloc, "wire")?)?;
-            asked.push(String::from_str(alloc, "/")?)?;
-        }
-        [root] if has_own_ids => {
-            asked.push(String::from_str(alloc, "wire")?)?;
-            asked.push(root.clone()?)?;
-        }
-        _ => {}
-    }
-    Ok(asked)
+    serve(alloc, &asked.words, talks, script, out, world)
 }
 
 // Serves the calls of a front end with the shipped modules, with these conversations and with the waits of
@@ -194,41 +196,26 @@ fn serve<S: Source, K: Sink>(
     requires no_births { world.old.process.ledger.births ≡ [] }
     requires no_receipts { world.old.process.ledger.filed ≡ [] }
     ensures status { IfOk result (λ status. StatusOf (command_of words.now) status) }
-    ensures served { IfOk result (λ status. (players : List Player)
-        × ServesFrames (command_of words.now) status (setup_of players
-        (⟦<Conversations as ConversationsTold>⟧.slots talks) (λ number. number ≡ served_wait)
-        (⟦<Conversations as ConversationsTold>⟧.tells talks))
+    ensures served { IfOk result (λ status. ServesFrames (command_of words.now) status
+        (setup_of shipped_players (⟦<Conversations as ConversationsTold>⟧.slots talks)
+        (λ number. number ≡ served_wait) (⟦<Conversations as ConversationsTold>⟧.tells talks))
         (⟦<Outside as OutsideTold>⟧.around world.old world.new)
         (object_of S.source_tells S.source_holds S.source_faults script.old script.new)
         (object_of K.sink_tells K.sink_holds K.sink_faults out.old out.new)) }
 {
-    let mut mods: Vec<Box<dyn Module>> = Vec::new(alloc);
-    mods.push(Box::new(alloc, Permit::new())?)?;
-    mods.push(Box::new(alloc, Deny::new())?)?;
-    mods.push(Box::new(alloc, Debug::new())?)?;
-    mods.push(Box::new(alloc, Rootok::new())?)?;
-    mods.push(Box::new(alloc, Probe::new())?)?;
-    mods.push(Box::new(alloc, Nologin::new())?)?;
-    mods.push(Box::new(alloc, Listfile::new())?)?;
-    mods.push(Box::new(alloc, Shells::new())?)?;
-    mods.push(Box::new(alloc, SucceedIf::new())?)?;
-    mods.push(Box::new(alloc, EnvModule::new())?)?;
-    mods.push(Box::new(alloc, Unix::new())?)?;
-    mods.push(Box::new(alloc, Faillock::new())?)?;
-    mods.push(Box::new(alloc, Wheel::new())?)?;
-    mods.push(Box::new(alloc, Securetty::new())?)?;
-    mods.push(Box::new(alloc, Pwhistory::new())?)?;
+    let mods = shipped_modules!(alloc);
     let delay = |code: Code, asked: u32| -> u32
         ensures { result ≡ served_wait code asked }
     { served_wait(code, asked) };
     let delay: DelayRule = Box::new(alloc, delay)?;
     returns_served_wait(&delay);
-    let Conversations { convs, term } = talks;
+    let Conversations { convs, term, time } = talks;
     let desk = Desk {
         mods,
         convs,
         term,
         delay,
+        time,
     };
     Ok(answer_frames(alloc, words, script, out, world, desk))
 }

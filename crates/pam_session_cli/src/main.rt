@@ -10,21 +10,15 @@ mod objects;
 ghost use Rattle.fail_delay.specs.DelayFn.{GivesOneNumber};
 
 use crate::objects::{Files, Replies, Time, objects_of};
-use command_line::{arguments, exit_status};
+use command_line::{NO_STREAMS, arguments, exit_status, reserve_streams};
 use fail_delay::DelayRule;
-use mod_basic::conv_port::{Conv, QueueConv, TermConv, WireConv};
-use mod_basic::pam_room::{Module, Process, World};
-use mod_basic::{Debug, Deny, Permit, Probe, Rootok};
-use mod_env::Env as EnvModule;
-use mod_history::mod_unix::Unix;
-use mod_history::{Pwhistory, Securetty, Wheel};
-use mod_lists::{Listfile, Nologin, Shells, SucceedIf};
-use pam_base::{Code, Numbers, Text};
+use pam_base::{Code, NoMemory, Numbers, Text};
 use pam_outside::{Clock, FixedClock, MemVault, Nap, NapSum, Vault};
-use session_program::mod_tally::Faillock;
-use session_program::{Desk, pamsess};
-use std::alloc::Global;
-use std::io;
+use pam_room::conv_port::{Conv, QueueConv, TermConv, WireConv};
+use pam_room::{Process, World};
+use session_program::{Desk, TimeOfDay, pamsess};
+use shipped_modules::{SystemTime, shipped_modules};
+use std::io::{self, ErrorKind};
 use std::process::ExitCode;
 use system_objects::{FolderVault, ReaderSource, RealClock, SleepNap, WriterSink};
 
@@ -46,6 +40,10 @@ fn main(rt: HostRuntime) -> ExitCode {
 // wait after SUCCESS. It gets no arguments if one of them isn't UTF-8.
 fn run(rt: HostRuntime) -> io::Result<u8> {
     let alloc = rt.alloc();
+    let _streams = match reserve_streams(&rt) {
+        Ok(streams) => streams,
+        Err(_) => return Ok(NO_STREAMS),
+    };
     let wait = |code: Code, asked: u32| -> u32 {
         if code == Code::Success {
             0
@@ -57,22 +55,7 @@ fn run(rt: HostRuntime) -> io::Result<u8> {
     returns_one_number(&delay);
     let words = arguments(&rt)?.unwrap_or(Vec::new(alloc));
     let objects = objects_of(&words);
-    let mut mods: Vec<Box<dyn Module>> = Vec::new(alloc);
-    mods.push(Box::new(alloc, Permit::new())?)?;
-    mods.push(Box::new(alloc, Deny::new())?)?;
-    mods.push(Box::new(alloc, Debug::new())?)?;
-    mods.push(Box::new(alloc, Rootok::new())?)?;
-    mods.push(Box::new(alloc, Probe::new())?)?;
-    mods.push(Box::new(alloc, Nologin::new())?)?;
-    mods.push(Box::new(alloc, Listfile::new())?)?;
-    mods.push(Box::new(alloc, Shells::new())?)?;
-    mods.push(Box::new(alloc, SucceedIf::new())?)?;
-    mods.push(Box::new(alloc, EnvModule::new())?)?;
-    mods.push(Box::new(alloc, Unix::new())?)?;
-    mods.push(Box::new(alloc, Faillock::new())?)?;
-    mods.push(Box::new(alloc, Wheel::new())?)?;
-    mods.push(Box::new(alloc, Securetty::new())?)?;
-    mods.push(Box::new(alloc, Pwhistory::new())?)?;
+    let mods = shipped_modules!(alloc);
     let clock: Box<dyn Clock> = match objects.time {
         Time::Real => Box::new(alloc, RealClock::new(rt))?,
         Time::Fixed => Box::new(alloc, FixedClock::new(0, 0))?,
@@ -81,9 +64,19 @@ fn run(rt: HostRuntime) -> io::Result<u8> {
         Time::Real => Box::new(alloc, SleepNap::new(rt))?,
         Time::Fixed => Box::new(alloc, NapSum::new())?,
     };
+    let time: Option<Box<dyn TimeOfDay>> = match objects.time {
+        Time::Real => {
+            let time: Box<dyn TimeOfDay> = Box::new(alloc, SystemTime::new(rt))?;
+            Some(time)
+        }
+        Time::Fixed => None,
+    };
     let vault: Box<dyn Vault> = match objects.files {
         Files::InMemory => Box::new(alloc, MemVault::new(alloc, Numbers::new(alloc)))?,
-        Files::OnDisk => Box::new(alloc, FolderVault::new(rt))?,
+        Files::OnDisk => {
+            let vault = FolderVault::below(rt, root_in(&words)).map_err(out_of_memory)?;
+            Box::new(alloc, vault)?
+        }
     };
     let term: Box<dyn Conv> = Box::new(alloc, TermConv::new(rt.stdin(), rt.stderr()))?;
     let mut convs: Vec<Box<dyn Conv>> = Vec::new(alloc);
@@ -107,8 +100,21 @@ fn run(rt: HostRuntime) -> io::Result<u8> {
         convs,
         term,
         delay,
+        time,
     };
     Ok(pamsess(alloc, &words, &mut script, &mut out, &mut world, desk))
+}
+
+// The ROOT of a command, if it has one.
+fn root_in(words: &[String]) -> &[u8] {
+    match words {
+        [_, root, ..] => root.as_bytes(),
+        _ => b"/",
+    }
+}
+
+fn out_of_memory(_: NoMemory) -> io::Error {
+    ErrorKind::OutOfMemory.into()
 }
 
 // Passes on that a delay function returns one number for each code and request.

@@ -1,12 +1,16 @@
 //! What the program prints, and what it leaves, if calls of the input, the output or the files are
-//! set to fail.
+//! set to fail, and if a module runs out of memory.
+
+mod forgetful;
 
 ghost use Rattle.std.specs.Prelude.{◌≡◌, []};
 
+use crate::tests::forgetful::Forgetful;
 use conv_port::{Conv, QueueConv};
 use mod_basic::{Permit, Probe};
-use pam_base::{Code, Numbers, Text};
+use pam_base::{Code, DATA_REPLACE as REPLACED, NoMemory, Numbers, Text};
 use pam_outside::{FixedClock, MemSink, MemSource, MemVault, NapSum};
+use pam_room::data_cleanup::Ledger;
 use pam_room::{Module, Process, World};
 use session_program::{Desk, pamsess};
 use std::alloc::Global;
@@ -235,12 +239,30 @@ static ROWS: [Row; 28] = [
     },
 ];
 
-/// The result of a run: the status, and how many data were set and how many were cleaned up.
+/// Out of memory in a module that has set data, with data of another module before: the end of the transaction has
+/// status 5, PAM_BUF_ERR.
+const FORGOTTEN: Row = Row {
+    file: b"auth required pam_probe.so set=a:w\nauth required forgetful.so\n",
+    output: b"1 start SUCCESS 0\n",
+    status: 4,
+    ..LOGIN
+};
+
+/// The id, status and result of each of its cleanups: `a` of pam_probe and the first of the other module are replaced,
+/// and the rest is cleaned up at the end, the last name first.
+const FORGOTTEN_RECEIPTS: &[(u64, u32, u32)] = &[
+    (0, REPLACED, 256),
+    (1, REPLACED, 1),
+    (3, 5, 1),
+    (2, 5, 2),
+];
+
+/// The result of a run: the status, how many data were set, and the id, status and result of each cleanup.
 #[derive(Drop)]
 struct Left {
     status: u8,
     births: usize,
-    receipts: usize,
+    receipts: Vec<(u64, u32, u32)>,
 }
 
 /// The same, with the output.
@@ -296,8 +318,17 @@ fn run_over(
     Ok(Left {
         status,
         births: world.process.ledger.births().len(),
-        receipts: world.process.ledger.filed().len(),
+        receipts: receipts(alloc, &world.process.ledger)?,
     })
+}
+
+fn receipts(alloc: Global, ledger: &Ledger) -> Result<Vec<(u64, u32, u32)>, NoMemory> {
+    let mut receipts = Vec::new(alloc);
+    for filed in ledger.filed() {
+        let receipt = filed.receipt;
+        receipts.push((receipt.id, receipt.status, receipt.note))?;
+    }
+    Ok(receipts)
 }
 
 // Runs it with the modules of the test cases and sixteen conversations without replies.
@@ -318,6 +349,7 @@ fn run_with(
     let mut mods: Vec<Box<dyn Module>> = Vec::new(alloc);
     mods.push(Box::new(alloc, Permit::new())?)?;
     mods.push(Box::new(alloc, Probe::new())?)?;
+    mods.push(Box::new(alloc, Forgetful)?)?;
     let desk = Desk {
         mods,
         convs,
@@ -325,6 +357,7 @@ fn run_with(
         delay: Box::new(alloc, |_code: Code, asked: u32| -> u32 {
             asked.min(3_000_000)
         })?,
+        time: None,
     };
     Ok(pamsess(alloc, words, script, out, world, desk))
 }
@@ -337,7 +370,17 @@ fn calls_that_are_to_fail_leave_a_report_or_its_prefix_and_no_data(
         let ran = run_row(rt.alloc(), row)?;
         assert_eq!(rt; ran.output.as_slice(), row.output);
         assert_eq!(rt; ran.left.status, row.status);
-        assert_eq!(rt; ran.left.receipts, ran.left.births);
+        assert_eq!(rt; ran.left.receipts.len(), ran.left.births);
     }
+    Ok(())
+}
+
+#[test]
+fn data_of_a_module_that_runs_out_of_memory_are_cleaned_up(rt: HostRuntime) -> Result<(), Fail> {
+    let ran = run_row(rt.alloc(), &FORGOTTEN)?;
+    assert_eq!(rt; ran.output.as_slice(), FORGOTTEN.output);
+    assert_eq!(rt; ran.left.status, FORGOTTEN.status);
+    assert_eq!(rt; ran.left.births, FORGOTTEN_RECEIPTS.len());
+    assert_eq!(rt; ran.left.receipts.as_slice(), FORGOTTEN_RECEIPTS);
     Ok(())
 }

@@ -7,7 +7,7 @@ use Rattle.control_words.specs.declared.control.Action.{Action}
 use Rattle.control_words.specs.declared.nodes.Rule.{Rule}
 use Rattle.pam_base.specs.Lines.{cut, lines_of}
 use Rattle.pam_outside.specs.Paths.{path_of}
-use Rattle.pam_outside.specs.Files.{VaultState}
+use Rattle.pam_outside.specs.Files.{VaultState, no_locks}
 use Rattle.conf_lex.specs.Answer.{answer_to}
 use Rattle.conf_lex.specs.Lexing.{answer_at}
 use Rattle.conf_lex.specs.Reading.{units_behind, first_piece, pieces_behind}
@@ -135,7 +135,7 @@ first_row : Stack
 first_row = line (rule required (codes "pam_permit.so") (codes "a" ∷ [])) (sub (line (rule (control (codes "success=ok")) (codes "pam_deny.so") (codes "x y" ∷ [])) none) none)
 
 vault_of : List File → VaultState
-vault_of files = record { files = map (placed_file (codes "/r")) files; calls = 0; fails = [] }
+vault_of files = record { files = map (placed_file (codes "/r")) files; locks = no_locks; calls = 0; fails = [] }
 
 -- as it was written by hand, and as it is printed
 by_hand : List File

@@ -6,6 +6,7 @@ pub mod Writing
 mod Reading
 mod Lines
 mod Holding
+mod Lengths
 mod Storing
 mod Passing
 mod Loading

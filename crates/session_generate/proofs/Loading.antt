@@ -4,7 +4,7 @@ use Rattle.std.specs.List.{filter, range_with_len}
 use Rattle.std.proofs.lemmas.Bool.{and_from, and_left, and_right, eq-eqb, le-ltb, lt-ltb, ne_eqb}
 use Rattle.pam_base.specs.declared.fault.FaultKind.TheVariants.{ReadFailed}
 use Rattle.pam_outside.specs.Counts.{next_count}
-use Rattle.pam_outside.specs.Files.{VaultState}
+use Rattle.pam_outside.specs.Files.{Locks, VaultState}
 use Rattle.pam_outside.specs.Paths.{path_of}
 use Rattle.random_config.specs.Files.{count_of, is_odd, service, text_of}
 use Rattle.service_load.specs.control_words.specs.Stack.{count}
@@ -208,9 +208,9 @@ module _ (texts : List ℕ → Option (List ℕ)) (seed lines : ℕ) (most : lin
 
 -- ---- the files that are stored if there is no file yet
 
-module _ (seed lines : ℕ) (most : lines ≤ 4096) (calls : ℕ) where
+module _ (seed lines : ℕ) (most : lines ≤ 4096) (locks : Locks) (calls : ℕ) where
   abbrev vault : VaultState
-  vault = vault_with (all seed lines most) calls
+  vault = vault_with (all seed lines most) locks calls
 
   pub loads : (d : Counts) × (loaded vault (codes "/") (codes "gen") ≡ Ok d)
   unfolding path_of

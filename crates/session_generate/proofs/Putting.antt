@@ -3,7 +3,7 @@ use Rattle.std.proofs.Common.{◌≡◌, ℕ, suc, ◌+◌, ◌<◌, Bool, true,
 use Rattle.std.proofs.Math.Seq.{drop-cons}
 use Rattle.pam_base.specs.declared.fault.Refuse.{Refuse}
 use Rattle.pam_base.specs.declared.fault.Refuse.TheVariants.{NoMemory, Named}
-use Rattle.pam_outside.specs.Files.{VaultState, counted, is_failing}
+use Rattle.pam_outside.specs.Files.{VaultState, counted, refuses}
 use Rattle.random_config.specs.declared.files.RandomFile.{RandomFile}
 use Rattle.service_load.specs.declared.load_fault.LoadFault.{LoadFault}
 use Rattle.session_generate.specs.Placing.{Placed, Places, PlacesSome, fault_of, placed, with_file}
@@ -19,25 +19,25 @@ module _ (file : RandomFile) (files : List RandomFile) (v t : VaultState) where
 
   -- after a file that was stored
   pub goes_on : (placed (file ∷ []) v).fault ≡ None → t ≡ (placed (file ∷ []) v).vault → placed (file ∷ files) v ≡ placed files t
-  goes_on none is = on_by (is_failing v) none is
+  goes_on none is = on_by (refuses file.text v) none is
 
   stop_by : (fault : LoadFault) (b : Bool) → (cond b stopped (placed [] (with_file file v))).fault ≡ Some fault
       → cond b stopped (placed files (with_file file v)) ≡ cond b stopped (placed [] (with_file file v))
   stop_by fault true is = refl
   stop_by fault false is = absurd cc
 
-  -- no call follows one that failed
+  -- no call follows one that is refused
   pub stops : (fault : LoadFault) → (placed (file ∷ []) v).fault ≡ Some fault → placed (file ∷ files) v ≡ placed (file ∷ []) v
-  stops fault is = stop_by fault (is_failing v) is
+  stops fault is = stop_by fault (refuses file.text v) is
 
-  some_by : (b : Bool) → is_failing v ≡ b → (cond b stopped (placed [] (with_file file v))).fault ≡ None → t ≡ (cond b stopped (placed [] (with_file file v))).vault
+  some_by : (b : Bool) → refuses file.text v ≡ b → (cond b stopped (placed [] (with_file file v))).fault ≡ None → t ≡ (cond b stopped (placed [] (with_file file v))).vault
       → (u : VaultState) → PlacesSome files t u → PlacesSome (file ∷ files) v u
   some_by true e none is u some = absurd cc
   some_by false e none is u some = inr (e, inr (subst (λ (x : VaultState). PlacesSome files x u) is some))
 
   -- an allocation fails after a file was stored
   pub some_behind : (placed (file ∷ []) v).fault ≡ None → t ≡ (placed (file ∷ []) v).vault → (u : VaultState) → PlacesSome files t u → PlacesSome (file ∷ files) v u
-  some_behind none is = some_by (is_failing v) refl none is
+  some_behind none is = some_by (refuses file.text v) refl none is
 
   some_first : PlacesSome (file ∷ []) v t → PlacesSome (file ∷ files) v t
   some_first (inl same) = inl same

@@ -1,40 +1,47 @@
 -- Generated files that are stored when there is no file yet: the name under which each is found.
-use Rattle.std.proofs.Common.{◌≡◌, ℕ, suc, zero, ◌+◌, ◌-◌, ◌<◌, ◌≤◌, ◌^◌, ◌⊎◌, inl, inr, Bool, true, false, ◌||◌, cond, List, [], ◌∷◌, ◌++◌, codes, drop, get_or, map, Some, None, nat_lt, refl, sym, ap, ◌∙◌, subst, arith}
+use Rattle.std.proofs.Common.{◌≡◌, ℕ, suc, zero, ◌+◌, ◌-◌, ◌<◌, ◌≤◌, ◌^◌, ◌⊎◌, inl, inr, Bool, true, false, ◌||◌, cond, List, [], ◌∷◌, ◌++◌, codes, length, drop, get_or, map, Some, None, nat_lt, refl, sym, ap, ◌∙◌, subst, arith}
 use Rattle.std.specs.List.{AllByRecursion, range_with_len}
 use Rattle.std.specs.Str.{bytes_eq}
-use Rattle.std.proofs.lemmas.Bool.{and_right, cases_eq}
+use Rattle.std.proofs.lemmas.Bool.{and_right, cases_eq, le-ltb}
 use Rattle.std.proofs.lemmas.Fmt.{decimal_injective}
 use Rattle.std.proofs.lemmas.Slice.Eq.{bytes_eq-Decides}
 use Rattle.pam_outside.specs.Counts.{fails_next, next_count}
-use Rattle.pam_outside.specs.Files.{File, VaultState, counted, file_at, file_put, is_below, is_folder}
+use Rattle.pam_outside.specs.declared.vault.TheConstants.{MAX_FILE}
+use Rattle.pam_outside.specs.Files.{File, Locks, VaultState, counted, file_at, file_put, is_below, is_folder}
 use Rattle.random_config.specs.declared.files.RandomFile.{RandomFile}
 use Rattle.random_config.specs.Files.{count_of, random_file, random_files, name_of, service, text_of}
 use Rattle.session_generate.specs.Placing.{Placed, fault_of, path_of_service, placed}
+use Rattle.session_generate.proofs.Lengths.{IsShort}
 
--- ---- if no call is set to fail, all are stored
+-- ---- if no call is set to fail and no file is too long, all are stored
 
 pub never : (calls : ℕ) → fails_next calls [] ≡ false
 never calls = and_right (nat_lt calls (2 ^ 64 - 1)) false refl
 
-abbrev pub vault_with : List File → ℕ → VaultState
-vault_with files calls = record { files = files; calls = calls; fails = [] }
+abbrev pub vault_with : List File → Locks → ℕ → VaultState
+vault_with files locks calls = record { files = files; locks = locks; calls = calls; fails = [] }
 
 abbrev pub puts : List RandomFile → List File → List File
 puts [] files = files
 puts (f ∷ fs) files = puts fs (file_put (path_of_service f.name) f.text files)
 
-pub record Stored (files : List File) (p : Placed) : Type 0 where
+pub record Stored (files : List File) (locks : Locks) (p : Placed) : Type 0 where
   pub none : p.fault ≡ None
   pub files_are : p.vault.files ≡ files
+  pub locks_are : p.vault.locks ≡ locks
   pub fails_are : p.vault.fails ≡ []
 
-pub stored : (fs : List RandomFile) (files : List File) (calls : ℕ) → Stored (puts fs files) (placed fs (vault_with files calls))
-stored [] files calls = record { none = refl; files_are = refl; fails_are = refl }
-stored (f ∷ fs) files calls =
-    let next = vault_with (file_put (path_of_service f.name) f.text files) (next_count calls) in
-    let stops : Placed = record { vault = counted (vault_with files calls); fault = Some (fault_of f) } in
-    let is : placed (f ∷ fs) (vault_with files calls) ≡ placed fs next = ap (λ (b : Bool). cond b stops (placed fs next)) (never calls) in
-    subst (Stored (puts (f ∷ fs) files)) (sym is) (stored fs (file_put (path_of_service f.name) f.text files) (next_count calls))
+-- a call that isn't set to fail takes a file that isn't too long
+takes : (f : RandomFile) (calls : ℕ) → IsShort f → (fails_next calls [] || nat_lt MAX_FILE (length f.text)) ≡ false
+takes f calls short = ap (λ (b : Bool). b || nat_lt MAX_FILE (length f.text)) (never calls) ∙ le-ltb MAX_FILE (length f.text) short
+
+pub stored : (fs : List RandomFile) → AllByRecursion IsShort fs → (files : List File) (locks : Locks) (calls : ℕ) → Stored (puts fs files) locks (placed fs (vault_with files locks calls))
+stored [] short files locks calls = record { none = refl; files_are = refl; locks_are = refl; fails_are = refl }
+stored (f ∷ fs) short files locks calls =
+    let next = vault_with (file_put (path_of_service f.name) f.text files) locks (next_count calls) in
+    let stops : Placed = record { vault = counted (vault_with files locks calls); fault = Some (fault_of f) } in
+    let is : placed (f ∷ fs) (vault_with files locks calls) ≡ placed fs next = ap (λ (b : Bool). cond b stops (placed fs next)) (takes f calls short.0) in
+    subst (Stored (puts (f ∷ fs) files) locks) (sym is) (stored fs short.1 (file_put (path_of_service f.name) f.text files) locks (next_count calls))
 
 -- ---- one file
 

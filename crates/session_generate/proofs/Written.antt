@@ -1,6 +1,6 @@
 -- Generated files load if there was no file before, and the result of the authentication is written.
 use Rattle.std.proofs.Common.{◌≡◌, ℕ, ◌≤◌, List, [], ◌∷◌, codes, Option, Some, None, Result, Ok, refl, sym, ap, ◌∙◌, subst}
-use Rattle.pam_outside.specs.Files.{File, VaultState}
+use Rattle.pam_outside.specs.Files.{File, Locks, VaultState}
 use Rattle.random_config.specs.Files.{random_files}
 use Rattle.session_run.specs.dispatch_core.specs.Lines.{names_of}
 use Rattle.session_run.specs.pam_handle.specs.Start.{new_handle, stacks_under, started_by}
@@ -17,22 +17,24 @@ use Rattle.session_generate.specs.Generated.{behind_files, found_by, from_root, 
 use Rattle.session_generate.specs.Loads.{IsFree, LoadsAll}
 use Rattle.session_generate.specs.Login.{behind_start, called, refusal_in, start_call, state_in}
 use Rattle.session_generate.specs.Placing.{Placed, placed, with_vault}
+use Rattle.session_generate.proofs.Lengths.{all_short}
 use Rattle.session_generate.proofs.Loading.{loads}
 use Rattle.session_generate.proofs.Storing.{all, stored, vault_with}
 
 -- a file store without calls that are set to fail
-as_it_is : (v : VaultState) (files : List File) → v.files ≡ files → v.fails ≡ [] → v ≡ vault_with files v.calls
-as_it_is v files is none =
-    ap (λ (fs : List File). record { files = fs; calls = v.calls; fails = v.fails }) is
-    ∙ ap (λ (fails : List ℕ). record { files = files; calls = v.calls; fails = fails }) none
+as_it_is : (v : VaultState) (files : List File) (locks : Locks) → v.files ≡ files → v.locks ≡ locks → v.fails ≡ [] → v ≡ vault_with files locks v.calls
+as_it_is v files locks is stays none =
+    ap (λ (fs : List File). record { files = fs; locks = v.locks; calls = v.calls; fails = v.fails }) is
+    ∙ ap (λ (ls : Locks). record { files = files; locks = ls; calls = v.calls; fails = v.fails }) stays
+    ∙ ap (λ (fails : List ℕ). record { files = files; locks = locks; calls = v.calls; fails = fails }) none
 
 pub loads_all : (seed lines : ℕ) (vault : VaultState) → lines ≤ 4096 → IsFree vault → LoadsAll seed lines vault
 loads_all seed lines vault most free =
-    let from : vault ≡ vault_with [] vault.calls = as_it_is vault [] free.files free.fails in
-    let p : Placed = placed (random_files seed lines) (vault_with [] vault.calls) in
-    let s = stored (random_files seed lines) [] vault.calls in
-    let now : p.vault ≡ vault_with (all seed lines most) p.vault.calls = as_it_is p.vault (all seed lines most) s.files_are s.fails_are in
-    let l = loads seed lines most p.vault.calls in
+    let from : vault ≡ vault_with [] vault.locks vault.calls = as_it_is vault [] vault.locks free.files refl free.fails in
+    let p : Placed = placed (random_files seed lines) (vault_with [] vault.locks vault.calls) in
+    let s = stored (random_files seed lines) (all_short seed lines most) [] vault.locks vault.calls in
+    let now : p.vault ≡ vault_with (all seed lines most) vault.locks p.vault.calls = as_it_is p.vault (all seed lines most) vault.locks s.files_are s.locks_are s.fails_are in
+    let l = loads seed lines most vault.locks p.vault.calls in
     subst (LoadsAll seed lines) (sym from) (record {
       none = s.none;
       counts = l.0;

@@ -3,7 +3,7 @@ use Rattle.std.specs.Prelude.{◌≡◌, ◌⊎◌, ℕ, false, if◌then◌else
 use Rattle.pam_base.specs.declared.fault.FaultKind.TheVariants.{ReadFailed}
 use Rattle.pam_base.specs.declared.fault.Refuse.{Refuse}
 use Rattle.pam_base.specs.declared.fault.Refuse.TheVariants.{NoMemory, Named}
-use Rattle.pam_outside.specs.Files.{VaultState, counted, file_put, is_failing}
+use Rattle.pam_outside.specs.Files.{VaultState, counted, file_put, refuses}
 use Rattle.random_config.specs.declared.files.RandomFile.{RandomFile}
 use Rattle.session_run.specs.pam_room.specs.State.{PlainWorld}
 use Rattle.service_load.specs.declared.load_fault.LoadFault.{LoadFault}
@@ -20,14 +20,14 @@ abbrev pub with_file : RandomFile → VaultState → VaultState
 with_file file v = counted
     (record v { files = file_put (path_of_service file.name) file.text v.files })
 
--- the files after the calls, up to the first call that is set to fail, and that call's fault
+-- the files after the calls, up to the first that is refused, and the fault of that one
 pub record Placed : Type 0 where
   pub vault : VaultState
   pub fault : Option LoadFault
 
 abbrev pub placed : List RandomFile → VaultState → Placed
 placed [] v = record { vault = v; fault = None }
-placed (file ∷ files) v = if is_failing v
+placed (file ∷ files) v = if refuses file.text v
     then record { vault = counted v; fault = Some (fault_of file) }
     else placed files (with_file file v)
 
@@ -39,7 +39,7 @@ with_vault vault w = record w { vault = vault }
 -- that.
 abbrev pub PlacesSome : List RandomFile → VaultState → VaultState → Type 0
 PlacesSome [] v vault = ⊥
-PlacesSome (file ∷ files) v vault = (vault ≡ v) ⊎ ((is_failing v ≡ false)
+PlacesSome (file ∷ files) v vault = (vault ≡ v) ⊎ ((refuses file.text v ≡ false)
     × ((vault ≡ counted v) ⊎ PlacesSome files (with_file file v) vault))
 
 -- All files were stored, or all up to the fault; if an allocation failed, the first few.

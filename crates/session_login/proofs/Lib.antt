@@ -6,4 +6,4 @@ pub mod Coursing
 pub mod Closing
 pub mod Coming
 pub mod Showing
-mod Reporting
+pub mod Reporting

@@ -5,13 +5,14 @@ use Rattle.pam_base.specs.declared.code.Code.TheVariants.{Success}
 use Rattle.pam_base.specs.declared.call.AppCall.{AppCall}
 use Rattle.pam_base.specs.declared.call.AppCall.TheVariants.{Start}
 use Rattle.pam_base.specs.declared.fault.Failed.{Failed}
-use Rattle.session_run.specs.data_cleanup.specs.Ledger.{PlainLedger}
 use Rattle.pam_outside.specs.Streams.{SinkState, WritesWhole}
 use Rattle.session_run.specs.pam_library.specs.AnyWorld.{AnswersBy, is_refused, refusal}
-use Rattle.session_run.specs.pam_library.specs.Slots.{PlainSlot, slot_at}
-use Rattle.session_run.specs.pam_library.specs.Sound.{IsSound}
+use Rattle.session_run.specs.pam_library.specs.Outcome.{answers_only, plain_outcome}
+use Rattle.session_run.specs.pam_library.specs.Slots.{PlainSlot}
+use Rattle.session_run.specs.pam_library.specs.Traced.{TracesAt}
 use Rattle.session_run.specs.pam_library.specs.declared.outcome.Answer.{Answer}
 use Rattle.session_run.specs.pam_library.specs.declared.outcome.Answer.TheVariants.{BadNumber}
+use Rattle.session_run.specs.pam_library.specs.declared.outcome.Outcome.{Outcome}
 use Rattle.record_reader.specs.declared.ending.Stop.{Stop}
 use Rattle.record_reader.specs.declared.ending.Stop.TheVariants.{WriteFault}
 use Rattle.session_login.specs.declared.attempt.Verdict.{Verdict}
@@ -79,14 +80,13 @@ reports_then Says Next Tells t (Err stop) p q r a b so = record {
 
 -- ---- the calls
 
--- a result that the library returned in a session
-pub by_sound : (names : List (List ℕ)) (modules : ℕ) (slots : List PlainSlot) (ledger : PlainLedger) → IsSound names modules slots ledger
-    → (call : AppCall) (answer : Answer) → AnswersBy (refusal (slot_at slots 1) call) call answer → IsResult call answer
-by_sound names modules slots ledger sound call answer by = (slot_at slots 1, by)
+-- a result that the library returned
+pub by_outcome : (call : AppCall) (slot next : Option PlainSlot) (o : Outcome) → AnswersBy (refusal slot call) call o.answer → TracesAt call slot next (plain_outcome o) → IsResult call o.answer
+by_outcome call slot next o answers traces = record { slot = slot; next = next; outcome = plain_outcome o; answer_is = refl; answers = answers; traces = traces }
 
 -- a result that is always possible
 pub possible : (call : AppCall) → SaysResult call BadNumber (answer_line call BadNumber)
-possible call = ((None, refl), refl)
+possible call = (record { slot = None; next = None; outcome = answers_only 0 BadNumber; answer_is = refl; answers = refl; traces = tt }, refl)
 
 module _ (Others : Reporting) (some : (code : Code) → (denied : Option Code) × (text : List ℕ) × Others code denied text) where
   some_others : (goes : Bool) (code : Code) → (denied : Option Code) × (text : List ℕ) × SaysOthers goes code Others denied text
@@ -193,7 +193,7 @@ with_end denied lines course =
         end = answer_line end BadNumber ++ last_line (verdict_by denied);
         text_is = refl;
         course = course;
-        last_lines = record { verdict_is = refl; answer = BadNumber; can = (None, refl); text_is = refl };
+        last_lines = record { verdict_is = refl; answer = BadNumber; can = (possible end).0; text_is = refl };
       },
     )
 

@@ -5,6 +5,7 @@ use Rattle.std.specs.Fmt.{digits}
 use Rattle.pam_base.specs.declared.code.Code.{Code}
 use Rattle.pam_base.specs.declared.call.Func.{Func}
 use Rattle.pam_base.specs.declared.call.Func.TheVariants as funcs
+use Rattle.pam_outside.specs.Files.{no_locks}
 use Rattle.pam_outside.specs.Paths.{path_of}
 use Rattle.session_run.specs.conf_lex.specs.Answer.{answer_to}
 use Rattle.session_run.specs.conf_lex.specs.Lexing.{answer_at}
@@ -14,7 +15,7 @@ use Rattle.session_run.specs.service_load.specs.FirstFault.{look}
 use Rattle.session_run.specs.service_load.specs.Order.{items}
 use Rattle.session_run.specs.service_load.specs.Tree.{nodes}
 use Rattle.session_run.specs.pam_room.specs.Call.{PlainCall}
-use Rattle.session_run.specs.pam_room.specs.Module.{NamedData, Player, SeenRoom, Sight, length_note, never_breaks}
+use Rattle.session_run.specs.pam_room.specs.Module.{NamedData, Player, SeenRoom, Sight, length_note, never_breaks, same_locks}
 use Rattle.session_run.specs.pam_library.specs.Slots.{PlainSlot, closed}
 use Rattle.session_run.specs.pam_library.specs.Step.{stepped}
 use Rattle.session_run.specs.State.{RunState, Setting, state_of}
@@ -24,7 +25,7 @@ use Rattle.session_login.specs.Login.{course, login_of, login_text}
 abbrev answers_by : (Func → Code) → Player
 answers_by by = record {
   name = codes "p";
-  plays = λ (call : PlainCall) (room : SeenRoom) (datums : List NamedData) (sight : Sight). record { code = by call.func; room = room; births = []; files = sight.files; calls = 0; draws = 0 };
+  plays = λ (call : PlainCall) (room : SeenRoom) (datums : List NamedData) (sight : Sight). record { code = by call.func; room = room; births = []; files = sight.files; locks = same_locks; calls = 0; draws = 0 };
   note = length_note;
   breaks = never_breaks;
 }
@@ -38,7 +39,7 @@ place = closed (record { offers = []; waits = false; handed = [] })
 -- a service with a line of each type
 abbrev start : RunState
 start = state_of (place ∷ []) (record {
-  vault = record { files = record { path = codes "/r/etc/pam.d/t"; bytes = codes "auth required p\naccount required p\npassword required p\nsession required p" } ∷ []; calls = 0; fails = [] };
+  vault = record { files = record { path = codes "/r/etc/pam.d/t"; bytes = codes "auth required p\naccount required p\npassword required p\nsession required p" } ∷ []; locks = no_locks; calls = 0; fails = [] };
   clock = record { moment = 0; word = 0; draws = 0 };
   nap = record { waits = 0; sum = 0 };
   process = record { ledger = record { births = []; filed = [] }; root = codes "/r"; caller = 0 };

@@ -7,7 +7,9 @@ use Rattle.pam_base.specs.declared.call.AppCall.{AppCall}
 use Rattle.pam_base.specs.declared.call.AppCall.TheVariants.{Start}
 use Rattle.pam_outside.specs.Streams.{SinkState}
 use Rattle.session_run.specs.pam_library.specs.AnyWorld.{AnswersBy, is_refused, refusal}
+use Rattle.session_run.specs.pam_library.specs.Outcome.{PlainOutcome}
 use Rattle.session_run.specs.pam_library.specs.Slots.{PlainSlot}
+use Rattle.session_run.specs.pam_library.specs.Traced.{TracesAt}
 use Rattle.session_run.specs.pam_library.specs.declared.outcome.Answer.{Answer}
 use Rattle.record_reader.specs.declared.ending.Stop.{Stop}
 use Rattle.session_login.specs.declared.attempt.Verdict.{Verdict}
@@ -16,9 +18,15 @@ use Rattle.session_login.specs.declared.calls.LoginCall.{LoginCall}
 use Rattle.session_login.specs.Calls.{accepts, call_of, code_in, is_due, login_calls}
 use Rattle.session_login.specs.Login.{answer_line, denied_line, end_call, end_code, last_line, verdict_by}
 
--- a result that the library can return for a call on a transaction, with modelled objects or not
-abbrev pub IsResult : AppCall → Answer → Type 0
-IsResult call answer = (slot : Option PlainSlot) × AnswersBy (refusal slot call) call answer
+-- A result that the library can return for a call on a transaction, with modelled objects or not: the code of a stack
+-- call is the one to which some lines lead, which its outcome lists.
+pub record IsResult (call : AppCall) (answer : Answer) : Type 0 where
+  pub slot : Option PlainSlot
+  pub next : Option PlainSlot
+  pub outcome : PlainOutcome
+  pub answer_is : outcome.answer ≡ answer
+  pub answers : AnswersBy (refusal slot call) call answer
+  pub traces : TracesAt call slot next outcome
 
 -- the text is the line of the result of a call
 abbrev pub SaysResult : AppCall → Answer → List ℕ → Type 0

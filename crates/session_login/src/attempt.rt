@@ -1,4 +1,4 @@
-ghost use Rattle.std.specs.Prelude.{◌≡◌, ℕ, Ok, Some, IfOk, IsTrue, string_bytes};
+ghost use Rattle.std.specs.Prelude.{◌≡◌, ℕ, Ok, Some, IfOk, IsTrue, is_none, string_bytes};
 ghost use Rattle.std.specs.Option.{option_copied};
 ghost use Rattle.pam_base.specs.ServiceName.{is_service_name};
 ghost use Rattle.pam_base.specs.declared.code.Code.{Code};
@@ -20,7 +20,7 @@ use pam_outside::{Sink, write_all};
 use record_reader::Stop;
 use session_run::pam_library::{Answer, Library, Session, Told};
 use session_run::pam_room::World;
-use session_run::stop_status;
+use session_run::{TimeOfDay, stop_status};
 use std::alloc::Global;
 
 /// The result of a login.
@@ -44,7 +44,8 @@ pub enum Verdict {
 /// - `pam_setcred(3)` with PAM_ESTABLISH_CRED, `pam_open_session(3)`;
 /// - and then at once `pam_close_session(3)`, `pam_setcred(3)` with PAM_DELETE_CRED and `pam_end(3)`.
 ///
-/// The result line of each call is written before the next call, and no other line of its report.
+/// The result line of each call is written before the next call, and no other line of its report. Before each call the
+/// world's clock is set to the time of day, if that is known; without one it stands still.
 ///
 /// The login is denied if a call before the last three returns another code than SUCCESS (after `pam_acct_mgmt(3)`
 /// also NEW_AUTHTOK_REQD goes on): the transaction is ended with that code, and `denied NAME NUMBER` is written last.
@@ -57,6 +58,7 @@ pub fn login<K: Sink>(
     library: &mut Library,
     service: &[u8],
     user: Option<&[u8]>,
+    time: &Option<Box<dyn TimeOfDay>>,
     out: &mut K,
     world: &mut World,
 ) -> Result<Verdict, Stop>
@@ -64,10 +66,10 @@ pub fn login<K: Sink>(
     requires none_open { NoneIsOpenIn (⟦<Session as Told>⟧.seen library.old world.old) }
     requires sound { IsSoundIn (⟦<Session as Told>⟧.seen library.old world.old) }
 
-    // If all objects are modelled: the verdict, what is written, and the library and world afterwards.
-    ensures told { let seen = ⟦<Session as Told>⟧.seen in (delay : Code → ℕ → ℕ) →
-        (seen library.old world.old).gives delay → AllTell (seen library.old world.old) →
-        IsTrue (K.sink_tells out.old) →
+    // If all objects are modelled and the clock stands still: the verdict, what is written, and the library and world afterwards.
+    ensures told { let seen = ⟦<Session as Told>⟧.seen in IsTrue (is_none time.now) →
+        (delay : Code → ℕ → ℕ) → (seen library.old world.old).gives delay →
+        AllTell (seen library.old world.old) → IsTrue (K.sink_tells out.old) →
         (let setting = setting_in (seen library.old world.old) delay in
         LogsIn setting (login_of setting service.now (option_copied user.entry)
         (state (seen library.old world.old))) result (state (seen library.old world.old))
@@ -97,7 +99,7 @@ pub fn login<K: Sink>(
     // What is modelled before the login is modelled after it.
     ensures sink_tells { K.sink_tells out.new ≡ K.sink_tells out.old }
 {
-    let result = try_login(alloc, library, service, user, out, world);
+    let result = try_login(alloc, library, service, user, time, out, world);
     end_silently(alloc, library, closing_code(result), world);
     result
 }
@@ -108,15 +110,16 @@ fn try_login<K: Sink>(
     library: &mut Library,
     service: &[u8],
     user: Option<&[u8]>,
+    time: &Option<Box<dyn TimeOfDay>>,
     out: &mut K,
     world: &mut World,
 ) -> Result<Verdict, Stop>
     requires service { IsTrue (is_service_name service.now) }
     requires sound { IsSoundIn (⟦<Session as Told>⟧.seen library.old world.old) }
     ensures sink_tells { K.sink_tells out.new ≡ K.sink_tells out.old }
-    ensures told { let seen = ⟦<Session as Told>⟧.seen in (delay : Code → ℕ → ℕ) →
-        (seen library.old world.old).gives delay → AllTell (seen library.old world.old) →
-        IsTrue (K.sink_tells out.old) →
+    ensures told { let seen = ⟦<Session as Told>⟧.seen in IsTrue (is_none time.now) →
+        (delay : Code → ℕ → ℕ) → (seen library.old world.old).gives delay →
+        AllTell (seen library.old world.old) → IsTrue (K.sink_tells out.old) →
         (let setting = setting_in (seen library.old world.old) delay in
         LogsInThen setting as_it_is (login_of setting service.now (option_copied user.entry)
         (state (seen library.old world.old))) result (state (seen library.old world.old))
@@ -139,13 +142,13 @@ fn try_login<K: Sink>(
         Ok(start) => start,
         Err(NoMemory) => return Err(Stop::NoMemory),
     };
-    match make(alloc, library, start, out, world) {
+    match make(alloc, library, start, time, out, world) {
         Err(stop) => Err(stop),
         Ok(answer) => {
             if is_refused(&answer) {
                 Ok(Verdict::Refused)
             } else {
-                log_in(alloc, library, out, world)
+                log_in(alloc, library, time, out, world)
             }
         }
     }
@@ -173,14 +176,15 @@ fn start_of(alloc: Global, service: &[u8], user: Option<&[u8]>) -> Result<AppCal
 fn log_in<K: Sink>(
     alloc: Global,
     library: &mut Library,
+    time: &Option<Box<dyn TimeOfDay>>,
     out: &mut K,
     world: &mut World,
 ) -> Result<Verdict, Stop>
     requires { IsSoundIn (⟦<Session as Told>⟧.seen library.old world.old) }
     ensures sink_tells { K.sink_tells out.new ≡ K.sink_tells out.old }
-    ensures told { let seen = ⟦<Session as Told>⟧.seen in (delay : Code → ℕ → ℕ) →
-        (seen library.old world.old).gives delay → AllTell (seen library.old world.old) →
-        IsTrue (K.sink_tells out.old) →
+    ensures told { let seen = ⟦<Session as Told>⟧.seen in IsTrue (is_none time.now) →
+        (delay : Code → ℕ → ℕ) → (seen library.old world.old).gives delay →
+        AllTell (seen library.old world.old) → IsTrue (K.sink_tells out.old) →
         (let setting = setting_in (seen library.old world.old) delay in
         LogsInThen setting as_it_is (logging_in setting (state (seen library.old world.old))) result
         (state (seen library.old world.old)) (state (seen library.new world.new))
@@ -198,9 +202,17 @@ fn log_in<K: Sink>(
     ensures faults { RisesIf (has_write_fault result) (K.sink_faults out.old)
         (K.sink_faults out.new) }
 {
-    match go_through(alloc, library, &LOGIN_CALLS, Code::Success, out, world) {
+    match go_through(
+        alloc,
+        library,
+        &LOGIN_CALLS,
+        Code::Success,
+        time,
+        out,
+        world,
+    ) {
         Err(stop) => Err(stop),
-        Ok(denied) => final_verdict(alloc, library, denied, out, world),
+        Ok(denied) => final_verdict(alloc, library, denied, time, out, world),
     }
 }
 
@@ -210,14 +222,15 @@ fn final_verdict<K: Sink>(
     alloc: Global,
     library: &mut Library,
     denied: Option<Code>,
+    time: &Option<Box<dyn TimeOfDay>>,
     out: &mut K,
     world: &mut World,
 ) -> Result<Verdict, Stop>
     requires { IsSoundIn (⟦<Session as Told>⟧.seen library.old world.old) }
     ensures sink_tells { K.sink_tells out.new ≡ K.sink_tells out.old }
-    ensures told { let seen = ⟦<Session as Told>⟧.seen in (delay : Code → ℕ → ℕ) →
-        (seen library.old world.old).gives delay → AllTell (seen library.old world.old) →
-        IsTrue (K.sink_tells out.old) →
+    ensures told { let seen = ⟦<Session as Told>⟧.seen in IsTrue (is_none time.now) →
+        (delay : Code → ℕ → ℕ) → (seen library.old world.old).gives delay →
+        AllTell (seen library.old world.old) → IsTrue (K.sink_tells out.old) →
         (let setting = setting_in (seen library.old world.old) delay in
         LogsInThen setting as_it_is
         (login_end setting denied (state (seen library.old world.old))) result
@@ -236,7 +249,7 @@ fn final_verdict<K: Sink>(
     ensures faults { RisesIf (has_write_fault result) (K.sink_faults out.old)
         (K.sink_faults out.new) }
 {
-    match make(alloc, library, end_call(end_code(denied)), out, world) {
+    match make(alloc, library, end_call(end_code(denied)), time, out, world) {
         Err(stop) => Err(stop),
         Ok(_) => match denied {
             None => Ok(Verdict::Passed),

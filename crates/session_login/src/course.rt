@@ -1,4 +1,4 @@
-ghost use Rattle.std.specs.Prelude.{◌≡◌, ℕ, Ok, Some, IsTrue};
+ghost use Rattle.std.specs.Prelude.{◌≡◌, ℕ, Ok, Some, IsTrue, is_none};
 ghost use Rattle.pam_base.specs.declared.code.Code.{Code};
 ghost use Rattle.pam_outside.specs.Counts.{RisesIf};
 ghost use Rattle.session_run.specs.pam_library.specs.Slots.{slot_at};
@@ -14,6 +14,7 @@ use crate::making::make;
 use pam_base::Code;
 use pam_outside::Sink;
 use record_reader::Stop;
+use session_run::TimeOfDay;
 use session_run::pam_library::{Library, Session, Told};
 use session_run::pam_room::World;
 use std::alloc::Global;
@@ -25,14 +26,15 @@ pub(crate) fn go_through<K: Sink>(
     library: &mut Library,
     calls: &[LoginCall],
     last: Code,
+    time: &Option<Box<dyn TimeOfDay>>,
     out: &mut K,
     world: &mut World,
 ) -> Result<Option<Code>, Stop>
     requires { IsSoundIn (⟦<Session as Told>⟧.seen library.old world.old) }
     ensures sink_tells { K.sink_tells out.new ≡ K.sink_tells out.old }
-    ensures told { let seen = ⟦<Session as Told>⟧.seen in (delay : Code → ℕ → ℕ) →
-        (seen library.old world.old).gives delay → AllTell (seen library.old world.old) →
-        IsTrue (K.sink_tells out.old) →
+    ensures told { let seen = ⟦<Session as Told>⟧.seen in IsTrue (is_none time.now) →
+        (delay : Code → ℕ → ℕ) → (seen library.old world.old).gives delay →
+        AllTell (seen library.old world.old) → IsTrue (K.sink_tells out.old) →
         (let setting = setting_in (seen library.old world.old) delay in
         MakesCourse setting (course setting calls.now last (state (seen library.old world.old)))
         result (state (seen library.old world.old)) (state (seen library.new world.new))
@@ -54,14 +56,14 @@ pub(crate) fn go_through<K: Sink>(
         return Ok(None);
     };
     if !call.when.is_due(last) {
-        return go_through(alloc, library, others, last, out, world);
+        return go_through(alloc, library, others, last, time, out, world);
     }
-    match make(alloc, library, call.call(), out, world) {
+    match make(alloc, library, call.call(), time, out, world) {
         Err(stop) => Err(stop),
         Ok(answer) => {
             let code = code_in(&answer);
             if call.accepted.accepts(code) {
-                go_through(alloc, library, others, code, out, world)
+                go_through(alloc, library, others, code, time, out, world)
             } else {
                 Ok(Some(code))
             }

@@ -11,7 +11,7 @@ use Rattle.record_reader.specs.declared.ending.Stop.TheVariants.{NoMemory, Write
 use Rattle.session_login.specs.session_run.specs.Reading.{WritesScript}
 use Rattle.session_login.specs.session_run.specs.State.{setting_of}
 use Rattle.session_wire.specs.frame_stream.specs.declared.fault.FrameFault.{FrameFault}
-use Rattle.session_program.specs.ByCommand.{Around, AuditsSo, ChecksSo, GeneratesSo, GoesBy, IfAllTold, LogsInSo, Object, ReadCauses, ReadsNone, RunsSo, Setup, TalliesSo, WiresSo}
+use Rattle.session_program.specs.ByCommand.{Around, AuditsSo, ChecksSo, GeneratesSo, GoesBy, IfAllTold, LogsInSo, Object, ReadCauses, ReadsNone, ReportsFrames, ReportsScript, RunsSo, Setup, TalliesSo, WiresSo}
 use Rattle.session_check.specs.declared.finding.Checked.{Checked}
 use Rattle.session_check.specs.declared.finding.Checked.TheVariants as founds
 use Rattle.session_generate.specs.declared.generating.Generated.{Generated}
@@ -28,10 +28,10 @@ use Rattle.session_program.specs.Generate.{IsGenerateStatus, generate_status}
 use Rattle.session_program.specs.Login.{IsLoginStatus, login_status}
 use Rattle.session_program.specs.Status.{IsCheckStatus, IsTallyStatus, check_status, tally_status}
 use Rattle.session_program.specs.Command.{Command, runs, checks, logs_in, generates, tallies, audits, wires}
-use Rattle.session_program.specs.Run.{IsStatus, ReadsBy, Runs, opening, status_of}
+use Rattle.session_program.specs.Run.{Completes, IsStatus, ReadsBy, Runs, opening, status_of}
 use Rattle.session_program.specs.Wire.{IsReadThrough, IsWireStatus, ReadsFramesBy, Serves, WireCompletes, wire_status}
 use Rattle.session_program.proofs.Alone.{is_accepted, is_refused}
-use Rattle.session_program.proofs.Telling.{completes_of, done_of, refused_of, unread_of}
+use Rattle.session_program.proofs.Telling.{done_of, refused_of, unread_of}
 use Rattle.session_program.proofs.Wiring.{answered}
 
 -- ---- failures
@@ -54,10 +54,11 @@ module _ (status before now : ℕ) where
 module _ (root : List ℕ) (status : ℕ) (setup : Setup) (world : Around) (input : Object SourceState) (output : Object SinkState) where
   -- a run of a script
   pub runs_so : IfAllTold setup world input output (λ setting. Runs setting status setup.slots root world.old world.new input.old input.new output.old output.new) → IsStatus status
-      → (IsTrue input.tells → ReadsBy status input.old input.new) → (IsTrue output.tells → WritesScript output.old output.new)
-      → (status ≡ 5 → Rose input.faults_before input.faults_after) → (status ≡ 6 → Rose output.faults_before output.faults_after)
+      → (IsTrue input.tells → ReadsBy status input.old input.new)
+      → (IsTrue input.tells → Completes status input.old.left (Rose input.faults_before input.faults_after) (Rose output.faults_before output.faults_after))
+      → (IsTrue output.tells → WritesScript output.old output.new) → (IsTrue output.tells → ReportsScript status setup output.old output.new)
       → RunsSo root status setup world input output
-  runs_so told known reads writes read_fault write_fault = record {
+  runs_so told known reads complete writes reports = record {
     done = λ number given source sink both. λ is.
         done_of (setting_of setup.players number) status setup.slots root world.old world.new input.old input.new output.old output.new (told number given source sink both) is;
     refused = λ number given source sink both. λ is.
@@ -66,22 +67,21 @@ module _ (root : List ℕ) (status : ℕ) (setup : Setup) (world : Around) (inpu
         unread_of (setting_of setup.players number) status setup.slots root world.old world.new input.old input.new output.old output.new (told number given source sink both) is;
     told = told;
     statuses = known;
-    complete = λ number given source sink both.
-        completes_of (setting_of setup.players number) status setup.slots root world.old world.new input.old input.new output.old output.new
-        (Rose input.faults_before input.faults_after) (Rose output.faults_before output.faults_after) (told number given source sink both) read_fault write_fault;
+    complete = complete;
     reads = reads;
     accepted = λ source is. is_accepted status input.old input.new (reads source) is;
     has_refused = λ source is. is_refused status input.old input.new (reads source) is;
     writes = writes;
+    reports = reports;
   }
 
   -- a run of frames
   pub wires_so : IfAllTold setup world input output (λ setting. Serves setting status setup.slots root world.old world.new input.old input.new output.old output.new) → IsWireStatus status
       → (IsTrue input.tells → ReadsFramesBy status input.old input.new)
       → (IsTrue input.tells → WireCompletes status input.old.left (Rose input.faults_before input.faults_after) (Rose output.faults_before output.faults_after))
-      → (IsTrue output.tells → WritesScript output.old output.new) → (IsReadThrough status → input.faults_after ≡ input.faults_before)
+      → (IsTrue output.tells → WritesScript output.old output.new) → (IsTrue output.tells → ReportsFrames status setup output.old output.new) → (IsReadThrough status → input.faults_after ≡ input.faults_before)
       → WiresSo root status setup world input output
-  wires_so told known reads complete writes through = record {
+  wires_so told known reads complete writes reports through = record {
     wire_answered = λ number given source sink both.
         answered (setting_of setup.players number) status setup.slots root world.old world.new input.old input.new output.old output.new (told number given source sink both);
     wire_told = told;
@@ -89,6 +89,7 @@ module _ (root : List ℕ) (status : ℕ) (setup : Setup) (world : Around) (inpu
     wire_reads = reads;
     wire_complete = complete;
     wire_writes = writes;
+    wire_reports = reports;
     wire_no_read_fault = through;
   }
 

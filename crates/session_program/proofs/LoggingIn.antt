@@ -20,6 +20,7 @@ use Rattle.session_program.specs.CleanedUp.{EndsGenerate, EndsLogin}
 use Rattle.session_program.specs.Generate.{GeneratesBy, IsGenerated, generate_status}
 use Rattle.session_program.specs.Login.{IsLogin, ShowsLogin, at_root, entry, login_status}
 use Rattle.session_program.specs.Opened.{IsOpened}
+use Rattle.session_login.proofs.Reporting.{said_unbegun}
 use Rattle.session_program.proofs.Telling.{both_left, both_right, both_true}
 
 module _ (root : List ℕ) (setup : Setup) (old : PlainWorld) (s : Seen) (new : PlainWorld) (ends : List PlainSlot) (service : List ℕ) (user : Option (List ℕ)) (p q : SinkState) where
@@ -41,12 +42,12 @@ module _ (root : List ℕ) (setup : Setup) (old : PlainWorld) (s : Seen) (new : 
       (logged_at (setting_of s.players number) s.slots s.world result status is opened.world_is logs)
 
 -- a library that comes from one setup comes from another one, too, if both give the same
-pub opened_as : (root : List ℕ) (setup other : Setup) (old : PlainWorld) (s : Seen) → setup.players ≡ other.players → setup.slots ≡ other.slots → setup.tells ≡ other.tells
+pub opened_as : (root : List ℕ) (setup other : Setup) (old : PlainWorld) (s : Seen) → setup.players ≡ other.players → setup.slots ≡ other.slots → (IsTrue other.tells → IsTrue setup.tells)
     → ((number : Code → ℕ → ℕ) → other.gives number → setup.gives number) → IsOpened root setup old s → IsOpened root other old s
 opened_as root setup other old s players slots tells gives opened = record {
   players = opened.players ∙ players;
   slots = opened.slots ∙ slots;
-  tells = opened.tells ∙ tells;
+  tells = λ both. opened.tells (tells both);
   gives = λ number given. opened.gives number (gives number given);
   world_is = opened.world_is;
   none_open = opened.none_open;
@@ -55,11 +56,12 @@ opened_as root setup other old s players slots tells gives opened = record {
 }
 
 -- if an allocation fails nothing is written
-pub nothing_shown : (status : ℕ) (p : SinkState) → status ≡ 4 → ShowsLogin status p p
-nothing_shown status p is = record {
+pub nothing_shown : (service : List ℕ) (user : Option (List ℕ)) (status : ℕ) (p : SinkState) → status ≡ 4 → ShowsLogin service user status p p
+nothing_shown service user status p is = record {
   result = Err NoMemory;
   is = is;
   shows = record { text = []; written = sym (append-nil p.written); calls = omega arith; calls_ok = tt; says = tt };
+  reports = said_unbegun service user NoMemory p;
 }
 
 -- the ends of a login and of a generation, by the status
@@ -71,17 +73,17 @@ ends_generate result status is number ended e = (result, is, e)
 
 -- a login, over a library of a setup that gives the same
 pub logs_in_so : (root service : List ℕ) (user : Option (List ℕ)) (status : ℕ) (setup : Setup) (world : Around) (output : Object SinkState) (given : Setup) (s : Seen) (ends : List PlainSlot) (result : Result Verdict Stop)
-    → IsOpened root given world.old s → given.players ≡ setup.players → given.slots ≡ setup.slots → given.tells ≡ setup.tells
+    → IsOpened root given world.old s → given.players ≡ setup.players → given.slots ≡ setup.slots → (IsTrue setup.tells → IsTrue given.tells)
     → ((number : Code → ℕ → ℕ) → setup.gives number → given.gives number) → s.world_tells ≡ world.tells → status ≡ login_status result
-    → ((number : Code → ℕ → ℕ) → s.gives number → IsTrue (s.tells && s.world_tells) → IsTrue output.tells
+    → (IsTrue setup.tells → (number : Code → ℕ → ℕ) → s.gives number → IsTrue (s.tells && s.world_tells) → IsTrue output.tells
     → LogsIn (setting_of s.players number) (login_of (setting_of s.players number) service user (state_of s.slots s.world)) result (state_of s.slots s.world) (state_of ends world.new) output.old output.new)
-    → (IsTrue output.tells → ShowsLogin status output.old output.new)
+    → (IsTrue output.tells → ShowsLogin service user status output.old output.new)
     → LogsInSo root service user status setup world output
 logs_in_so root service user status setup world output given s ends result opened players slots tells gives world_tells is told shows = record {
   logged_in = λ number gives_it sink both.
       let library : IsOpened root setup world.old s = opened_as root given setup world.old s players slots tells gives opened in
       inl (logged_in root setup world.old s world.new ends service user output.old output.new number result status is library
-      (told number (library.gives number gives_it) (both_true s.tells s.world_tells (library.tells ∙ both_right world.tells setup.tells both) (world_tells ∙ both_left world.tells setup.tells both)) sink));
+      (told (both_right world.tells setup.tells both) number (library.gives number gives_it) (both_true s.tells s.world_tells (library.tells (both_right world.tells setup.tells both)) (world_tells ∙ both_left world.tells setup.tells both)) sink));
   login_shows = shows;
   login_statuses = (result, is);
 }
@@ -91,7 +93,7 @@ pub logs_in_not : (root service : List ℕ) (user : Option (List ℕ)) (status :
     → LogsInSo root service user status setup world output
 logs_in_not root service user status setup world output four same written = record {
   logged_in = λ number gives sink both. inr (record { is = four; world = same; sink = written });
-  login_shows = λ sink. subst (λ (q : SinkState). ShowsLogin status output.old q) (sym written) (nothing_shown status output.old four);
+  login_shows = λ sink. subst (λ (q : SinkState). ShowsLogin service user status output.old q) (sym written) (nothing_shown service user status output.old four);
   login_statuses = (Err NoMemory, four);
 }
 

@@ -15,6 +15,7 @@ use Rattle.record_reader.specs.declared.ending.Ending.{Ending as StreamEnding}
 use Rattle.record_reader.specs.declared.ending.Ending.TheVariants.{Done, ReadFault, Refused}
 use Rattle.record_reader.specs.declared.ending.Stop.{Stop}
 use Rattle.record_reader.specs.declared.ending.Stop.TheVariants.{NoMemory, WriteFault}
+use Rattle.session_login.specs.session_run.specs.Made.{ReportsRun}
 use Rattle.session_login.specs.session_run.specs.Run.{RunTold}
 use Rattle.session_login.specs.session_run.specs.State.{Setting, RunState, setting_of, state_of}
 use Rattle.session_login.specs.session_run.specs.Whole.{RunsScript}
@@ -23,7 +24,7 @@ use Rattle.session_program.specs.ByCommand.{Setup}
 use Rattle.session_program.specs.Login.{at_root}
 use Rattle.session_program.specs.Opened.{IsOpened}
 use Rattle.session_program.specs.Under.{IsBegunSo}
-use Rattle.session_program.specs.Run.{Completes, IsDone, IsRefused, IsReset, IsUnread, Runs, opening, status_of, under_root}
+use Rattle.session_program.specs.Run.{IsDone, IsRefused, IsReset, IsUnread, Runs, opening, status_of, under_root}
 use Rattle.session_program.proofs.Statuses.{done_whole, refused_whole, unread_whole}
 
 pub both_left : (a b : Bool) → IsTrue (a && b) → IsTrue a
@@ -33,6 +34,13 @@ both_left false b both = both
 pub both_right : (a b : Bool) → IsTrue (a && b) → IsTrue b
 both_right true b both = both
 both_right false b both = absurd (cc)
+
+-- the reports of a run, with other names for its modules and slots
+pub reports_as : {Kind : Type 0} (wrapped : List ℕ → List ℕ) (last_text : StreamEnding Kind → ℕ → Option (List ℕ)) (result : Result (StreamEnding Kind) Stop) (p q : SinkState)
+    → (players others : List Player) → players ≡ others → (slots places : List PlainSlot) → slots ≡ places
+    → ReportsRun wrapped last_text players result slots p q → ReportsRun wrapped last_text others result places p q
+reports_as wrapped last_text result p q players others same slots places alike reports =
+    subst₂ (λ (ps : List Player) (ss : List PlainSlot). ReportsRun wrapped last_text ps result ss p q) same alike reports
 
 pub both_true : (a b : Bool) → IsTrue a → IsTrue b → IsTrue (a && b)
 both_true true b left right = right
@@ -121,15 +129,6 @@ module _ (setting : Setting) (start end : RunState) (x y : SourceState) (p q : S
   unread_by (Err NoMemory) none_yet ran is = absurd (omega (arith, is))
   unread_by (Err WriteFault) none_yet ran is = absurd (omega (arith, is))
 
-  completes_by : (R W : Type 0) (result : Result Ending Stop) → RunsScript setting result start end x y p q → (status_of result ≡ 5 → R) → (status_of result ≡ 6 → W) → Completes (status_of result) R W setting start x
-  completes_by R W (Ok Done) ran read write accepted no_read no_write = inl refl
-  completes_by R W (Ok ReadFault) ran read write accepted no_read no_write = absurd (no_read (read refl))
-  completes_by R W (Ok (Refused kind)) ran read write accepted no_read no_write =
-      let e : None ≡ Some kind = sym accepted ∙ ap (λ r. r.refused) ran.outcome.comes.0 in
-      absurd (cc)
-  completes_by R W (Err NoMemory) ran read write accepted no_read no_write = inr refl
-  completes_by R W (Err WriteFault) ran read write accepted no_read no_write = absurd (no_write (write refl))
-
 module _ (setting : Setting) (status : ℕ) (slots : List PlainSlot) (root : List ℕ) (old new : PlainWorld) (x y : SourceState) (p q : SinkState) where
   pub done_of : Runs setting status slots root old new x y p q → status ≡ 0 → IsDone setting (opening slots root old) new x y p q
   done_of (inl b) is = subst (λ (w : PlainWorld). IsDone setting (opening slots root old) w x y p q) (sym b.world_is) (done_by setting (opening slots root old) b.end x y p q b.result b.none_yet b.runs (sym b.is ∙ is))
@@ -142,9 +141,3 @@ module _ (setting : Setting) (status : ℕ) (slots : List PlainSlot) (root : Lis
   pub unread_of : Runs setting status slots root old new x y p q → status ≡ 5 → IsUnread setting (opening slots root old) new x y p q
   unread_of (inl b) is = subst (λ (w : PlainWorld). IsUnread setting (opening slots root old) w x y p q) (sym b.world_is) (unread_by setting (opening slots root old) b.end x y p q b.result b.none_yet b.runs (sym b.is ∙ is))
   unread_of (inr n) is = absurd (omega (arith, n.0, is))
-
-  pub completes_of : (R W : Type 0) → Runs setting status slots root old new x y p q → (status ≡ 5 → R) → (status ≡ 6 → W) → Completes status R W setting (opening slots root old) x
-  completes_of R W (inl b) read write =
-      subst (λ (n : ℕ). Completes n R W setting (opening slots root old) x) (sym b.is)
-      (completes_by setting (opening slots root old) b.end x y p q R W b.result b.runs (λ e. read (b.is ∙ e)) (λ e. write (b.is ∙ e)))
-  completes_of R W (inr n) read write = λ accepted no_read no_write. inr n.0

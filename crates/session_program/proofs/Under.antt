@@ -1,5 +1,5 @@
 -- What the status of a run under a root says, for a script and for frames.
-use Rattle.std.proofs.Common.{◌≡◌, ◌≢◌, ◌⊎◌, inl, inr, ℕ, List, Some, Result, Ok, Err, IfOk, refl, sym, ap, ◌∙◌, subst, arith}
+use Rattle.std.proofs.Common.{◌≡◌, ◌≢◌, ◌⊎◌, inl, inr, ℕ, List, Some, Result, Ok, Err, IfOk, IsTrue, refl, sym, ap, ◌∙◌, subst, arith}
 use Rattle.pam_base.specs.declared.fault.ScriptKind.{ScriptKind}
 use Rattle.pam_outside.specs.Counts.{RisesIf, Rose}
 use Rattle.pam_outside.specs.Streams.{SourceState, SinkState}
@@ -15,14 +15,18 @@ use Rattle.session_login.specs.session_run.specs.Ends.{IsEndOfRun}
 use Rattle.session_login.specs.session_run.specs.Reading.{ReadsScript}
 use Rattle.session_login.specs.session_run.specs.SideBySide.{NumbersStandApart}
 use Rattle.session_login.specs.session_run.specs.State.{Setting}
-use Rattle.session_login.specs.session_run.specs.Whole.{Completes, RunsScript}
+use Rattle.session_login.specs.session_run.specs.Made.{ReportsRun}
+use Rattle.session_login.specs.session_run.specs.Script.{as_it_is}
+use Rattle.session_login.specs.session_run.specs.Whole.{Completes, RunsScript, script_last}
+use Rattle.session_wire.specs.pam_wire.specs.Frame.{answer_of}
+use Rattle.session_wire.specs.Answered.{nothing_last}
 use Rattle.session_wire.specs.frame_stream.specs.declared.fault.FrameFault.{FrameFault}
 use Rattle.session_wire.specs.frame_stream.specs.declared.fault.FrameFault.TheVariants.{BadFrame, TooManyFrames}
 use Rattle.session_wire.specs.Ends.{IsEndOfRun as IsEndOfFrames}
 use Rattle.session_wire.specs.Reading.{ReadsFrames}
 use Rattle.session_wire.specs.Whole.{Completes as FramesComplete, RunsAnswered}
 use Rattle.session_program.specs.ByCommand.{Around, ReadCauses, RunsSo, Setup, WiresSo, WriteCauses}
-use Rattle.session_program.specs.Run.{ReadsBy, Runs, opening, status_of}
+use Rattle.session_program.specs.Run.{Completes as CompletesBy, ReadsBy, Runs, opening, status_of}
 use Rattle.session_program.specs.Under.{IsBegunSo, ReadsOrNot, RunsOrNot, RunsUnder}
 use Rattle.session_program.specs.Wire.{ReadsFramesBy, Serves, wire_status}
 use Rattle.session_program.proofs.Alone.{nothing_read}
@@ -71,20 +75,28 @@ module _ (setting : Setting) (result : Result (Ending ScriptKind) Stop) (status 
   })
   script_told apart (inr n) = inr (is ∙ ap status_of n.0, n.1)
 
+module _ (result : Result (Ending ScriptKind) Stop) (status : ℕ) (is : status ≡ status_of result) where
+  by_either : (result ≡ Ok Done) ⊎ (result ≡ Err NoMemory) → (status ≡ 0) ⊎ (status ≡ 4)
+  by_either (inl e) = inl (is ∙ ap status_of e)
+  by_either (inr e) = inr (is ∙ ap status_of e)
+
+  script_completes : (input : List ℕ) (R W : Type 0) → Completes result input R W → CompletesBy status input R W
+  script_completes input R W complete = λ accepted no_read no_write. by_either (complete accepted no_read no_write)
+
 script_read : (result : Result (Ending ScriptKind) Stop) (status : ℕ) → status ≡ status_of result → (x y : SourceState) → ReadsOrNot ReadsScript result x y → ReadsBy status x y
 script_read result status is x y (inl r) = record { result = result; is = is; reads = r }
 script_read result status is x y (inr n) = subst (λ (z : SourceState). ReadsBy status x z) (sym n.1) (nothing_read status x (is ∙ ap status_of n.0))
 
 module _ (root : List ℕ) (result : Result (Ending ScriptKind) Stop) (status : ℕ) (is : status ≡ status_of result) (setup : Setup) (world : Around) (input : Object SourceState) (output : Object SinkState) (u : RunsUnder RunsScript ReadsScript Completes IsEndOfRun root result setup world input output) where
-  pub script_so : NumbersStandApart → RunsSo root status setup world input output
-  script_so apart =
+  pub script_so : NumbersStandApart → (IsTrue output.tells → ReportsRun as_it_is script_last setup.players result setup.slots output.old output.new) → RunsSo root status setup world input output
+  script_so apart reports =
       runs_so root status setup world input output
       (λ number given source sink both. script_told _ result status is setup.slots root world.old world.new input.old input.new output.old output.new apart (u.told number given source sink both))
       (result, is)
       (λ source. script_read result status is input.old input.new (u.reads source))
+      (λ source. script_completes result status is input.old.left (Rose input.faults_before input.faults_after) (Rose output.faults_before output.faults_after) (u.complete source))
       u.writes
-      (run_read_fault status input.faults_before input.faults_after result is u.source_faults)
-      (run_write_fault status output.faults_before output.faults_after result is u.sink_faults)
+      (λ sink. record { result = result; is = is; reports = reports sink })
 
   pub script_read_causes : ReadCauses status input
   script_read_causes = record {
@@ -137,14 +149,15 @@ frames_read result status is x y (inl r) = read_by result status is x y r
 frames_read result status is x y (inr n) = subst (λ (z : SourceState). ReadsFramesBy status x z) (sym n.1) (no_frame_read status x (is ∙ ap wire_status n.0))
 
 module _ (root : List ℕ) (result : Result (Ending FrameFault) Stop) (status : ℕ) (is : status ≡ wire_status result) (setup : Setup) (world : Around) (input : Object SourceState) (output : Object SinkState) (u : RunsUnder RunsAnswered ReadsFrames FramesComplete IsEndOfFrames root result setup world input output) where
-  pub frames_so : WiresSo root status setup world input output
-  frames_so =
+  pub frames_so : (IsTrue output.tells → ReportsRun answer_of nothing_last setup.players result setup.slots output.old output.new) → WiresSo root status setup world input output
+  frames_so reports =
       wires_so root status setup world input output
       (λ number given source sink both. frames_told _ result status is setup.slots root world.old world.new input.old input.new output.old output.new (u.told number given source sink both))
       (result, is)
       (λ source. frames_read result status is input.old input.new (u.reads source))
       (λ source. completes_by result status is input.old.left (Rose input.faults_before input.faults_after) (Rose output.faults_before output.faults_after) (u.complete source))
       u.writes
+      (λ sink. record { result = result; is = is; reports = reports sink })
       (through result status is input.faults_before input.faults_after u.source_faults)
 
   pub frames_read_causes : ReadCauses status input

@@ -1,7 +1,16 @@
 -- What the program promises for each command: a record for each, about what its objects hold before
 -- and after it (this project's own).
-use Rattle.std.specs.Prelude.{◌≡◌, ◌≢◌, ◌⊎◌, ◌≤◌, ◌<◌, ◌^◌, ◌&&◌, ℕ, Bool, List, [], IsTrue, Option, Some, None}
+use Rattle.std.specs.Prelude.{◌≡◌, ◌≢◌, ◌⊎◌, ◌≤◌, ◌<◌, ◌^◌, ◌&&◌, ℕ, Bool, List, [], IsTrue, Option, Some, None, Result}
 use Rattle.pam_base.specs.declared.code.Code.{Code}
+use Rattle.pam_base.specs.declared.fault.ScriptKind.{ScriptKind}
+use Rattle.record_reader.specs.declared.ending.Ending.{Ending}
+use Rattle.record_reader.specs.declared.ending.Stop.{Stop}
+use Rattle.session_login.specs.session_run.specs.Made.{ReportsRun}
+use Rattle.session_login.specs.session_run.specs.Script.{as_it_is}
+use Rattle.session_login.specs.session_run.specs.Whole.{script_last}
+use Rattle.session_wire.specs.frame_stream.specs.declared.fault.FrameFault.{FrameFault}
+use Rattle.session_wire.specs.pam_wire.specs.Frame.{answer_of}
+use Rattle.session_wire.specs.Answered.{nothing_last}
 use Rattle.data_cleanup.specs.Ledger.{PlainLedger}
 use Rattle.fail_delay.specs.DelayFn.{GivesOneNumber}
 use Rattle.fail_delay.specs.declared.delay_fn.TheConstants.{LONGEST_ASKED}
@@ -24,14 +33,14 @@ use Rattle.session_program.specs.Audit.{AuditsBy, IsAuditStatus, ReadsAudited}
 use Rattle.session_program.specs.Command.{Command, runs, checks, logs_in, generates, tallies, audits, wires}
 use Rattle.session_program.specs.Generate.{GeneratesBy, IsGenerateStatus}
 use Rattle.session_program.specs.Login.{IsLoginStatus, LogsInBy, ShowsLogin}
-use Rattle.session_program.specs.Run.{Completes, HasRefused, IsAccepted, IsDone, IsRefused, IsStatus, IsUnread, ReadsBy, Runs, opening}
+use Rattle.session_program.specs.Run.{Completes, HasRefused, IsAccepted, IsDone, IsRefused, IsStatus, IsUnread, ReadsBy, Runs, opening, status_of}
 use Rattle.session_program.specs.Status.{CallsOnce, ChecksBy, CountsUnread, FindsBy, FindsTally, IsCheckStatus, IsTallyStatus, TalliesBy, WritesUsage}
-use Rattle.session_program.specs.Wire.{AnswersBy, IsReadThrough, IsWireStatus, ReadsFramesBy, Serves, WireCompletes}
+use Rattle.session_program.specs.Wire.{AnswersBy, IsReadThrough, IsWireStatus, ReadsFramesBy, Serves, WireCompletes, wire_status}
 
 -- ---- what a command gets, and what it leaves
 
 -- the modules, the closed slots that the conversations make, which numbers the delay function gives, and whether the
--- conversations are modelled
+-- conversations are modelled and nothing gives the time of day
 pub record Setup : Type 1 where
   pub players : List Player
   pub slots : List PlainSlot
@@ -80,6 +89,20 @@ IfAllTold setup world input output Holds =
     (number : Code → ℕ → ℕ) → setup.gives number → IsTrue input.tells → IsTrue output.tells
     → IsTrue (world.tells && setup.tells) → Holds (setting_of setup.players number)
 
+-- ---- the reports of a run
+
+-- What was written is the reports of calls that the library made, one after another, whatever the other objects are: the
+-- code of a stack call, and what is held after it, are those to which the lines lead that its report lists.
+pub record ReportsScript (status : ℕ) (setup : Setup) (p q : SinkState) : Type 0 where
+  pub result : Result (Ending ScriptKind) Stop
+  pub is : status ≡ status_of result
+  pub reports : ReportsRun as_it_is script_last setup.players result setup.slots p q
+
+pub record ReportsFrames (status : ℕ) (setup : Setup) (p q : SinkState) : Type 0 where
+  pub result : Result (Ending FrameFault) Stop
+  pub is : status ≡ wire_status result
+  pub reports : ReportsRun answer_of nothing_last setup.players result setup.slots p q
+
 -- ---- run ROOT
 
 pub record RunsSo (root : List ℕ) (status : ℕ) (setup : Setup) (world : Around)
@@ -103,17 +126,16 @@ pub record RunsSo (root : List ℕ) (status : ℕ) (setup : Setup) (world : Arou
   pub told : IfAllTold setup world input output (λ setting. Runs setting status setup.slots root
       world.old world.new input.old input.new output.old output.new)
   pub statuses : IsStatus status
-  -- A run stops early only if an allocation, a read or a write fails.
-  pub complete : IfAllTold setup world input output (λ setting. Completes status
+  -- If only the source is modelled: the run stops early only if an allocation, a read or a write fails; there was at
+  -- most one read more than bytes were read; and what the status says about the script's bytes. If only the sink is:
+  -- there was at most one write more than bytes were written.
+  pub complete : IsTrue input.tells → Completes status input.old.left
       (Rose input.faults_before input.faults_after) (Rose output.faults_before output.faults_after)
-      setting (opening setup.slots root world.old) input.old)
-  -- If only the source is modelled: there was at most one read more than bytes were read, and what
-  -- the status says about the script's bytes. If only the sink is: there was at most one write more
-  -- than bytes were written.
   pub reads : IsTrue input.tells → ReadsBy status input.old input.new
   pub accepted : IsTrue input.tells → status ≡ 0 → IsAccepted input.old.left input.new.left
   pub has_refused : IsTrue input.tells → status ≡ 7 → HasRefused input.old.left
   pub writes : IsTrue output.tells → WritesScript output.old output.new
+  pub reports : IsTrue output.tells → ReportsScript status setup output.old output.new
 
 -- ---- check ROOT SERVICE
 
@@ -140,7 +162,8 @@ pub record LogsInSo (root service : List ℕ) (user : Option (List ℕ)) (status
   -- the one after it. With 0, 3 and 8 all of it is written.
   pub logged_in : IfTold setup world output (λ setting. LogsInBy setting status setup.slots root
       service user world.old world.new output.old output.new)
-  pub login_shows : IsTrue output.tells → ShowsLogin status output.old output.new
+  -- If only the sink is: its lines, whatever the other objects are.
+  pub login_shows : IsTrue output.tells → ShowsLogin service user status output.old output.new
   pub login_statuses : IsLoginStatus status
 
 -- ---- generate SEED LINES
@@ -206,6 +229,7 @@ pub record WiresSo (root : List ℕ) (status : ℕ) (setup : Setup) (world : Aro
   pub wire_complete : IsTrue input.tells → WireCompletes status input.old.left
       (Rose input.faults_before input.faults_after) (Rose output.faults_before output.faults_after)
   pub wire_writes : IsTrue output.tells → WritesScript output.old output.new
+  pub wire_reports : IsTrue output.tells → ReportsFrames status setup output.old output.new
   pub wire_no_read_fault : IsReadThrough status → input.faults_after ≡ input.faults_before
 
 -- ---- no command

@@ -8,6 +8,7 @@ use Rattle.record_reader.specs.declared.ending.Stop.TheVariants.{NoMemory, Write
 use Rattle.session_login.specs.declared.attempt.Verdict.{Verdict}
 use Rattle.session_login.specs.declared.attempt.Verdict.TheVariants.{Passed, Denied, Refused}
 use Rattle.session_login.specs.Login.{login_of}
+use Rattle.session_login.specs.Reported.{Reports, SaysLogin}
 use Rattle.session_login.specs.Told.{LogsIn, SaysVerdict, WritesLines}
 use Rattle.session_login.specs.session_run.specs.State.{Setting, RunState, state_of}
 
@@ -56,8 +57,11 @@ LogsInBy setting status slots root service user old new p q =
     IsLogin setting status service user (entry slots root old) new p q
     ⊎ IsNoLogin status old new p q
 
--- if only the sink is modelled: how often it was written, and what the verdict is written as
-pub record ShowsLogin (status : ℕ) (p q : SinkState) : Type 0 where
+-- If only the sink is modelled: how often it was written, and what the verdict is written as; and that what is written is
+-- a line for each call with its result, and the verdict is the one that these results lead to.
+pub record ShowsLogin (service : List ℕ) (user : Option (List ℕ)) (status : ℕ) (p q : SinkState) : Type
+    0 where
   pub result : Result Verdict Stop
   pub is : status ≡ login_status result
   pub shows : WritesLines SaysVerdict result p q
+  pub reports : Reports (SaysLogin service user) result p q

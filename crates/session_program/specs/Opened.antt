@@ -1,5 +1,5 @@
 -- A library that a command opens, over a world under its root (this project's own).
-use Rattle.std.specs.Prelude.{◌≡◌, ℕ, List, []}
+use Rattle.std.specs.Prelude.{◌≡◌, ℕ, List, [], IsTrue}
 use Rattle.pam_base.specs.declared.code.Code.{Code}
 use Rattle.data_cleanup.specs.Stands.{StandFor}
 use Rattle.pam_room.specs.Module.{notes_of}
@@ -15,7 +15,7 @@ pub record IsOpened (root : List ℕ) (setup : Setup) (before : PlainWorld) (see
     0 where
   pub players : seen.players ≡ setup.players
   pub slots : seen.slots ≡ setup.slots
-  pub tells : seen.tells ≡ setup.tells
+  pub tells : IsTrue setup.tells → IsTrue seen.tells
   pub gives : (number : Code → ℕ → ℕ) → setup.gives number → seen.gives number
   pub world_is : seen.world ≡ at_root root before
   pub none_open : NoneIsOpenIn seen

@@ -136,9 +136,9 @@ Runs setting status slots root old new x y p q =
     ⊎ ((status ≡ 4) × IsNotBegun old new x y p q)
 
 -- if no line of a modelled script is refused and nothing failed, it is run, or out of memory
-abbrev pub Completes : ℕ → Type 0 → Type 0 → Setting → RunState → SourceState → Type 0
-Completes status read_failed write_failed setting start x =
-    (run_over setting start x.left true).refused ≡ None → (read_failed → ⊥) → (write_failed → ⊥)
+abbrev pub Completes : ℕ → List ℕ → Type 0 → Type 0 → Type 0
+Completes status script read_failed write_failed =
+    refused_in script true ≡ None → (read_failed → ⊥) → (write_failed → ⊥)
     → (status ≡ 0) ⊎ (status ≡ 4)
 
 abbrev pub IsStatus : ℕ → Type 0

@@ -3,16 +3,19 @@ ghost use Rattle.std.specs.Prelude.{◌≡◌, ◌<◌, length};
 use fail_delay::DelayRule;
 use pam_room::Module;
 use pam_room::conv_port::Conv;
+use session_login::session_run::TimeOfDay;
 use std::mem;
 
 /// The inputs of the program, which an application provides: the modules, a conversation for each
-/// of sixteen transactions, the conversation at the terminal for a login, and its delay function.
+/// of sixteen transactions, the conversation at the terminal for a login, its delay function, and the time of day. Without
+/// a time of day the world's clock changes only by what a script sets.
 #[derive(Drop)]
 pub struct Desk {
     pub mods: Vec<Box<dyn Module>>,
     pub convs: Vec<Box<dyn Conv>>,
     pub term: Box<dyn Conv>,
     pub delay: DelayRule,
+    pub time: Option<Box<dyn TimeOfDay>>,
 }
 
 /// What contracts see of a `Desk`.
@@ -27,7 +30,7 @@ pub trait DeskTold {
 }
 
 impl DeskTold for Desk {
-    ghost use Rattle.std.specs.Prelude.{map, slice_set};
+    ghost use Rattle.std.specs.Prelude.{◌&&◌, is_none, map, slice_set};
     ghost use Rattle.std.specs.List.{list_all};
     ghost use Rattle.fail_delay.specs.DelayFn.{IsNumberGiven};
     ghost use Rattle.session_check.specs.pam_library.specs.Slots.{closed};
@@ -39,7 +42,7 @@ impl DeskTold for Desk {
           (Module-box b).breaks b.value)) d.mods.items;
       slots = map (λ b. closed ((Conv-box b).conv_holds b.value)) d.convs.items;
       gives = IsNumberGiven (DelayRule.post d.delay);
-      tells = list_all (λ b. (Conv-box b).conv_tells b.value) d.convs.items;
+      tells = is_none d.time && list_all (λ b. (Conv-box b).conv_tells b.value) d.convs.items;
     } };
 
     ghost at_terminal = { λ d. record {
@@ -49,7 +52,8 @@ impl DeskTold for Desk {
       slots = map (λ b. closed ((Conv-box b).conv_holds b.value))
           (slice_set d.convs.items 0 d.term);
       gives = IsNumberGiven (DelayRule.post d.delay);
-      tells = list_all (λ b. (Conv-box b).conv_tells b.value) (slice_set d.convs.items 0 d.term);
+      tells = is_none d.time
+          && list_all (λ b. (Conv-box b).conv_tells b.value) (slice_set d.convs.items 0 d.term);
     } };
 }
 
@@ -65,12 +69,14 @@ pub(crate) fn with_terminal(desk: Desk) -> Desk
     ensures sixteen { length result.convs.items ≡ length desk.convs.items }
     ensures mods { result.mods ≡ desk.mods }
     ensures delay { result.delay ≡ desk.delay }
+    ensures time { result.time ≡ desk.time }
 {
     let Desk {
         mods,
         convs,
         term,
         delay,
+        time,
     } = desk;
     let mut convs = convs;
     let queue = mem::replace(&mut convs[0], term);
@@ -79,5 +85,6 @@ pub(crate) fn with_terminal(desk: Desk) -> Desk
         convs,
         term: queue,
         delay,
+        time,
     }
 }

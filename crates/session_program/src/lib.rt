@@ -20,4 +20,5 @@ mod usage;
 pub use desk::{Desk, DeskTold};
 pub use outside::{Outside, OutsideTold};
 pub use program::pamsess;
+pub use session_login::session_run::TimeOfDay;
 pub use session_tally::mod_tally;

@@ -42,11 +42,29 @@ pub(crate) fn log_in<K: Sink>(
 {
     session_login::session_run::laws::proceeding_stands();
     let desk = with_terminal(desk);
+    let Desk {
+        mods,
+        convs,
+        term,
+        delay,
+        time,
+    } = desk;
+    let desk = Desk {
+        mods,
+        convs,
+        term,
+        delay,
+        time: None,
+    };
     match library_under(alloc, root, desk, world) {
-        Err(NoMemory) => status_of_login(Err(Stop::NoMemory)),
+        Err(NoMemory) => {
+            drop(time);
+            status_of_login(Err(Stop::NoMemory))
+        }
         Ok(library) => {
             let mut library = library;
-            let verdict = login(alloc, &mut library, service, user, out, world);
+            let verdict = login(alloc, &mut library, service, user, &time, out, world);
+            drop(time);
             library.dismiss();
             status_of_login(verdict)
         }

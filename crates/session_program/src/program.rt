@@ -61,6 +61,9 @@ use std::alloc::Global;
 /// Whatever it returns, every transaction that is open is ended before: with SUCCESS, BUF_ERR (4), SYSTEM_ERR (5 and
 /// 6) or ABORT (7, 13 and 14).
 ///
+/// With a time of day in `desk`, the world's clock is set to it before each call of `run`, `login` and `wire`. Otherwise it
+/// changes only by what a script sets.
+///
 /// For each code and each requested delay of at most 90 seconds, the delay function must always return the same
 /// number, at most 60 seconds.
 pub fn pamsess<S: Source, K: Sink>(

@@ -1,4 +1,5 @@
-ghost use Rattle.std.specs.Prelude.{length};
+ghost use Rattle.std.specs.Prelude.{IsTrue, length};
+ghost use Rattle.session_login.specs.session_run.specs.Made.{ReportsRun};
 ghost use Rattle.session_program.specs.ByCommand.{IsReady, object_of};
 ghost use Rattle.session_program.specs.Under.{RunsUnder};
 
@@ -25,19 +26,40 @@ pub(crate) fn run_under<P: Protocol, S: Source, K: Sink>(
 ) -> Result<Ending<P::Kind>, Stop>
     requires { IsReady (length desk.convs.items) (length desk.mods.items)
         (DelayRule.pre desk.delay) (DelayRule.post desk.delay) world.old.process.ledger }
-    ensures { RunsUnder P.runs P.reads P.completes P.is_end root.now result
+    ensures under { RunsUnder P.runs P.reads P.completes P.is_end root.now result
         (⟦<Desk as DeskTold>⟧.given desk) (⟦<Outside as OutsideTold>⟧.around world.old world.new)
         (object_of S.source_tells S.source_holds S.source_faults script.old script.new)
         (object_of K.sink_tells K.sink_holds K.sink_faults out.old out.new) }
+    ensures reports { IsTrue (K.sink_tells out.old) →
+        ReportsRun P.wrapped P.last_text (⟦<Desk as DeskTold>⟧.given desk).players result
+        (⟦<Desk as DeskTold>⟧.given desk).slots (K.sink_holds out.old) (K.sink_holds out.new) }
 {
     session_login::session_run::laws::proceeding_stands();
     P::ends();
+    let Desk {
+        mods,
+        convs,
+        term,
+        delay,
+        time,
+    } = desk;
+    let desk = Desk {
+        mods,
+        convs,
+        term,
+        delay,
+        time: None,
+    };
     match library_under(alloc, root, desk, world) {
-        Err(NoMemory) => Err(Stop::NoMemory),
+        Err(NoMemory) => {
+            drop(time);
+            Err(Stop::NoMemory)
+        }
         Ok(library) => {
             reset_clock(world);
             let mut library = library;
-            let result = run_stream::<P, S, K>(alloc, &mut library, script, out, world);
+            let result = run_stream::<P, S, K>(alloc, &mut library, &time, script, out, world);
+            drop(time);
             library.dismiss();
             result
         }

@@ -19,5 +19,6 @@ pub mod Happening
 pub mod Walking
 pub mod Cutting
 pub mod Consuming
+pub mod Making
 mod Refusing
 mod Filewise

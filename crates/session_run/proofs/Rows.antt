@@ -7,13 +7,13 @@ use Rattle.pam_base.specs.declared.fault.ScriptKind.TheVariants.{BadWord}
 use Rattle.pam_base.specs.Lines.{cut, lines_of}
 use Rattle.pam_base.specs.Words.{words_of}
 use Rattle.pam_outside.specs.Paths.{path_of}
-use Rattle.pam_outside.specs.Files.{File}
+use Rattle.pam_outside.specs.Files.{File, no_locks}
 use Rattle.session_report.specs.conf_lex.specs.Answer.{answer_to}
 use Rattle.session_report.specs.conf_lex.specs.Lexing.{answer_at}
 use Rattle.session_report.specs.conf_lex.specs.Reading.{first_piece, pieces_behind}
 use Rattle.pam_base.specs.declared.code.Code.TheVariants as Code
 use Rattle.session_report.specs.pam_room.specs.Call.{PlainCall}
-use Rattle.session_report.specs.pam_room.specs.Module.{NamedData, Player, SeenRoom, Sight, length_note, never_breaks}
+use Rattle.session_report.specs.pam_room.specs.Module.{NamedData, Player, SeenRoom, Sight, length_note, never_breaks, same_locks}
 use Rattle.session_report.specs.pam_room.specs.State.{PlainWorld}
 use Rattle.session_report.specs.service_load.specs.Entry.{entry_of}
 use Rattle.session_report.specs.service_load.specs.FirstFault.{look}
@@ -40,7 +40,7 @@ places = replicate 16 (closed (record { offers = []; waits = false; handed = [] 
 
 world : PlainWorld
 world = record {
-  vault = record { files = []; calls = 0; fails = [] };
+  vault = record { files = []; locks = no_locks; calls = 0; fails = [] };
   clock = record { moment = 0; word = 0; draws = 0 };
   nap = record { waits = 0; sum = 0 };
   process = record { ledger = record { births = []; filed = [] }; root = codes "/r"; caller = 0 };
@@ -77,7 +77,7 @@ end_behind_a_refused_line = λ told. inl (inl (Refused BadWord, refl))
 abbrev sets_datum : Player
 sets_datum = record {
   name = codes "p";
-  plays = λ (call : PlainCall) (room : SeenRoom) (datums : List NamedData) (sight : Sight). record { code = Code.Success; room = room; births = record { name = codes "a"; payload = codes "x" } ∷ []; files = sight.files; calls = 0; draws = 0 };
+  plays = λ (call : PlainCall) (room : SeenRoom) (datums : List NamedData) (sight : Sight). record { code = Code.Success; room = room; births = record { name = codes "a"; payload = codes "x" } ∷ []; files = sight.files; locks = same_locks; calls = 0; draws = 0 };
   note = length_note;
   breaks = never_breaks;
 }
@@ -90,7 +90,7 @@ service_files = record { path = codes "/r/etc/pam.d/t"; bytes = codes "auth requ
 
 abbrev with_service : RunState
 with_service = state_of (closed (record { offers = []; waits = false; handed = [] }) ∷ closed (record { offers = []; waits = false; handed = [] }) ∷ []) (record {
-  vault = record { files = service_files; calls = 0; fails = [] };
+  vault = record { files = service_files; locks = no_locks; calls = 0; fails = [] };
   clock = record { moment = 0; word = 0; draws = 0 };
   nap = record { waits = 0; sum = 0 };
   process = record { ledger = record { births = []; filed = [] }; root = codes "/r"; caller = 0 };
@@ -127,6 +127,7 @@ notes_in_file = record {
     room = room;
     births = [];
     files = sight.files ++ record { path = codes "/r/f"; bytes = [] } ∷ [];
+    locks = same_locks;
     calls = 1;
     draws = 0;
   };

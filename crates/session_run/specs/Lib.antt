@@ -28,5 +28,6 @@ pub mod Isolation
 pub mod Events
 pub mod Reading
 pub mod Run
+pub mod Made
 pub mod SideBySide
 pub mod Visits

@@ -26,16 +26,17 @@ use Rattle.session_run.specs.State.{RunState, Setting}
 
 -- ---- its items
 
--- What holds for a stream that was served: if all objects are modelled, for its items; and what is
--- known from the source alone and from the sink alone.
+-- What holds for a stream that was served: if all objects are modelled and the clock stands still, for its items; and
+-- what is known from the source alone and from the sink alone.
 pub record ServesStream {Kind : Type 0} (looked : Looks) (asked : Asking Kind)
     (step : Setting → ItemStep RunState Kind)
     (fails : Setting → RunState → List ℕ → RunState → Type 0)
-    (read_step : ItemStep (Unit {0}) Kind) (result : Result (Ending Kind) Stop) (taken : ℕ)
-    (old new : Seen) (input : Object SourceState) (output : Object SinkState) : Type 0 where
+    (read_step : ItemStep (Unit {0}) Kind) (stands : Type 0) (result : Result (Ending Kind) Stop)
+    (taken : ℕ) (old new : Seen) (input : Object SourceState) (output : Object SinkState) : Type
+    0 where
   pub source_tells : input.tells_after ≡ input.tells
   pub sink_tells : output.tells_after ≡ output.tells
-  pub told : (delay : Code → ℕ → ℕ) → old.gives delay → AllTell old → IsTrue input.tells
+  pub told : stands → (delay : Code → ℕ → ℕ) → old.gives delay → AllTell old → IsTrue input.tells
       → IsTrue output.tells
       → TellsAll looked asked step fails (setting_in old delay) result taken (state old) (state new)
       input.old input.new output.old output.new
@@ -191,10 +192,12 @@ pub record EndsSo {Kind : Type 0} (looked : Looks) (asked : Asking Kind) (is_end
 -- ---- what holds for every run
 
 pub record Ran {Kind : Type 0} (runs : RunTold Kind) (reads_so : RunRead Kind)
-    (completes : RunComplete Kind) (is_end : RunEnd) (result : Result (Ending Kind) Stop)
-    (old new : Seen) (input : Object SourceState) (output : Object SinkState) : Type 0 where
-  -- If all objects are modelled: what was read and written, and what library and world are afterwards.
-  pub told : (delay : Code → ℕ → ℕ) → old.gives delay → AllTell old → IsTrue input.tells
+    (completes : RunComplete Kind) (is_end : RunEnd) (stands : Type 0)
+    (result : Result (Ending Kind) Stop) (old new : Seen) (input : Object SourceState)
+    (output : Object SinkState) : Type 0 where
+  -- If all objects are modelled and only items set the clock: what was read and written, and what library and world are
+  -- afterwards.
+  pub told : stands → (delay : Code → ℕ → ℕ) → old.gives delay → AllTell old → IsTrue input.tells
       → IsTrue output.tells
       → runs (setting_in old delay) result (state old) (state new) input.old input.new output.old
       output.new

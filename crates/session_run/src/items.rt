@@ -1,11 +1,13 @@
-ghost use Rattle.std.specs.Prelude.{◌≡◌, ◌≤◌, ◌<◌, ◌+◌, ◌++◌, ℕ, None, Ok, IsTrue, All, is_err};
+ghost use Rattle.std.specs.Prelude.{◌≡◌, ◌≤◌, ◌<◌, ◌+◌, ◌++◌, ℕ, None, Ok, IsTrue, All, is_err, is_none};
 ghost use Rattle.pam_base.specs.declared.code.Code.{Code};
 ghost use Rattle.pam_outside.specs.Counts.{RisesIf};
 ghost use Rattle.record_reader.specs.Object.{object_of};
 ghost use Rattle.record_reader.specs.Taking.{Finds, IsFound};
+ghost use Rattle.session_report.specs.dispatch_core.specs.Lines.{names_of};
 ghost use Rattle.record_reader.specs.Turns.{has_read_fault, has_write_fault};
 ghost use Rattle.session_run.specs.Asked.{IsEndAmong, LeadsOn};
 ghost use Rattle.session_run.specs.Events.{TellsTurn};
+ghost use Rattle.session_run.specs.Made.{ReportsCalls};
 ghost use Rattle.session_run.specs.Reading.{ReadsTurn, WritesSome};
 ghost use Rattle.session_run.specs.Run.{ServesStream};
 ghost use Rattle.session_run.specs.Seen.{AllTell, IsSoundIn, Went, setting_in, state};
@@ -13,6 +15,7 @@ ghost use Rattle.session_run.specs.Seen.{AllTell, IsSoundIn, Went, setting_in, s
 use crate::protocol::{Items, Protocol};
 use crate::reading::reading_is_turns;
 use crate::serve::serve;
+use crate::time::TimeOfDay;
 use pam_base::{Failed, NoMemory};
 use pam_outside::{Sink, Source};
 use record_reader::{Ending, NextItem, Reader, Stop, laws};
@@ -25,17 +28,22 @@ pub(crate) fn serve_items<P: Protocol, S: Source, K: Sink>(
     alloc: Global,
     library: &mut Library,
     taken: &mut u32,
+    time: &Option<Box<dyn TimeOfDay>>,
     source: &mut S,
     sink: &mut K,
     world: &mut World,
 ) -> Result<Ending<P::Kind>, Stop>
     requires first { taken.old ≡ 0 }
     requires sound { IsSoundIn (⟦<Session as Told>⟧.seen library.old world.old) }
-    ensures { let seen = ⟦<Session as Told>⟧.seen in
-        ServesStream P.looked P.asked P.step P.fails P.read_step result taken.new
-        (seen library.old world.old) (seen library.new world.new)
+    ensures serves { let seen = ⟦<Session as Told>⟧.seen in
+        ServesStream P.looked P.asked P.step P.fails P.read_step (IsTrue (is_none time.now)) result
+        taken.new (seen library.old world.old) (seen library.new world.new)
         (object_of S.source_tells S.source_holds S.source_faults source.old source.new)
         (object_of K.sink_tells K.sink_holds K.sink_faults sink.old sink.new) }
+    ensures made { let seen = ⟦<Session as Told>⟧.seen in IsTrue (K.sink_tells sink.old) →
+        ReportsCalls P.wrapped (names_of (seen library.old world.old).players) result
+        (seen library.old world.old).slots (seen library.new world.new).slots
+        (K.sink_holds sink.old) (K.sink_holds sink.new) }
 {
     laws::first_turn::<Items<P>>();
     laws::turns_go_on::<Items<P>>();
@@ -46,7 +54,16 @@ pub(crate) fn serve_items<P: Protocol, S: Source, K: Sink>(
         Err(NoMemory) => return Err(Stop::NoMemory),
     };
     loop {
-        match serve_next::<P, S, K>(alloc, library, taken, &mut reader, source, sink, world) {
+        match serve_next::<P, S, K>(
+            alloc,
+            library,
+            taken,
+            &mut reader,
+            time,
+            source,
+            sink,
+            world,
+        ) {
             Ok(None) => {}
             Ok(Some(ending)) => return Ok(ending),
             Err(stop) => return Err(stop),
@@ -60,6 +77,7 @@ fn serve_next<P: Protocol, S: Source, K: Sink>(
     library: &mut Library,
     taken: &mut u32,
     reader: &mut Reader,
+    time: &Option<Box<dyn TimeOfDay>>,
     source: &mut S,
     sink: &mut K,
     world: &mut World,
@@ -68,9 +86,9 @@ fn serve_next<P: Protocol, S: Source, K: Sink>(
     requires sound { IsSoundIn (⟦<Session as Told>⟧.seen library.old world.old) }
     ensures source_tells { S.source_tells source.new ≡ S.source_tells source.old }
     ensures sink_tells { K.sink_tells sink.new ≡ K.sink_tells sink.old }
-    ensures told { let seen = ⟦<Session as Told>⟧.seen in (delay : Code → ℕ → ℕ) →
-        (seen library.old world.old).gives delay → AllTell (seen library.old world.old) →
-        IsTrue (S.source_tells source.old) → IsTrue (K.sink_tells sink.old) →
+    ensures told { let seen = ⟦<Session as Told>⟧.seen in IsTrue (is_none time.now) →
+        (delay : Code → ℕ → ℕ) → (seen library.old world.old).gives delay →
+        AllTell (seen library.old world.old) → IsTrue (S.source_tells source.old) → IsTrue (K.sink_tells sink.old) →
         TellsTurn P.looked P.asked P.step P.fails (setting_in (seen library.old world.old) delay)
         result taken.old taken.new (state (seen library.old world.old))
         (state (seen library.new world.new)) reader.old reader.new (S.source_holds source.old)
@@ -80,6 +98,10 @@ fn serve_next<P: Protocol, S: Source, K: Sink>(
         (S.source_holds source.old) (S.source_holds source.new) }
     ensures writes { IsTrue (K.sink_tells sink.old) →
         WritesSome result (K.sink_holds sink.old) (K.sink_holds sink.new) }
+    ensures made { let seen = ⟦<Session as Told>⟧.seen in IsTrue (K.sink_tells sink.old) →
+        ReportsCalls P.wrapped (names_of (seen library.old world.old).players) result
+        (seen library.old world.old).slots (seen library.new world.new).slots
+        (K.sink_holds sink.old) (K.sink_holds sink.new) }
     ensures few { taken.new ≤ 65536 }
     ensures next { result ≡ Ok None → taken.new ≡ taken.old + 1 }
     ensures leads { result ≡ Ok None → IsTrue (S.source_tells source.old) →
@@ -108,6 +130,7 @@ fn serve_next<P: Protocol, S: Source, K: Sink>(
                 library,
                 before,
                 &reader.bytes()[..length],
+                time,
                 sink,
                 world,
             ) {
@@ -125,6 +148,7 @@ fn serve_next<P: Protocol, S: Source, K: Sink>(
             library,
             before,
             reader.bytes(),
+            time,
             sink,
             world,
         ) {

@@ -15,6 +15,7 @@ mod run;
 mod script;
 mod serve;
 mod status;
+mod time;
 mod world;
 
 pub use closing::end_next;
@@ -27,3 +28,4 @@ pub use script_lang;
 pub use session_report;
 pub use session_report::{fail_delay, pam_handle, pam_library, pam_room};
 pub use status::stop_status;
+pub use time::{TimeOfDay, keep_time};

@@ -1,8 +1,9 @@
-ghost use Rattle.std.specs.Prelude.{◌≡◌, ◌≤◌, IsTrue, OnOk};
+ghost use Rattle.std.specs.Prelude.{◌≡◌, ◌≤◌, IsTrue, OnOk, is_none};
 ghost use Rattle.pam_outside.specs.Counts.{RisesIf};
 ghost use Rattle.record_reader.specs.Object.{object_of};
 ghost use Rattle.record_reader.specs.Turns.{has_write_fault};
 ghost use Rattle.session_run.specs.Ends.{IsStatusOf};
+ghost use Rattle.session_run.specs.Made.{ReportsRun};
 ghost use Rattle.session_run.specs.Run.{EndsWith, Ran};
 ghost use Rattle.session_run.specs.Seen.{IsSoundIn, NoneIsOpenIn, Went, state};
 ghost use Rattle.session_run.specs.Whole.{ending_status};
@@ -11,6 +12,7 @@ use crate::closing::{close_open, close_silently};
 use crate::items::serve_items;
 use crate::protocol::Protocol;
 use crate::status::{ending_status, stop_status};
+use crate::time::TimeOfDay;
 use pam_base::{Failed, NoMemory};
 use pam_outside::{Sink, Source, write_all};
 use record_reader::{Ending, Stop};
@@ -19,7 +21,8 @@ use session_report::pam_room::World;
 use std::alloc::Global;
 
 /// Runs a stream of calls, as `P` reads them: the lines of a script, or the frames of a front end. Each call is made in
-/// its transaction and its report written before the next one is read.
+/// its transaction and its report written before the next one is read. Before each item the world's clock is set to the
+/// time of day, if that is known; without one only items set it.
 ///
 /// After the last call every open transaction is ended, the lowest number first, and each is reported before the
 /// next:
@@ -34,21 +37,27 @@ use std::alloc::Global;
 pub fn run_stream<P: Protocol, S: Source, K: Sink>(
     alloc: Global,
     library: &mut Library,
+    time: &Option<Box<dyn TimeOfDay>>,
     source: &mut S,
     sink: &mut K,
     world: &mut World,
 ) -> Result<Ending<P::Kind>, Stop>
     requires { IsSoundIn (⟦<Session as Told>⟧.seen library.old world.old) }
-    ensures { let seen = ⟦<Session as Told>⟧.seen in
-        Ran P.runs P.reads P.completes P.is_end result (seen library.old world.old)
-        (seen library.new world.new)
+    ensures ran { let seen = ⟦<Session as Told>⟧.seen in
+        Ran P.runs P.reads P.completes P.is_end (IsTrue (is_none time.now)) result
+        (seen library.old world.old) (seen library.new world.new)
         (object_of S.source_tells S.source_holds S.source_faults source.old source.new)
         (object_of K.sink_tells K.sink_holds K.sink_faults sink.old sink.new) }
+
+    // If only the sink is modelled: each report is that of a call that the library made.
+    ensures reports { let seen = ⟦<Session as Told>⟧.seen in IsTrue (K.sink_tells sink.old) →
+        ReportsRun P.wrapped P.last_text (seen library.old world.old).players result
+        (seen library.old world.old).slots (K.sink_holds sink.old) (K.sink_holds sink.new) }
 {
     data_cleanup::due_laws::all_are_filed();
     P::ends();
     let mut taken = 0;
-    match serve_items::<P, S, K>(alloc, library, &mut taken, source, sink, world) {
+    match serve_items::<P, S, K>(alloc, library, &mut taken, time, source, sink, world) {
         Err(stop) => {
             close_silently(library, stop_status(stop), world);
             Err(stop)

@@ -1,4 +1,4 @@
-ghost use Rattle.std.specs.Prelude.{◌≡◌, ◌≤◌, ◌<◌, ℕ, IsTrue, None, Ok, length};
+ghost use Rattle.std.specs.Prelude.{◌≡◌, ◌≤◌, ◌<◌, ℕ, IsTrue, None, Ok, is_none, length};
 ghost use Rattle.script_lang.specs.declared.line.Line.{Line as PlainLine};
 ghost use Rattle.pam_base.specs.declared.code.Code.{Code};
 ghost use Rattle.pam_outside.specs.Counts.{RisesIf};
@@ -12,11 +12,13 @@ ghost use Rattle.record_reader.specs.Turns.{ServesItem, has_write_fault};
 ghost use Rattle.session_run.specs.Asked.{IsEnd};
 ghost use Rattle.session_run.specs.Events.{MovesBy};
 ghost use Rattle.session_run.specs.Reading.{ReadsItem, WritesSome};
+ghost use Rattle.session_run.specs.Made.{ReportsCalls};
 ghost use Rattle.session_run.specs.Report.{WritesReport};
 ghost use Rattle.session_run.specs.Seen.{AllTell, IsSoundIn, Went, setting_in, state};
 
 use crate::protocol::{Items, Protocol};
 use crate::report::write_report;
+use crate::time::{TimeOfDay, keep_time};
 use crate::world::{set_caller, set_world_moment, set_world_word};
 use data_cleanup::Ledger;
 use pam_base::{NoMemory, Refuse, Step};
@@ -29,9 +31,50 @@ use session_report::pam_room::World;
 use session_report::step_report;
 use std::alloc::Global;
 
-/// Applies the item after `taken` others, and writes its report. Returns the fault if the item is refused; a refused
-/// item changes nothing.
+/// Applies the item after `taken` others at the time of day, if that is known, and writes its report. Returns the fault if
+/// the item is refused; a refused item changes nothing but the clock.
 pub(crate) fn serve<P: Protocol, K: Sink>(
+    alloc: Global,
+    library: &mut Library,
+    taken: u32,
+    item: &[u8],
+    time: &Option<Box<dyn TimeOfDay>>,
+    sink: &mut K,
+    world: &mut World,
+) -> Result<Option<P::Kind>, Stop>
+    requires { IsSoundIn (⟦<Session as Told>⟧.seen library.old world.old) }
+    ensures sink_tells { K.sink_tells sink.new ≡ K.sink_tells sink.old }
+    ensures told { let seen = ⟦<Session as Told>⟧.seen in IsTrue (is_none time.now) →
+        (delay : Code → ℕ → ℕ) → (seen library.old world.old).gives delay → AllTell (seen library.old world.old) →
+        IsTrue (K.sink_tells sink.old) →
+        (let setting = setting_in (seen library.old world.old) delay in
+        ServesItem (P.step setting) (P.fails setting) result taken item.now
+        (state (seen library.old world.old)) (state (seen library.new world.new))
+        (K.sink_holds sink.old) (K.sink_holds sink.new)) }
+    ensures went { let seen = ⟦<Session as Told>⟧.seen in Went (IsEnd (P.asked taken item.now))
+        (seen library.old world.old) (seen library.new world.new) }
+    ensures moves { let seen = ⟦<Session as Told>⟧.seen in result ≡ Ok None →
+        MovesBy (notes_of (seen library.old world.old).players) (seen library.old world.old).slots
+        (P.asked taken item.now) world.old.process.ledger world.new.process.ledger
+        (seen library.new world.new).slots }
+    ensures few { result ≡ Ok None → taken < 65536 }
+    ensures accepted { result ≡ Ok None → (line : PlainLine) × (P.asked taken item.now ≡ Ok line) }
+    ensures reads { ReadsItem P.read_step result taken item.now }
+    ensures writes { IsTrue (K.sink_tells sink.old) →
+        WritesSome result (K.sink_holds sink.old) (K.sink_holds sink.new) }
+    ensures made { let seen = ⟦<Session as Told>⟧.seen in IsTrue (K.sink_tells sink.old) →
+        ReportsCalls P.wrapped (names_of (seen library.old world.old).players) result
+        (seen library.old world.old).slots (seen library.new world.new).slots
+        (K.sink_holds sink.old) (K.sink_holds sink.new) }
+    ensures faults { RisesIf (has_write_fault result) (K.sink_faults sink.old)
+        (K.sink_faults sink.new) }
+{
+    keep_time(time, world);
+    serve_now::<P, K>(alloc, library, taken, item, sink, world)
+}
+
+// The same at the time of the world's clock. A refused item changes nothing.
+fn serve_now<P: Protocol, K: Sink>(
     alloc: Global,
     library: &mut Library,
     taken: u32,
@@ -59,6 +102,10 @@ pub(crate) fn serve<P: Protocol, K: Sink>(
     ensures reads { ReadsItem P.read_step result taken item.now }
     ensures writes { IsTrue (K.sink_tells sink.old) →
         WritesSome result (K.sink_holds sink.old) (K.sink_holds sink.new) }
+    ensures made { let seen = ⟦<Session as Told>⟧.seen in IsTrue (K.sink_tells sink.old) →
+        ReportsCalls P.wrapped (names_of (seen library.old world.old).players) result
+        (seen library.old world.old).slots (seen library.new world.new).slots
+        (K.sink_holds sink.old) (K.sink_holds sink.new) }
     ensures faults { RisesIf (has_write_fault result) (K.sink_faults sink.old)
         (K.sink_faults sink.new) }
 {

@@ -14,7 +14,7 @@ pub(crate) fn set_world_moment(world: &mut World, moment: u64)
         ≡ at_moment moment (⟦<World as WorldTold>⟧.plain world.old) }
     ensures process { world.new.process ≡ world.old.process }
 {
-    set_moment(&mut *world.clock, moment);
+    set_moment(&mut world.clock, moment);
 }
 
 /// Sets the random word of the world's clock, if that clock can be set.
@@ -26,7 +26,7 @@ pub(crate) fn set_world_word(world: &mut World, word: u64)
         ≡ with_word word (⟦<World as WorldTold>⟧.plain world.old) }
     ensures process { world.new.process ≡ world.old.process }
 {
-    set_word(&mut *world.clock, word);
+    set_word(&mut world.clock, word);
 }
 
 /// Sets the user ID of the calling process.

@@ -1,47 +1,63 @@
-ghost use Rattle.std.specs.Prelude.{◌≡◌, Err};
-ghost use Rattle.std.specs.Str.{IsUtf8};
-
-use pam_outside::{ReplaceFault, is_at};
+use crate::lock::{LockAt, is_at};
+use crate::system::leads_to;
 use std::alloc::Global;
-use std::fs::{self, File, OpenOptions, metadata, read_dir, symlink_metadata};
+use std::fs::{self, File, Metadata, OpenOptions, symlink_metadata};
 use std::io::{self, ErrorKind, Write};
 use std::os::unix::fs::{MetadataExt, OpenOptionsExt, fchown};
-use std::rt::{Clock as SystemClock, Files};
+use std::rt::Files;
 
 /// Writes a file beside the old one and renames it to the path, so that the path never names a
-/// partly written file, even if others write it, too.
-pub fn replace_beside(
+/// partly written file, even if others write it, too. `name` is the same path below the root.
+///
+/// If a lock was taken for it, the path isn't touched if the lock's file was removed since: others may have the lock,
+/// too. Among those only one at a time writes, since it has the first name beside the path; and none replaces a file that
+/// isn't the one that it read.
+pub(crate) fn replace_beside(
     rt: &HostRuntime,
     alloc: Global,
-    path: &[u8],
+    path: &str,
+    root: &[u8],
+    name: &str,
+    lock: &Option<LockAt>,
     bytes: &[u8],
-) -> Result<(), ReplaceFault>
-    ensures { ¬ (IsUtf8 path.now) → result ≡ Err ReplaceFault.Failed }
-{
-    let path = str::from_utf8(path).map_err(|_| ReplaceFault::Failed)?;
-    let _ = remove_leftovers(rt, path);
-    let nanos = match rt.since_1970() {
-        Ok(time) => time.subsec_nanos(),
-        Err(_) => 0,
-    };
-    for attempt in 0..TRIES {
-        let beside = format!(in alloc; "{path}.{nanos}-{attempt}{ENDING}").map_err(
-            |_| ReplaceFault::NoMemory,
-        )?;
-        match made(rt, beside.as_str()) {
-            Ok(Some(file)) => return write_and_rename(rt, file, beside.as_str(), path, bytes),
-            Ok(None) => {}
-            Err(_) => return Err(ReplaceFault::Failed),
+) -> io::Result<()> {
+    for number in 0..TRIES {
+        let beside = name_beside(alloc, path, number)?;
+        let _ = remove_unlocked(rt, beside.as_str());
+        if let Some(file) = made(rt, beside.as_str())? {
+            for other in number + 1..FEW {
+                if let Ok(other) = name_beside(alloc, path, other) {
+                    let _ = remove_unlocked(rt, other.as_str());
+                }
+            }
+            let beside = beside.as_str();
+            return write_and_rename(rt, alloc, file, beside, path, root, name, lock, bytes);
+        }
+        if lock.is_some() && is_file(rt, beside.as_str()) {
+            return Err(ErrorKind::Other.into());
         }
     }
-    Err(ReplaceFault::Failed)
+    Err(ErrorKind::AlreadyExists.into())
 }
 
-// The number of names that are tried.
-const TRIES: u32 = 64;
+// The number of names that are tried: so many may write a file at the same time.
+const TRIES: u32 = 1024;
 
-// The suffix of the name of a file that is being written.
-const ENDING: &str = ".pamsess-new";
+// The number of names that are always looked at for what a killed writer left.
+const FEW: u32 = 4;
+
+// Whether the path names a regular file: a live writer's, if it could be neither removed nor made.
+fn is_file(rt: &HostRuntime, path: &str) -> bool {
+    match symlink_metadata(rt, path) {
+        Ok(found) => found.is_file(),
+        Err(_) => false,
+    }
+}
+
+// The name of a file that is being written.
+fn name_beside(alloc: Global, path: &str, number: u32) -> io::Result<String> {
+    Ok(format!(in alloc; "{path}.{number}.pamsess-new")?)
+}
 
 // A new file that only its owner may read, locked until it is closed; None if the name is taken.
 // Processes that remove the files of killed writers take the lock first, so a file that is locked
@@ -66,21 +82,44 @@ fn made(rt: &HostRuntime, beside: &str) -> io::Result<Option<File>> {
 }
 
 // If it fails before the rename, the new file is removed while it is still locked. If only the last sync fails, the new
-// file has the name and nobody knows whether it will after a power cut: then Failed is returned,
+// file has the name and nobody knows whether it will after a power cut: then an error is returned,
 // too, since success means that the file is on the disk.
 fn write_and_rename(
     rt: &HostRuntime,
+    alloc: Global,
     mut file: File,
     beside: &str,
     path: &str,
+    root: &[u8],
+    name: &str,
+    lock: &Option<LockAt>,
     bytes: &[u8],
-) -> Result<(), ReplaceFault> {
-    match put_in_place(rt, &mut file, beside, path, bytes) {
-        Ok(directory) => directory.sync_all().map_err(|_| ReplaceFault::Failed),
-        Err(_) => {
+) -> io::Result<()> {
+    let put = match old_file(rt, alloc, root, name, lock) {
+        Ok(old) => put_in_place(rt, &mut file, beside, path, &old, lock, bytes),
+        Err(error) => Err(error),
+    };
+    match put {
+        Ok(directory) => directory.sync_all(),
+        Err(error) => {
             let _ = rt.remove_file(beside);
-            Err(ReplaceFault::Failed)
+            Err(error)
         }
+    }
+}
+
+// The file that is replaced, which has to be the one that was read under the lock.
+fn old_file(
+    rt: &HostRuntime,
+    alloc: Global,
+    root: &[u8],
+    name: &str,
+    lock: &Option<LockAt>,
+) -> io::Result<Option<Metadata>> {
+    let old = leads_to(rt, alloc, root, name)?;
+    match lock {
+        Some(lock) if !lock.is_as_read(name.as_bytes(), &old) => Err(ErrorKind::Other.into()),
+        _ => Ok(old),
     }
 }
 
@@ -91,47 +130,30 @@ fn put_in_place(
     file: &mut File,
     beside: &str,
     path: &str,
+    old: &Option<Metadata>,
+    lock: &Option<LockAt>,
     bytes: &[u8],
 ) -> io::Result<File> {
-    match metadata(rt, path) {
-        Ok(old) => {
-            if !old.is_file() {
-                return Err(ErrorKind::Unsupported.into());
-            }
-            fchown(&*file, Some(old.uid()), Some(old.gid()))?;
-            file.set_permissions(old.permissions())?;
+    if let Some(old) = old {
+        if !old.is_file() {
+            return Err(ErrorKind::Unsupported.into());
         }
-        Err(error) if error.kind() == ErrorKind::NotFound => {}
-        Err(error) => return Err(error),
+        fchown(&*file, Some(old.uid()), Some(old.gid()))?;
+        file.set_permissions(old.permissions())?;
     }
     file.write_all(bytes)?;
     file.sync_all()?;
-    let directory = File::open(rt, parts_of(path).0)?;
+    let directory = File::open(rt, directory_of(path))?;
+    if let Some(lock) = lock {
+        if !lock.still_holds(rt) {
+            return Err(ErrorKind::Other.into());
+        }
+    }
     rt.rename(beside, path)?;
     Ok(directory)
 }
 
-// Removes what killed writers of this path left beside it.
-fn remove_leftovers(rt: &HostRuntime, path: &str) -> io::Result<()> {
-    let (directory, name) = parts_of(path);
-    for entry in read_dir(rt, directory)? {
-        let entry = entry?;
-        let found = entry.file_name();
-        if is_leftover(found, name) {
-            let _ = remove_unlocked(rt, entry.path().as_str());
-        }
-    }
-    Ok(())
-}
-
-fn is_leftover(found: &str, name: &str) -> bool {
-    match found.strip_prefix(name) {
-        Some(rest) => rest.starts_with('.') && rest.ends_with(ENDING),
-        None => false,
-    }
-}
-
-// Nobody has the lock of a file whose writer was killed.
+// Removes what a killed writer left: nobody has its lock.
 fn remove_unlocked(rt: &HostRuntime, path: &str) -> io::Result<()> {
     if !symlink_metadata(rt, path)?.is_file() {
         return Ok(());
@@ -143,11 +165,11 @@ fn remove_unlocked(rt: &HostRuntime, path: &str) -> io::Result<()> {
     }
 }
 
-// The directory that a file is in, and its name there.
-fn parts_of(path: &str) -> (&str, &str) {
+// The directory that a file is in.
+fn directory_of(path: &str) -> &str {
     match path.rsplit_once('/') {
-        Some(("", name)) => ("/", name),
-        Some((directory, name)) => (directory, name),
-        None => (".", path),
+        Some(("", _)) => "/",
+        Some((directory, _)) => directory,
+        None => ".",
     }
 }

@@ -1,32 +1,42 @@
-ghost use Rattle.std.specs.Prelude.{IsTrue, ◌≡◌, ◌≢◌, ◌≤◌, ◌↔◌, [], Some, false, length, IfOk, OnErr, OnOk, IsOk, Err, List, ℕ};
+ghost use Rattle.std.specs.Prelude.{IsTrue, ◌≡◌, ◌≢◌, ◌≤◌, ◌↔◌, [], Some, false, true, length, IfOk, OnOk, Err, List, ℕ};
 ghost use Rattle.std.specs.Str.{IsUtf8};
 ghost use Rattle.pam_outside.specs.Counts.{Rose, next_count};
-ghost use Rattle.pam_outside.specs.Files.{ReadsFile, TellsFolder, Replaces, counted, file_at};
+ghost use Rattle.pam_outside.specs.Files.{ReadsFile, TellsFolder, Replaces, TakesLock, counted, file_at, no_locks, unlocked};
 
-use crate::beside::replace_beside;
-use crate::held_file::{HeldFile, put_held, take_held};
+use crate::held_file::{HeldFile, open_file, put_held};
 use crate::limited::{CHUNK, read_of_size, read_to_limit};
+use crate::lock::LockAt;
 use crate::read_at::ReadAt;
 use crate::reader_source::ReaderSource;
-use pam_base::{Failed, Text};
-use pam_outside::{Held, LockKind, ReplaceFault, Vault, VaultFault, hold_path};
+use crate::system::{hold_in, is_full, look_in, replace_in};
+use pam_base::{NoMemory, Text};
+use pam_outside::{Held, LockKind, MAX_FILE, ReplaceFault, Vault, VaultFault, path_of};
 use std::alloc::Global;
-use std::fs;
-use std::io::ErrorKind;
+use std::fs::Metadata;
+use std::io::{self, ErrorKind};
 use std::marker::Model;
-use std::rt::Files;
 
 /// The files of a runtime that `main` gets, by their paths; a relative path begins at the working directory. Only its
 /// failures are modelled: each Failed counts one, and nothing else does. A path that isn't UTF-8 is Failed.
+///
+/// A store that is made by `below` stays below its root, as in a chroot: a link that begins with a slash begins at the
+/// root, `..` stops there, and a path that doesn't begin with the root's is Failed. A file that is read
+/// is the one that was found on the way, or Failed is returned. But who may write in a directory on
+/// the way can exchange it for a link between two looks of the same way: keep such people out of
+/// the tree.
 #[derive(Drop)]
 pub struct FolderVault {
     rt: HostRuntime,
+    /// The path of the root, without slashes at its end; empty if it is the whole system.
+    root: Text,
     faults: u64,
     /// The buffer of a read, so that it isn't cleared for each.
     piece: [u8; CHUNK],
     /// The files that stay open. Each is read again every time, but opened again only if its path
     /// names another file by now.
     held: Vec<HeldFile>,
+    /// Where the lock was taken that isn't let go.
+    lock: Option<LockAt>,
 }
 
 impl Model for FolderVault {
@@ -39,16 +49,34 @@ impl Model for FolderVault {
 }
 
 impl FolderVault {
-    /// A file store that hasn't failed yet.
+    /// The files of the whole system, found as the system finds them. It hasn't failed yet.
     pub fn new(rt: HostRuntime) -> Self
         ensures { result ≡ record { inner = rt; faults = 0 } }
     {
         FolderVault {
             rt,
+            root: Text::new(rt.alloc()),
             faults: 0,
             piece: [0; CHUNK],
             held: Vec::new(rt.alloc()),
+            lock: None,
         }
+    }
+
+    /// The files below a root directory, whose path their paths begin with; all files if it is `/`. It hasn't failed
+    /// yet. Nothing is opened.
+    pub fn below(rt: HostRuntime, root: &[u8]) -> Result<Self, NoMemory>
+        ensures { IfOk result (λ vault. vault ≡ record { inner = rt; faults = 0 }) }
+    {
+        let alloc = rt.alloc();
+        Ok(FolderVault {
+            rt,
+            root: path_of(alloc, root, b"")?,
+            faults: 0,
+            piece: [0; CHUNK],
+            held: Vec::new(alloc),
+            lock: None,
+        })
     }
 }
 
@@ -56,13 +84,14 @@ impl Vault for FolderVault {
     ghost vault_tells = { λ v. false };
 
     // never modelled
-    ghost vault_holds = { λ v. record { files = []; calls = 0; fails = [] } };
+    ghost vault_holds = { λ v. record { files = []; locks = no_locks; calls = 0; fails = [] } };
 
     ghost vault_faults = { λ v. v.faults };
 
     /// Absent is returned if the system says that there is no such file, or no directory on the way to it, and only
-    /// then. Failed is returned, without opening it, for what isn't a regular file; also for a path
-    /// that the system refuses, and for any other error.
+    /// then. Failed is returned, without reading it, for what isn't a regular file; also for a path
+    /// that the system refuses, and for any other error. If no more files can be opened, those that
+    /// stayed open are closed, and it is tried again.
     fn read(&mut self, alloc: Global, path: &[u8], limit: u32) -> Result<Text, VaultFault>
         ensures bound { IfOk result (λ text. length text ≤ limit) }
         ensures tells { ⟦<FolderVault as Vault>⟧.vault_tells self.new ≡
@@ -93,8 +122,8 @@ impl Vault for FolderVault {
     }
 
     /// Whether the path is a directory, even an empty one; not if there is a file or nothing. Any other error of the
-    /// system is Failed. Allocates nothing.
-    fn folder(&mut self, _alloc: Global, path: &[u8]) -> Result<bool, ReplaceFault>
+    /// system is Failed.
+    fn folder(&mut self, alloc: Global, path: &[u8]) -> Result<bool, ReplaceFault>
         ensures tells { ⟦<FolderVault as Vault>⟧.vault_tells self.new ≡
             ⟦<FolderVault as Vault>⟧.vault_tells self.old }
         ensures told { IsTrue (⟦<FolderVault as Vault>⟧.vault_tells self.old) →
@@ -115,7 +144,7 @@ impl Vault for FolderVault {
         ensures stays { result ≢ Err ReplaceFault.Failed → self.new ≡ self.old }
         ensures not_text { ¬ (IsUtf8 path.now) → result ≡ Err ReplaceFault.Failed }
     {
-        let result = names_folder(&self.rt, path);
+        let result = names_folder(&self.rt, alloc, self.root.bytes(), path);
         if let Err(ReplaceFault::Failed) = result {
             self.faults = self.faults.saturating_add(1);
         }
@@ -123,11 +152,13 @@ impl Vault for FolderVault {
     }
 
     /// Writes a new file beside the old one, under a name that no other writer has
-    /// (`NAME.N-M.pamsess-new`), and renames it to the path. The new file gets the old one's owner,
-    /// group and mode before a byte is written; if that isn't possible, Failed is returned and the
-    /// old file stays. Without an old file, only its owner may read the new one. The file is synced
-    /// before the rename and its directory after it; if only the last sync fails, Failed is
-    /// returned although the new file is there.
+    /// (`NAME.N.pamsess-new`), and renames it to the path; a link is replaced itself. The new file
+    /// gets the old one's owner, group and mode before a byte is written; if that isn't possible,
+    /// Failed is returned and the old file stays, as it does if a lock was taken and not let go, and
+    /// its file was removed since, another one writes, or the file isn't the one that was read last
+    /// under it. Without an old file, only its owner may read the new one. The file is synced before
+    /// the rename and its directory after it; if only the last sync fails, Failed is returned
+    /// although the new file is there.
     fn replace(&mut self, alloc: Global, path: &[u8], bytes: &[u8]) -> Result<(), ReplaceFault>
         ensures tells { ⟦<FolderVault as Vault>⟧.vault_tells self.new ≡
             ⟦<FolderVault as Vault>⟧.vault_tells self.old }
@@ -155,85 +186,171 @@ impl Vault for FolderVault {
         ensures stays { result ≢ Err ReplaceFault.Failed → self.new ≡ self.old }
         ensures not_text { ¬ (IsUtf8 path.now) → result ≡ Err ReplaceFault.Failed }
     {
-        let result = replace_beside(&self.rt, alloc, path, bytes);
+        let result = self.put_whole(alloc, path, bytes);
         if let Err(ReplaceFault::Failed) = result {
             self.faults = self.faults.saturating_add(1);
         }
         result
     }
 
-    /// Locks the file at this path, which is made if it doesn't exist, and tries for 15 seconds. If its directory
-    /// doesn't exist, nothing is locked. A path that isn't UTF-8, what isn't a file, and any other error are Failed.
-    fn hold(&mut self, path: &[u8], kind: LockKind) -> Result<Held, Failed>
+    /// Locks the file at this path, which is made if it doesn't exist, and tries for 15 seconds, at intervals of 5
+    /// milliseconds at most. If its directory doesn't exist, nothing is locked. A path that isn't
+    /// UTF-8, what isn't a file, and any other error are Failed.
+    fn hold(&mut self, alloc: Global, path: &[u8], kind: LockKind) -> Result<Held, ReplaceFault>
+        ensures held { IfOk result (λ held. held ≡ true) }
         ensures tells { ⟦<FolderVault as Vault>⟧.vault_tells self.new ≡
             ⟦<FolderVault as Vault>⟧.vault_tells self.old }
         ensures told { IsTrue (⟦<FolderVault as Vault>⟧.vault_tells self.old) →
-            ⟦<FolderVault as Vault>⟧.vault_holds self.new ≡
-            ⟦<FolderVault as Vault>⟧.vault_holds self.old }
-        ensures held { IsTrue (⟦<FolderVault as Vault>⟧.vault_tells self.old) → IsOk result }
+            TakesLock result path.now kind (⟦<FolderVault as Vault>⟧.vault_holds self.old)
+            (⟦<FolderVault as Vault>⟧.vault_holds self.new) }
         ensures faults { ⟦<FolderVault as Vault>⟧.vault_faults self.old ≤
             ⟦<FolderVault as Vault>⟧.vault_faults self.new }
-        ensures failed { OnErr result (Rose
+        ensures failed { result ≡ Err ReplaceFault.Failed → Rose
             (⟦<FolderVault as Vault>⟧.vault_faults self.old)
-            (⟦<FolderVault as Vault>⟧.vault_faults self.new)) }
-        ensures no_fault { OnOk result (
+            (⟦<FolderVault as Vault>⟧.vault_faults self.new) }
+        ensures no_fault { result ≢ Err ReplaceFault.Failed →
             ⟦<FolderVault as Vault>⟧.vault_faults self.new ≡
-            ⟦<FolderVault as Vault>⟧.vault_faults self.old) }
-        ensures fault { OnErr result
-            (self.new ≡ record self.old { faults = next_count self.old.faults }) }
-        ensures stays { OnOk result (self.new ≡ self.old) }
+            ⟦<FolderVault as Vault>⟧.vault_faults self.old }
+        ensures fault { result ≡ Err ReplaceFault.Failed →
+            self.new ≡ record self.old { faults = next_count self.old.faults } }
+        ensures stays { result ≢ Err ReplaceFault.Failed → self.new ≡ self.old }
+        ensures not_text { ¬ (IsUtf8 path.now) → result ≡ Err ReplaceFault.Failed }
     {
-        let result = hold_path(&self.rt, path, kind);
-        if let Err(Failed) = result {
+        let result = self.take_lock(alloc, path, kind);
+        if let Err(ReplaceFault::Failed) = result {
             self.faults = self.faults.saturating_add(1);
         }
         result
     }
+
+    /// Closes the file that is locked. A record lock that isn't let go here ends with the next `hold`, and with the store.
+    fn let_go(&mut self, _held: Held)
+        ensures tells { ⟦<FolderVault as Vault>⟧.vault_tells self.new ≡
+            ⟦<FolderVault as Vault>⟧.vault_tells self.old }
+        ensures told { IsTrue (⟦<FolderVault as Vault>⟧.vault_tells self.old) →
+            ⟦<FolderVault as Vault>⟧.vault_holds self.new ≡
+            unlocked _held (⟦<FolderVault as Vault>⟧.vault_holds self.old) }
+        ensures faults { ⟦<FolderVault as Vault>⟧.vault_faults self.new ≡
+            ⟦<FolderVault as Vault>⟧.vault_faults self.old }
+        ensures stays { self.new ≡ self.old }
+    {
+        self.lock = None;
+    }
 }
 
 impl FolderVault {
-    // The type of the file is checked before it is opened, so that opening anything but a regular file can't block. The
-    // same check finds out whether the file is already open, and its size; files in /proc have a
-    // size of 0 although they have content.
+    // Files in /proc have a size of 0 although they have content.
     fn file_bytes(&mut self, alloc: Global, path: &[u8], limit: u32) -> Result<Text, VaultFault>
         ensures bound { IfOk result (λ text. length text ≤ limit) }
         ensures not_text { ¬ (IsUtf8 path.now) → result ≡ Err VaultFault.Failed }
         ensures stays { self.new ≡ self.old }
     {
         let name = str::from_utf8(path).map_err(|_| VaultFault::Failed)?;
-        let found = self.rt.metadata(name);
-        let held = take_held(&mut self.held, path, &found);
-        let found = found.map_err(|error| opening_fault(error.kind()))?;
-        if !found.is_file() {
-            return Err(VaultFault::Failed);
-        }
-        let held = match held {
-            Some(held) => held,
-            None => open_held(&self.rt, alloc, path, name)?,
+        let root = self.root.bytes();
+        let (held, size) = match open_file(&self.rt, alloc, root, &mut self.held, name) {
+            Ok(Some(open)) => open,
+            Ok(None) => {
+                note_read(&mut self.lock, alloc, path, None)?;
+                return Err(VaultFault::Absent);
+            }
+            Err(error) => return Err(reading_fault(&error)),
         };
+        note_read(&mut self.lock, alloc, path, Some(&held.then))?;
         let mut source = ReaderSource::new(ReadAt {
             file: &held.file,
             offset: 0,
         });
-        let text = match found.len() {
+        let text = match size {
             0 => read_to_limit(alloc, &mut source, &mut self.piece, limit)?,
             size => read_of_size(alloc, &mut source, &mut self.piece, limit, size)?,
         };
         put_held(&mut self.held, held);
         Ok(text)
     }
+
+    fn put_whole(&mut self, alloc: Global, path: &[u8], bytes: &[u8]) -> Result<(), ReplaceFault>
+        ensures not_text { ¬ (IsUtf8 path.now) → result ≡ Err ReplaceFault.Failed }
+        ensures stays { self.new ≡ self.old }
+    {
+        let name = str::from_utf8(path).map_err(|_| ReplaceFault::Failed)?;
+        if bytes.len() > MAX_FILE as usize {
+            return Err(ReplaceFault::Failed);
+        }
+        let root = self.root.bytes();
+        let done = match replace_in(&self.rt, alloc, root, name, &self.lock, bytes) {
+            Err(error) if is_full(&error) && !self.held.is_empty() => {
+                self.held.clear();
+                replace_in(&self.rt, alloc, root, name, &self.lock, bytes)
+            }
+            done => done,
+        };
+        done.map_err(|error| changing_fault(&error))
+    }
+
+    fn take_lock(
+        &mut self,
+        alloc: Global,
+        path: &[u8],
+        kind: LockKind,
+    ) -> Result<Held, ReplaceFault>
+        ensures held { IfOk result (λ held. held ≡ true) }
+        ensures not_text { ¬ (IsUtf8 path.now) → result ≡ Err ReplaceFault.Failed }
+        ensures stays { self.new ≡ self.old }
+    {
+        let name = str::from_utf8(path).map_err(|_| ReplaceFault::Failed)?;
+        self.lock_named(alloc, name, kind)
+    }
+
+    fn lock_named(
+        &mut self,
+        alloc: Global,
+        name: &str,
+        kind: LockKind,
+    ) -> Result<Held, ReplaceFault>
+        ensures held { IfOk result (λ held. held ≡ true) }
+        ensures stays { self.new ≡ self.old }
+    {
+        self.lock = None;
+        let root = self.root.bytes();
+        let locked = match hold_in(&self.rt, alloc, root, name, kind) {
+            Err(error) if is_full(&error) && !self.held.is_empty() => {
+                self.held.clear();
+                hold_in(&self.rt, alloc, root, name, kind)
+            }
+            locked => locked,
+        };
+        match locked {
+            Ok(Some((file, lock))) => {
+                self.lock = Some(lock);
+                Ok(Held::of_file(&self.rt, Some(file)))
+            }
+            Ok(None) => Ok(Held::of_file(&self.rt, None)),
+            Err(error) => Err(changing_fault(&error)),
+        }
+    }
 }
 
-fn open_held(
-    rt: &HostRuntime,
+// What is read while a lock is held is noted beside the lock.
+fn note_read(
+    lock: &mut Option<LockAt>,
     alloc: Global,
     path: &[u8],
-    name: &str,
-) -> Result<HeldFile, VaultFault> {
-    let path = Text::from_bytes(alloc, path).map_err(|_| VaultFault::NoMemory)?;
-    let file = fs::open(rt, name).map_err(|error| opening_fault(error.kind()))?;
-    let then = file.metadata().map_err(|_| VaultFault::Failed)?;
-    Ok(HeldFile { path, then, file })
+    found: Option<&Metadata>,
+) -> Result<(), VaultFault> {
+    match lock {
+        Some(lock) => lock
+            .note_read(alloc, path, found)
+            .map_err(|_| VaultFault::NoMemory),
+        None => Ok(()),
+    }
+}
+
+// Why a file isn't read.
+fn reading_fault(error: &io::Error) -> VaultFault {
+    if is_out_of_memory(error) {
+        return VaultFault::NoMemory;
+    }
+    opening_fault(error.kind())
 }
 
 // Why a file isn't opened.
@@ -247,13 +364,31 @@ fn opening_fault(kind: ErrorKind) -> VaultFault
     }
 }
 
-fn names_folder(rt: &HostRuntime, path: &[u8]) -> Result<bool, ReplaceFault>
+// Why a file isn't replaced or locked, or a directory looked up.
+fn changing_fault(error: &io::Error) -> ReplaceFault {
+    if is_out_of_memory(error) {
+        return ReplaceFault::NoMemory;
+    }
+    ReplaceFault::Failed
+}
+
+// Whether an allocation failed. If it is the system that has no memory, that is a failure of the outside.
+fn is_out_of_memory(error: &io::Error) -> bool {
+    error.kind() == ErrorKind::OutOfMemory && error.raw_os_error().is_none()
+}
+
+fn names_folder(
+    rt: &HostRuntime,
+    alloc: Global,
+    root: &[u8],
+    path: &[u8],
+) -> Result<bool, ReplaceFault>
     ensures { ¬ (IsUtf8 path.now) → result ≡ Err ReplaceFault.Failed }
 {
-    let path = str::from_utf8(path).map_err(|_| ReplaceFault::Failed)?;
-    match rt.metadata(path) {
-        Ok(found) => Ok(found.is_dir()),
+    let name = str::from_utf8(path).map_err(|_| ReplaceFault::Failed)?;
+    match look_in(rt, alloc, root, name) {
+        Ok(place) => Ok(place.found.is_some_and(|found| found.is_dir())),
         Err(error) if error.kind() == ErrorKind::NotFound => Ok(false),
-        Err(_) => Err(ReplaceFault::Failed),
+        Err(error) => Err(changing_fault(&error)),
     }
 }

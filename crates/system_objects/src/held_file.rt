@@ -1,6 +1,8 @@
-use pam_base::Text;
-use std::fs::{File, Metadata};
-use std::io;
+use crate::system::{is_full, is_same, look_in};
+use pam_base::{NoMemory, Text};
+use std::alloc::Global;
+use std::fs::{self, File, Metadata};
+use std::io::{self, ErrorKind};
 use std::os::unix::fs::MetadataExt;
 
 /// The number of files that stay open.
@@ -17,25 +19,70 @@ pub(crate) struct HeldFile {
     pub(crate) file: File,
 }
 
+/// How often a file is opened if it changes between a look at it and its opening.
+const OPEN_TRIES: u32 = 64;
+
+/// The file, open, and its size; None if there is none. It is looked at before it is opened, since opening anything but
+/// a regular file can block, and after it: if another was put in its place in between, it is tried
+/// again. The first look also finds out whether the file is among those that stay open; these are
+/// closed if no more files can be opened.
+pub(crate) fn open_file(
+    rt: &HostRuntime,
+    alloc: Global,
+    root: &[u8],
+    held: &mut Vec<HeldFile>,
+    name: &str,
+) -> io::Result<Option<(HeldFile, u64)>> {
+    for _ in 0..OPEN_TRIES {
+        let place = look_in(rt, alloc, root, name)?;
+        let stayed = take_held(held, name.as_bytes(), &place.found);
+        let Some(found) = place.found else {
+            return Ok(None);
+        };
+        if let Some(file) = stayed {
+            return Ok(Some((file, found.len())));
+        }
+        if !found.is_file() {
+            return Err(ErrorKind::Unsupported.into());
+        }
+        match fs::open(rt, place.path.as_str()) {
+            Ok(file) => {
+                let then = file.metadata()?;
+                if is_same(&found, &then) {
+                    let size = then.len();
+                    return Ok(Some((opened(alloc, name, then, file)?, size)));
+                }
+            }
+            Err(error) if is_full(&error) && !held.is_empty() => held.clear(),
+            Err(error) if error.kind() == ErrorKind::NotFound => return Ok(None),
+            Err(error) => return Err(error),
+        }
+    }
+    Err(ErrorKind::Other.into())
+}
+
+fn opened(alloc: Global, name: &str, then: Metadata, file: File) -> io::Result<HeldFile> {
+    match Text::from_bytes(alloc, name.as_bytes()) {
+        Ok(path) => Ok(HeldFile { path, then, file }),
+        Err(NoMemory) => Err(ErrorKind::OutOfMemory.into()),
+    }
+}
+
 /// Takes out the file that was opened by this path, if the path still names it, with the same permissions; else it is
 /// closed. Writing a file, and changing its owner or mode, changes its ctime.
-pub(crate) fn take_held(
-    held: &mut Vec<HeldFile>,
-    path: &[u8],
-    found: &io::Result<Metadata>,
-) -> Option<HeldFile> {
+fn take_held(held: &mut Vec<HeldFile>, path: &[u8], found: &Option<Metadata>) -> Option<HeldFile> {
     for i in 0..held.len() {
         if held[i].path.bytes() == path {
             let taken = held.swap_remove(i);
             let then = &taken.then;
             let is_same = match found {
-                Ok(now) => {
+                Some(now) => {
                     then.dev() == now.dev()
                         && then.ino() == now.ino()
                         && then.ctime() == now.ctime()
                         && then.ctime_nsec() == now.ctime_nsec()
                 }
-                Err(_) => false,
+                None => false,
             };
             return is_same.then_some(taken);
         }

@@ -6,7 +6,7 @@ use conv_port::Conv;
 use data_cleanup::{Datum, Receipt};
 use mod_basic::{AtOnce, AtOnceModule, Probe};
 use pam_base::{Code, NoMemory};
-use pam_outside::{Clock, Vault, current_moment, replace_file};
+use pam_outside::{Clock, Vault, replace_file};
 use pam_room::item_store::Items;
 use pam_room::{Call, Module, Process, Transaction, laws, spend_by_length};
 use std::alloc::Global;
@@ -61,7 +61,8 @@ impl Module for Forgetful {
         process: &mut Process,
         _conv: &mut dyn Conv,
         vault: &mut dyn Vault,
-        clock: &mut dyn Clock,
+        moment: u64,
+        _clock: &mut dyn Clock,
     ) -> Result<Code, NoMemory> {
         laws::nothing_is_set();
         laws::setting_goes_on();
@@ -69,11 +70,7 @@ impl Module for Forgetful {
         transaction.set_data(alloc, &mut process.ledger, b"a", b"x")?;
         transaction.set_data(alloc, &mut process.ledger, b"a", b"yy")?;
         transaction.set_data(alloc, &mut process.ledger, b"b", b"z")?;
-        let stamp = if current_moment(&*clock) < 5 {
-            b"early"
-        } else {
-            b"ready"
-        };
+        let stamp = if moment < 5 { b"early" } else { b"ready" };
         let _written = replace_file(vault, alloc, b"/stamp", stamp);
         Err(NoMemory)
     }

@@ -44,8 +44,8 @@ fn serve_joe(
 #[test]
 fn each_call_of_the_vault_fails_in_turn(rt: HostRuntime) -> Result<(), Fail> {
     let alloc = rt.alloc();
-    // passwd, shadow, shadow again, and the replacement
-    for (failing, answer) in [(1, 9), (2, 9), (3, 20), (4, 20)] {
+    // passwd, shadow, the lock, shadow again, and the replacement
+    for (failing, answer) in [(1, 9), (2, 9), (3, 20), (4, 20), (5, 20)] {
         let outcome = serve_joe(alloc, Func::ChAuthTok, b"use_authtok", b"n", failing)?;
         assert_eq!(rt; (outcome.answer, outcome.kept), (answer, true));
     }

@@ -1,6 +1,9 @@
 use super::{bytes_of, read_some};
 use pam_base::{Failed, Text};
-use pam_outside::{Clock, LockKind, Nap, ReplaceFault, Sink, Vault, VaultFault, write_all};
+use pam_outside::{
+    Clock, LockKind, MAX_FILE, Nap, ReplaceFault, Sink, Vault, VaultFault, current_moment,
+    random_word, set_moment, set_word, write_all,
+};
 use std::fs::Permissions;
 use std::io::{self, ErrorKind, Read};
 use std::os::unix::fs::PermissionsExt;
@@ -9,7 +12,7 @@ use std::random::RandomSource;
 use std::test::Fail;
 use std::time::{Duration, Instant};
 use std::{env, fs, process};
-use system_objects::{FolderVault, ReaderSource, RealClock, SleepNap, WriterSink};
+use system_objects::{FolderVault, ReaderSource, RealClock, SleepNap, WriterSink, system_moment};
 
 // A reader whose second read fails.
 #[derive(Drop)]
@@ -94,30 +97,39 @@ fn a_writer_is_a_sink_and_fails_where_it_is_full(rt: HostRuntime) -> Result<(), 
 }
 
 #[test]
-fn a_real_clock_can_not_be_set_and_its_words_differ(rt: HostRuntime) {
-    let mut clock = RealClock::new(rt);
-    let before = clock.now();
+fn a_real_clock_keeps_the_time_that_it_is_set_to_and_its_words_differ(
+    rt: HostRuntime,
+) -> Result<(), Fail> {
+    let mut clock: Box<dyn Clock> = Box::new(rt.alloc(), RealClock::new(rt))?;
+    let before = current_moment(&clock);
     // after 2020 and before 2100
     assert!(rt; 1_577_836_800 < before && before < 4_102_444_800);
-    clock.set_moment(0);
-    assert!(rt; before <= clock.now());
-    clock.set_word(0);
-    assert_ne!(rt; clock.word(), clock.word());
+    set_moment(&mut clock, 1);
+    assert_eq!(rt; current_moment(&clock), 1);
+    set_word(&mut clock, 0);
+    assert_ne!(rt; random_word(&mut *clock), random_word(&mut *clock));
+    assert_eq!(rt; current_moment(&clock), 1);
+    Ok(())
 }
 
 #[test]
-fn a_real_clock_gives_0_at_an_error_and_no_later_moment_than_the_last(rt: HostRuntime) {
-    let mut clock = RealClock::new(Stopped { second: None });
-    assert_eq!(rt; clock.now(), 0);
-    assert_eq!(rt; clock.word(), 0);
-    let clock = RealClock::new(Stopped {
-        second: Some(1_000_000_000_000),
-    });
-    assert_eq!(rt; clock.now(), 1_000_000_000_000);
-    let clock = RealClock::new(Stopped {
-        second: Some(1_000_000_000_001),
-    });
-    assert_eq!(rt; clock.now(), 1_000_000_000_000);
+fn the_system_s_time_is_0_at_an_error_and_no_later_than_the_last_moment(
+    rt: HostRuntime,
+) -> Result<(), Fail> {
+    assert_eq!(rt; system_moment(&Stopped { second: None }), 0);
+    for (second, moment) in [
+        (1_000_000_000_000, 1_000_000_000_000),
+        (1_000_000_000_001, 1_000_000_000_000),
+    ] {
+        let stopped = Stopped {
+            second: Some(second),
+        };
+        assert_eq!(rt; system_moment(&stopped), moment);
+    }
+    let mut clock: Box<dyn Clock> = Box::new(rt.alloc(), RealClock::new(Stopped { second: None }))?;
+    assert_eq!(rt; current_moment(&clock), 0);
+    assert_eq!(rt; random_word(&mut *clock), 0);
+    Ok(())
 }
 
 #[test]
@@ -129,7 +141,7 @@ fn a_sleeping_nap_waits(rt: HostRuntime) -> Result<(), Fail> {
 }
 
 // An empty directory of its own for a test with this name.
-fn new_folder(rt: HostRuntime, name: &str) -> Result<PathBuf, Fail> {
+pub(super) fn new_folder(rt: HostRuntime, name: &str) -> Result<PathBuf, Fail> {
     let alloc = rt.alloc();
     let id = process::id(rt.process());
     let name = format!(in alloc; "outside_tests_{name}_{id}")?;
@@ -257,8 +269,9 @@ fn what_a_killed_writer_left_is_removed(rt: HostRuntime) -> Result<(), Fail> {
     let folder = new_folder(rt, "left")?;
     for name in [
         "stands",
-        "stands.1-0.pamsess-new",
-        "stands-not.1-0.pamsess-new",
+        "stands.0.pamsess-new",
+        "stands.2.pamsess-new",
+        "stands-not.0.pamsess-new",
     ] {
         let path = folder.join(rt.alloc(), name)?;
         fs::write(&rt, path.as_path(), "a longer text")?;
@@ -283,8 +296,11 @@ fn a_lock_is_taken_again_once_it_is_let_go(rt: HostRuntime) -> Result<(), Fail> 
             ("pam.d", false),
         ] {
             let path = folder.join(rt.alloc(), name)?;
-            let held = vault.hold(path.as_str().as_bytes(), kind);
+            let held = vault.hold(rt.alloc(), path.as_str().as_bytes(), kind);
             assert_eq!(rt; held.is_ok(), is_held, "at {name}");
+            if let Ok(held) = held {
+                vault.let_go(held);
+            }
         }
     }
     assert_eq!(rt; names_in(rt, &folder)?, 2, "nothing is left beside");
@@ -292,8 +308,47 @@ fn a_lock_is_taken_again_once_it_is_let_go(rt: HostRuntime) -> Result<(), Fail> 
     Ok(())
 }
 
+// A lock's file may have a second name, as a copy of a tree by links makes it; Rattle's library takes no record lock then.
+#[test]
+fn a_record_lock_s_file_has_one_name(rt: HostRuntime) -> Result<(), Fail> {
+    let folder = new_folder(rt, "names")?;
+    let lock = folder.join(rt.alloc(), "lock")?;
+    fs::write(&rt, lock.as_path(), "")?;
+    fs::hard_link(
+        &rt,
+        lock.as_path(),
+        folder.join(rt.alloc(), "other")?.as_path(),
+    )?;
+    let mut vault = FolderVault::new(rt);
+    for (kind, is_held) in [(LockKind::Record, false), (LockKind::Whole, true)] {
+        let held = vault.hold(rt.alloc(), lock.as_str().as_bytes(), kind);
+        assert_eq!(rt; held.is_ok(), is_held, "by {kind:?}");
+    }
+    fs::remove_dir_all(&rt, folder.as_path())?;
+    Ok(())
+}
+
+#[test]
+fn more_than_can_be_read_is_not_written(rt: HostRuntime) -> Result<(), Fail> {
+    let alloc = rt.alloc();
+    let folder = new_folder(rt, "large")?;
+    let path = folder.join(alloc, "large")?;
+    let most = vec![in alloc; b'x'; MAX_FILE as usize]?;
+    let more = vec![in alloc; b'y'; MAX_FILE as usize + 1]?;
+    let mut vault = FolderVault::new(rt);
+    let name = path.as_str().as_bytes();
+    assert_eq!(rt; vault.replace(alloc, name, most.as_slice()), Ok(()));
+    let refused = vault.replace(alloc, name, more.as_slice());
+    assert_eq!(rt; refused, Err(ReplaceFault::Failed));
+    let read = vault.read(alloc, name, MAX_FILE);
+    assert_eq!(rt; bytes_of(&read) == Ok(most.as_slice()), true);
+    assert_eq!(rt; names_in(rt, &folder)?, 1);
+    fs::remove_dir_all(&rt, folder.as_path())?;
+    Ok(())
+}
+
 // How many names a directory has.
-fn names_in(rt: HostRuntime, folder: &PathBuf) -> Result<usize, Fail> {
+pub(super) fn names_in(rt: HostRuntime, folder: &PathBuf) -> Result<usize, Fail> {
     let mut names = 0usize;
     for entry in fs::read_dir(&rt, folder.as_path())? {
         let _ = entry?;

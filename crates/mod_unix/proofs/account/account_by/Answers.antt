@@ -6,22 +6,22 @@ use Rattle.mod_unix.proofs.account.account_by.Goals as goal
 
 pub returns-in-Unknown : goal.returns-in-Unknown
 unfolding account_by
-returns-in-Unknown g c = record { told = λ ticks room vault process act known code end rest. rw c.in-Unknown.is rest }
+returns-in-Unknown c = record { told = λ clock ticks room vault process act known code end rest. rw c.in-Unknown.is rest }
 
 pub returns-in-Unavailable : goal.returns-in-Unavailable
 unfolding account_by
-returns-in-Unavailable g c = record { told = λ ticks room vault process act known code end rest. rw c.in-Unavailable.is rest }
+returns-in-Unavailable c = record { told = λ clock ticks room vault process act known code end rest. rw c.in-Unavailable.is rest }
 
 pub returns-in-Plain : goal.returns-in-Plain
 unfolding account_by
-returns-in-Plain g c = record { told = λ ticks room vault process act known code end rest. rw c.in-Plain.is rest }
+returns-in-Plain c = record { told = λ clock ticks room vault process act known code end rest. rw c.in-Plain.is rest }
 
 pub returns-in-Shadowed : goal.returns-in-Shadowed
 unfolding account_by
-returns-in-Shadowed g c =
+returns-in-Shadowed c =
     let entry = c.in-Shadowed.entry in
     record {
-      told = λ ticks room vault process act known code end rest.
+      told = λ clock ticks room vault process act known code end rest.
           rw c.in-Shadowed.is (judged c.acting.ensures.clock entry act _ known _ code end
-          (c.aged.ensures ∙ ap (λ d. aged d entry) (c.day_of.ensures ∙ ap day_of (c.current_moment.ensures.told ticks))) rest);
+          (c.aged.ensures ∙ ap (λ d. aged d entry) (c.day_of.ensures ∙ ap day_of ticks)) rest);
     }

@@ -11,14 +11,14 @@ use Rattle.mod_unix.proofs.account.check_account.Goals as goal
 
 pub returns-in_err-require_user-clause-told : goal.returns-in_err-require_user-clause-told
 unfolding checks_account
-returns-in_err-require_user-clause-told g c = λ talks tells ticks.
+returns-in_err-require_user-clause-told g c = λ talks tells clock ticks.
     let answered : c.from_residual.result ≡ Err c.in_err-require_user.field-0.0 = search rules in
     rw answered (early asks_user (λ user (act : Code → Act). looks user (λ look. account_by look act)) _ _ _ (c.in_err-require_user.ensures.told talks _ _ _))
 
 pub returns-clause-told : goal.returns-clause-told
 unfolding checks_account
-returns-clause-told g c = λ talks tells ticks.
+returns-clause-told g c = λ talks tells clock ticks.
     let looked = λ (room : PlainRoom) (clock : ClockState). rw c.user_of.ensures at (c.in_ok-look.ensures.told tells room clock) in
     then asks_user (λ user (act : Code → Act). looks user (λ look. account_by look act)) (Ok c.account_by-code.result) _ _ _ _ (c.in_ok-require_user.ensures.told talks _ _ (plain_process c.args.process.now))
     (then (looks _) (λ look (act : Code → Act). account_by look act) (Ok c.account_by-code.result) c.in_ok-look.look _ _ _ (looked _ _)
-    (c.account_by-code.ensures.told ticks _ _ (plain_process c.args.process.now)))
+    (c.account_by-code.ensures.told clock ticks _ _ (plain_process c.args.process.now)))

@@ -1,9 +1,11 @@
-use Rattle.std.proofs.Common.{◌≡◌, Err, refl, sym, ◌∙◌, rules}
+use Rattle.std.proofs.Common.{◌≡◌, Err, refl, sym, ap, ◌∙◌, rules}
 use Rattle.pam_handle.specs.pam_room.specs.Plain.{plain_room, plain_world}
 use Rattle.pam_handle.specs.Plain.{plain_handle}
 use Rattle.pam_library.proofs.Stacking.{delay_gives, only_of, stack_failed, stack_ran, stack_refused, told_of, world_not}
 use Rattle.pam_library.proofs.Stopping.{stops_plain}
 use Rattle.pam_library.proofs.Within.{inside_goes}
+use Rattle.pam_library.proofs.Tracing.{ran_traced}
+use Rattle.pam_library.specs.Outcome.{PlainOutcome, plain_outcome}
 use Rattle.pam_library.proofs.Coding.{requests_delay, switches_delay}
 use Rattle.pam_library.proofs.Quietly.{anyway}
 use Rattle.pam_library.proofs.calls.call_open.Goals as goal
@@ -102,7 +104,10 @@ returns-in-Some-clause-called g c = rw c.in-Some.ensures.stack (record {
   world_tells = c.call.ensures.called.world_tells;
   goes = stack_ran _ _ _ _ c.in-Some.func c.in-Some.flags _ _ c.telling.result c.in_ok-code.code _ _ _ c.requires.told c.requires.ready.0 (sym c.refusal.ensures ∙ c.in_default-refusal.is)
       (λ number_of given all. c.in_ok-code.ensures.called.told number_of (delay_gives c.in-Some.func _ number_of given) all) c.call.ensures.called.sound c.take_told-told.ensures.emptied
-      (told_of _ _ _ _ _ _ _ _ c.telling.ensures.plain c.telling.ensures.answer c.telling.ensures.filed_from c.receipts_in-filed.ensures c.take_told-told.ensures.said c.take_told-told.ensures.trail c.take_told-told.ensures.wait);
+      (told_of _ _ _ _ _ _ _ _ c.telling.ensures.plain c.telling.ensures.answer c.telling.ensures.filed_from c.receipts_in-filed.ensures c.take_told-told.ensures.said c.take_told-told.ensures.trail c.take_told-told.ensures.wait)
+      (ran_traced c.in-Some.func c.in-Some.flags _ (plain_handle (plain_room (λ b. (goal.Conv-dyn g (b.vtable, b.value)).conv_holds b.value)) c.call.new.self) (plain_outcome c.telling.result) c.in_ok-code.code _ c.requires.told c.take_told-told.ensures.emptied
+      (ap (λ (o : PlainOutcome). o.trail) c.telling.ensures.plain ∙ c.take_told-told.ensures.trail) (ap (λ (o : PlainOutcome). o.answer) c.telling.ensures.plain)
+      c.in_ok-code.ensures.called.left c.in_ok-code.ensures.called.by_trail);
   world = λ leaves. absurd (world_not c.in-Some.func c.in-Some.flags (plain_handle (plain_room (λ b. (goal.Conv-dyn g (b.vtable, b.value)).conv_holds b.value)) c.args.handle.now) (sym c.refusal.ensures ∙ c.in_default-refusal.is) leaves);
 })
 

@@ -7,7 +7,7 @@ use Rattle.session_login.proofs.Reporting.{said_calls, said_course_stopped}
 use Rattle.session_login.proofs.attempt.log_in.Goals as goal
 
 pub returns-in-Err-clause-told : goal.returns-in-Err-clause-told
-returns-in-Err-clause-told g c = λ delay is told sink. logs_stopped _ _ _ _ _ _ _ (c.in-Err.ensures.told delay is told sink)
+returns-in-Err-clause-told g c = λ still delay is told sink. logs_stopped _ _ _ _ _ _ _ (c.in-Err.ensures.told still delay is told sink)
 
 pub returns-in-Err-clause-shows : goal.returns-in-Err-clause-shows
 returns-in-Err-clause-shows g c = λ sink. shows_stop _ _ _ _ _ (c.in-Err.ensures.shows sink)
@@ -16,9 +16,9 @@ pub returns-in-Err-clause-went : goal.returns-in-Err-clause-went
 returns-in-Err-clause-went g c = went_so _ _ (no_end (Err c.in-Err.stop)) _ _ c.go_through.ensures.went
 
 pub returns-in-Ok-clause-told : goal.returns-in-Ok-clause-told
-returns-in-Ok-clause-told g c = λ delay is told sink.
-    let next = c.final_verdict.ensures.told delay (c.go_through.ensures.went.gives delay is) (still_told _ _ _ c.go_through.ensures.went told) (c.go_through.ensures.sink_tells ∙ sink) in
-    logs_on _ _ _ _ _ c.in-Ok.denied _ _ _ _ (c.in-Ok.ensures.told delay is told sink) (rw c.go_through.ensures.went.players at next)
+returns-in-Ok-clause-told g c = λ still delay is told sink.
+    let next = c.final_verdict.ensures.told still delay (c.go_through.ensures.went.gives delay is) (still_told _ _ _ c.go_through.ensures.went told) (c.go_through.ensures.sink_tells ∙ sink) in
+    logs_on _ _ _ _ _ c.in-Ok.denied _ _ _ _ (c.in-Ok.ensures.told still delay is told sink) (rw c.go_through.ensures.went.players at next)
 
 pub returns-in-Ok-clause-went : goal.returns-in-Ok-clause-went
 returns-in-Ok-clause-went g c =

@@ -8,7 +8,7 @@ use Rattle.session_login.proofs.Reporting.{said_login, said_refused, said_start_
 use Rattle.session_login.proofs.attempt.try_login.Goals as goal
 
 pub returns-in-Err-clause-told : goal.returns-in-Err-clause-told
-returns-in-Err-clause-told g c = λ delay is told sink. comes_unbegun _ _ _ _ _
+returns-in-Err-clause-told g c = λ still delay is told sink. comes_unbegun _ _ _ _ _
 
 pub returns-in-Err-clause-shows : goal.returns-in-Err-clause-shows
 returns-in-Err-clause-shows g c = λ sink. shows_none _ _ _
@@ -17,8 +17,8 @@ pub returns-in-Err-clause-went : goal.returns-in-Err-clause-went
 returns-in-Err-clause-went g c = went_nowhere _ _ c.requires.sound
 
 pub returns-in-Err-make-clause-told : goal.returns-in-Err-make-clause-told
-returns-in-Err-make-clause-told g c = λ delay is told sink.
-    comes_start_stopped _ _ _ _ _ _ _ _ (made_as _ _ _ c.in-Ok.ensures _ _ _ _ _ (c.in-Err-make.ensures.told delay is told sink)).goes
+returns-in-Err-make-clause-told g c = λ still delay is told sink.
+    comes_start_stopped _ _ _ _ _ _ _ _ (made_as _ _ _ c.in-Ok.ensures _ _ _ _ _ (c.in-Err-make.ensures.told still delay is told sink)).goes
 
 pub returns-in-Err-make-clause-shows : goal.returns-in-Err-make-clause-shows
 returns-in-Err-make-clause-shows g c = λ sink. shows_stop _ _ _ _ _ (c.in-Err-make.ensures.shows sink)
@@ -27,9 +27,9 @@ pub returns-in-Err-make-clause-went : goal.returns-in-Err-make-clause-went
 returns-in-Err-make-clause-went g c = went_so _ _ (start_no_end _ _ c.in-Ok.start c.in-Ok.ensures (Err c.in-Err-make.stop)) _ _ c.make.ensures.went
 
 pub returns-then-is_refused-clause-told : goal.returns-then-is_refused-clause-told
-returns-then-is_refused-clause-told g c = λ delay is told sink.
-    comes_refused _ _ _ _ c.in-Ok-make.answer _ _ _ (made_as _ _ _ c.in-Ok.ensures _ _ _ _ _ (c.in-Ok-make.ensures.told delay is told sink)).answers
-    (made_as _ _ _ c.in-Ok.ensures _ _ _ _ _ (c.in-Ok-make.ensures.told delay is told sink)).goes (sym c.is_refused.ensures ∙ c.if-is_refused.true)
+returns-then-is_refused-clause-told g c = λ still delay is told sink.
+    comes_refused _ _ _ _ c.in-Ok-make.answer _ _ _ (made_as _ _ _ c.in-Ok.ensures _ _ _ _ _ (c.in-Ok-make.ensures.told still delay is told sink)).answers
+    (made_as _ _ _ c.in-Ok.ensures _ _ _ _ _ (c.in-Ok-make.ensures.told still delay is told sink)).goes (sym c.is_refused.ensures ∙ c.if-is_refused.true)
 
 pub returns-then-is_refused-clause-shows : goal.returns-then-is_refused-clause-shows
 returns-then-is_refused-clause-shows g c = λ sink.
@@ -40,10 +40,10 @@ pub returns-then-is_refused-clause-went : goal.returns-then-is_refused-clause-we
 returns-then-is_refused-clause-went g c = went_so _ _ (start_no_end _ _ c.in-Ok.start c.in-Ok.ensures (Ok Refused)) _ _ c.make.ensures.went
 
 pub returns-clause-told : goal.returns-clause-told
-returns-clause-told g c = λ delay is told sink.
-    let next = c.log_in.ensures.told delay (c.make.ensures.went.gives delay is) (still_told _ _ _ c.make.ensures.went told) (c.make.ensures.sink_tells ∙ sink) in
-    comes_on _ _ _ _ c.in-Ok-make.answer _ _ _ (made_as _ _ _ c.in-Ok.ensures _ _ _ _ _ (c.in-Ok-make.ensures.told delay is told sink)).answers
-    (made_as _ _ _ c.in-Ok.ensures _ _ _ _ _ (c.in-Ok-make.ensures.told delay is told sink)).goes (sym c.is_refused.ensures ∙ c.if-is_refused.false) _ _ _ (rw c.make.ensures.went.players at next)
+returns-clause-told g c = λ still delay is told sink.
+    let next = c.log_in.ensures.told still delay (c.make.ensures.went.gives delay is) (still_told _ _ _ c.make.ensures.went told) (c.make.ensures.sink_tells ∙ sink) in
+    comes_on _ _ _ _ c.in-Ok-make.answer _ _ _ (made_as _ _ _ c.in-Ok.ensures _ _ _ _ _ (c.in-Ok-make.ensures.told still delay is told sink)).answers
+    (made_as _ _ _ c.in-Ok.ensures _ _ _ _ _ (c.in-Ok-make.ensures.told still delay is told sink)).goes (sym c.is_refused.ensures ∙ c.if-is_refused.false) _ _ _ (rw c.make.ensures.went.players at next)
 
 pub returns-clause-went : goal.returns-clause-went
 returns-clause-went g c =

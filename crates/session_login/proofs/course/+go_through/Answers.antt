@@ -8,7 +8,7 @@ use Rattle.session_login.proofs.Reporting.{said_denied, said_none, said_not_due,
 use Rattle.session_login.proofs.course.+go_through.Goals as goal
 
 pub returns-in_default-clause-told : goal.returns-in_default-clause-told
-returns-in_default-clause-told g t c = λ delay is told sink. rw (nil_from_length c.args.calls.now c.in_default.ensures.cases) (runs_none _ _ _ _)
+returns-in_default-clause-told g t c = λ still delay is told sink. rw (nil_from_length c.args.calls.now c.in_default.ensures.cases) (runs_none _ _ _ _)
 
 pub returns-in_default-clause-went : goal.returns-in_default-clause-went
 returns-in_default-clause-went g t c = went_nowhere _ _ c.requires
@@ -17,12 +17,12 @@ pub returns-in_default-clause-shows : goal.returns-in_default-clause-shows
 returns-in_default-clause-shows g t c = λ sink. shows_nothing _ _ _ tt
 
 pub returns-then-not-is_due-clause-told : goal.returns-then-not-is_due-clause-told
-returns-then-not-is_due-clause-told g t c = λ delay is told sink.
-    told_not_due _ _ c.in-Some.call.now _ _ _ c.in-Some.ensures.cases.0 (sym c.is_due.ensures ∙ c.if-not-is_due.true) _ _ _ _ (c.go_through.ensures.told delay is told sink)
+returns-then-not-is_due-clause-told g t c = λ still delay is told sink.
+    told_not_due _ _ c.in-Some.call.now _ _ _ c.in-Some.ensures.cases.0 (sym c.is_due.ensures ∙ c.if-not-is_due.true) _ _ _ _ (c.go_through.ensures.told still delay is told sink)
 
 pub returns-in-Err-clause-told : goal.returns-in-Err-clause-told
-returns-in-Err-clause-told g t c = λ delay is told sink.
-    told_stopped _ _ c.in-Some.call.now _ _ _ c.in-Some.ensures.cases.0 _ c.call.ensures (sym c.is_due.ensures ∙ c.if-not-is_due.false) _ _ _ _ (c.in-Err.ensures.told delay is told sink)
+returns-in-Err-clause-told g t c = λ still delay is told sink.
+    told_stopped _ _ c.in-Some.call.now _ _ _ c.in-Some.ensures.cases.0 _ c.call.ensures (sym c.is_due.ensures ∙ c.if-not-is_due.false) _ _ _ _ (c.in-Err.ensures.told still delay is told sink)
 
 pub returns-in-Err-clause-shows : goal.returns-in-Err-clause-shows
 returns-in-Err-clause-shows g t c = λ sink. shows_stop _ _ _ _ _ (c.in-Err.ensures.shows sink)
@@ -31,10 +31,10 @@ pub returns-in-Err-clause-went : goal.returns-in-Err-clause-went
 returns-in-Err-clause-went g t c = went_so _ _ (stack_no_end c.in-Some.call.now c.call.result c.call.ensures) _ _ c.make.ensures.went
 
 pub returns-then-accepts-clause-told : goal.returns-then-accepts-clause-told
-returns-then-accepts-clause-told g t c = λ delay is told sink.
-    let next = c.go_through-then-accepts.ensures.told delay (c.make.ensures.went.gives delay is) (still_told _ _ _ c.make.ensures.went told) (c.make.ensures.sink_tells ∙ sink) in
+returns-then-accepts-clause-told g t c = λ still delay is told sink.
+    let next = c.go_through-then-accepts.ensures.told still delay (c.make.ensures.went.gives delay is) (still_told _ _ _ c.make.ensures.went told) (c.make.ensures.sink_tells ∙ sink) in
     told_on _ _ c.in-Some.call.now _ _ _ c.in-Some.ensures.cases.0 _ c.call.ensures (sym c.is_due.ensures ∙ c.if-not-is_due.false) _ _ _ _ _ c.code_in-code.ensures
-    (c.in-Ok.ensures.told delay is told sink) (sym c.accepts.ensures ∙ c.if-accepts.true) _ _ _ (rw c.make.ensures.went.players at next)
+    (c.in-Ok.ensures.told still delay is told sink) (sym c.accepts.ensures ∙ c.if-accepts.true) _ _ _ (rw c.make.ensures.went.players at next)
 
 pub returns-then-accepts-clause-went : goal.returns-then-accepts-clause-went
 returns-then-accepts-clause-went g t c =
@@ -42,9 +42,9 @@ returns-then-accepts-clause-went g t c =
     c.go_through-then-accepts.ensures.went
 
 pub returns-clause-told : goal.returns-clause-told
-returns-clause-told g t c = λ delay is told sink.
+returns-clause-told g t c = λ still delay is told sink.
     told_denied _ _ c.in-Some.call.now _ _ _ c.in-Some.ensures.cases.0 _ c.call.ensures (sym c.is_due.ensures ∙ c.if-not-is_due.false) _ _ _ _ _ c.code_in-code.ensures
-    (c.in-Ok.ensures.told delay is told sink) (sym c.accepts.ensures ∙ c.if-accepts.false)
+    (c.in-Ok.ensures.told still delay is told sink) (sym c.accepts.ensures ∙ c.if-accepts.false)
 
 pub returns-clause-went : goal.returns-clause-went
 returns-clause-went g t c = went_so _ _ (stack_no_end c.in-Some.call.now c.call.result c.call.ensures) _ _ c.make.ensures.went

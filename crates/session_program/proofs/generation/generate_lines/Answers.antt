@@ -20,7 +20,7 @@ pub returns-in-Ok-clause-generate : goal.returns-in-Ok-clause-generate
 returns-in-Ok-clause-generate g c = record {
   generated = λ number given sink both.
       generated _ _ _ _ _ _ _ _ _ number _ _ c.generate-generated.result _ c.in-Ok.ensures.players c.in-Ok.ensures.slots c.status_of_generate-in-Ok.ensures
-      (c.generate-generated.ensures.told number (c.in-Ok.ensures.delay number given) (both_true _ _ (c.in-Ok.ensures.tells ∙ both_right _ _ both) (both_left _ _ both)) sink);
+      (c.generate-generated.ensures.told number (c.in-Ok.ensures.delay number given) (both_true _ _ (c.in-Ok.ensures.tells (both_right _ _ both)) (both_left _ _ both)) sink);
   generate_writes = λ sink. c.generate-generated.ensures.writes sink;
   generate_statuses = (c.generate-generated.result, c.status_of_generate-in-Ok.ensures);
 }

@@ -1,6 +1,7 @@
 use Rattle.std.proofs.Common.{◌∙◌, refl}
 use Rattle.session_program.proofs.Cleaning.{cleaned_at, nothing_since}
 use Rattle.session_program.proofs.LoggingIn.{ends_login, logs_in_not, logs_in_so}
+use Rattle.session_program.proofs.Telling.{both_left, both_right}
 use Rattle.session_program.proofs.login.log_in.Goals as goal
 
 pub library_under-requires : goal.library_under-requires
@@ -14,10 +15,11 @@ returns-in-Err-clause-cleaned_up g c = nothing_since _ _ _ _ c.in-Err.ensures.st
 
 pub returns-in-Ok-clause-login : goal.returns-in-Ok-clause-login
 returns-in-Ok-clause-login g c =
-    logs_in_so _ _ _ _ _ _ _ _ _ _ c.login-verdict.result c.in-Ok.ensures.opened c.with_terminal-desk.ensures.players c.with_terminal-desk.ensures.slots c.with_terminal-desk.ensures.tells
+    logs_in_so _ _ _ _ _ _ _ _ _ _ c.login-verdict.result c.in-Ok.ensures.opened c.with_terminal-desk.ensures.players c.with_terminal-desk.ensures.slots
+    (λ both. both_right _ _ (c.with_terminal-desk.ensures.tells ∙ both))
     (λ number given. rw c.with_terminal-desk.ensures.delay given) c.library_under.ensures.tells c.status_of_login-in-Ok.ensures
-    (λ number gives both sink. c.login-verdict.ensures.told number gives both sink)
-    (λ sink. record { result = c.login-verdict.result; is = c.status_of_login-in-Ok.ensures; shows = c.login-verdict.ensures.shows sink })
+    (λ both number gives all sink. c.login-verdict.ensures.told (both_left _ _ (c.with_terminal-desk.ensures.tells ∙ both)) number gives all sink)
+    (λ sink. record { result = c.login-verdict.result; is = c.status_of_login-in-Ok.ensures; shows = c.login-verdict.ensures.shows sink; reports = c.login-verdict.ensures.reports sink })
 
 pub returns-in-Ok-clause-cleaned_up : goal.returns-in-Ok-clause-cleaned_up
 returns-in-Ok-clause-cleaned_up g c =

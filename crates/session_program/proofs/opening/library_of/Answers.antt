@@ -1,4 +1,4 @@
-use Rattle.session_program.proofs.Telling.{none_open_at_first, sound_at_first, stand_at_first}
+use Rattle.session_program.proofs.Telling.{both_right, none_open_at_first, sound_at_first, stand_at_first}
 use Rattle.session_program.proofs.opening.library_of.Goals as goal
 
 pub returns-clause-first : goal.returns-clause-first
@@ -14,3 +14,6 @@ returns-clause-none_open g c = none_open_at_first _ c.args.desk.convs.items _ c.
 
 pub returns-clause-delay : goal.returns-clause-delay
 returns-clause-delay g c = λ number given. rw c.in_ok-library.ensures.gear (c.new.ensures number given)
+
+pub returns-clause-tells : goal.returns-clause-tells
+returns-clause-tells g c = λ both. rw c.in_ok-library.ensures.tells (both_right _ _ both)

@@ -6,39 +6,39 @@ use Rattle.session_program.proofs.program.pamsess.Goals as goal
 
 pub returns-in-Some-Run-clause-run : goal.returns-in-Some-Run-clause-run
 returns-in-Some-Run-clause-run g c root asked =
-    run_asked _ _ _ _ _ _ _ root (rw c.in-Some-Run.field-0-is at c.in-Some-Run.ensures) asked (script_so _ _ _ c.status_of_script.ensures _ _ _ _ c.run_under.ensures c.numbers_stand_side_by_side.ensures)
+    run_asked _ _ _ _ _ _ _ root (rw c.in-Some-Run.field-0-is at c.in-Some-Run.ensures) asked (script_so _ _ _ c.status_of_script.ensures _ _ _ _ c.run_under.ensures.under c.numbers_stand_side_by_side.ensures c.run_under.ensures.reports)
 
 pub returns-in-Some-Run-clause-command : goal.returns-in-Some-Run-clause-command
 returns-in-Some-Run-clause-command g c =
     goes_reading _ _ _ _ (rw c.in-Some-Run.field-0-is at c.in-Some-Run.ensures) (λ is. run_not_two _ (sym c.status_of_script.ensures ∙ is)) (λ none. none)
 
 pub returns-in-Some-Run-clause-read_causes : goal.returns-in-Some-Run-clause-read_causes
-returns-in-Some-Run-clause-read_causes g c = script_read_causes _ _ _ c.status_of_script.ensures _ _ _ _ c.run_under.ensures
+returns-in-Some-Run-clause-read_causes g c = script_read_causes _ _ _ c.status_of_script.ensures _ _ _ _ c.run_under.ensures.under
 
 pub returns-in-Some-Run-clause-write_causes : goal.returns-in-Some-Run-clause-write_causes
-returns-in-Some-Run-clause-write_causes g c = script_write_causes _ _ _ c.status_of_script.ensures _ _ _ _ c.run_under.ensures
+returns-in-Some-Run-clause-write_causes g c = script_write_causes _ _ _ c.status_of_script.ensures _ _ _ _ c.run_under.ensures.under
 
 pub returns-in-Some-Run-clause-cleaned_up : goal.returns-in-Some-Run-clause-cleaned_up
 returns-in-Some-Run-clause-cleaned_up g c =
-    cleaned_as _ _ _ _ _ _ _ (rw c.in-Some-Run.field-0-is at c.in-Some-Run.ensures) c.run_under.ensures.cleaned_up
+    cleaned_as _ _ _ _ _ _ _ (rw c.in-Some-Run.field-0-is at c.in-Some-Run.ensures) c.run_under.ensures.under.cleaned_up
 
 pub returns-in-Some-Wire-clause-wire : goal.returns-in-Some-Wire-clause-wire
 returns-in-Some-Wire-clause-wire g c root asked =
-    wire_asked _ _ _ _ _ _ _ root (rw c.in-Some-Wire.field-0-is at c.in-Some-Wire.ensures) asked (frames_so _ _ _ c.status_of_frames.ensures _ _ _ _ c.run_under-in-Some-Wire.ensures)
+    wire_asked _ _ _ _ _ _ _ root (rw c.in-Some-Wire.field-0-is at c.in-Some-Wire.ensures) asked (frames_so _ _ _ c.status_of_frames.ensures _ _ _ _ c.run_under-in-Some-Wire.ensures.under c.run_under-in-Some-Wire.ensures.reports)
 
 pub returns-in-Some-Wire-clause-command : goal.returns-in-Some-Wire-clause-command
 returns-in-Some-Wire-clause-command g c =
     goes_reading _ _ _ _ (rw c.in-Some-Wire.field-0-is at c.in-Some-Wire.ensures) (λ is. wire_not_two _ (sym c.status_of_frames.ensures ∙ is)) (λ none. none)
 
 pub returns-in-Some-Wire-clause-read_causes : goal.returns-in-Some-Wire-clause-read_causes
-returns-in-Some-Wire-clause-read_causes g c = frames_read_causes _ _ _ c.status_of_frames.ensures _ _ _ _ c.run_under-in-Some-Wire.ensures
+returns-in-Some-Wire-clause-read_causes g c = frames_read_causes _ _ _ c.status_of_frames.ensures _ _ _ _ c.run_under-in-Some-Wire.ensures.under
 
 pub returns-in-Some-Wire-clause-write_causes : goal.returns-in-Some-Wire-clause-write_causes
-returns-in-Some-Wire-clause-write_causes g c = frames_write_causes _ _ _ c.status_of_frames.ensures _ _ _ _ c.run_under-in-Some-Wire.ensures
+returns-in-Some-Wire-clause-write_causes g c = frames_write_causes _ _ _ c.status_of_frames.ensures _ _ _ _ c.run_under-in-Some-Wire.ensures.under
 
 pub returns-in-Some-Wire-clause-cleaned_up : goal.returns-in-Some-Wire-clause-cleaned_up
 returns-in-Some-Wire-clause-cleaned_up g c =
-    cleaned_as _ _ _ _ _ _ _ (rw c.in-Some-Wire.field-0-is at c.in-Some-Wire.ensures) c.run_under-in-Some-Wire.ensures.cleaned_up
+    cleaned_as _ _ _ _ _ _ _ (rw c.in-Some-Wire.field-0-is at c.in-Some-Wire.ensures) c.run_under-in-Some-Wire.ensures.under.cleaned_up
 
 pub returns-in-Some-Check-clause-check : goal.returns-in-Some-Check-clause-check
 returns-in-Some-Check-clause-check g c root service asked =

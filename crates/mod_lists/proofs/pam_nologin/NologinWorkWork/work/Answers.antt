@@ -4,14 +4,12 @@ use Rattle.module_acts.specs.Returns.{finished_early}
 use Rattle.mod_lists.proofs.pam_nologin.NologinWorkWork.work.Goals as goal
 
 pub returns-in_err-require_user-clause-told : goal.returns-in_err-require_user-clause-told
-returns-in_err-require_user-clause-told g c = λ talks tells ticks.
+returns-in_err-require_user-clause-told g c = λ talks tells clock ticks.
     let answered : c.from_residual.result ≡ Err c.in_err-require_user.field-0.0 = search rules in
     rw answered (finished_early asks_user _ _ _ _ (c.in_err-require_user.ensures.told talks _ _ _))
 
 pub returns-clause-told : goal.returns-clause-told
-returns-clause-told g c = λ talks tells ticks.
-    let clock = c.args._clock.now in
-    let ticking = (goal.Clock-dyn g clock).clock_holds clock.1 in
-    c.in_ok-require_user.ensures.told talks _ ticking _ _ _ _ _
-    (c.in_ok-notice.ensures.told tells _ ticking _ _ _ _
-    (rw c.plain_answer-plain.ensures at (c.in_ok-code.ensures.told (c.in_ok-require_user.ensures.tells ∙ talks) (c.in_ok-notice.ensures.tells ∙ tells) ticking)))
+returns-clause-told g c = λ talks tells clock ticks.
+    c.in_ok-require_user.ensures.told talks _ clock _ _ _ _ _
+    (c.in_ok-notice.ensures.told tells _ clock _ _ _ _
+    (rw c.plain_answer-plain.ensures at (c.in_ok-code.ensures.told (c.in_ok-require_user.ensures.tells ∙ talks) (c.in_ok-notice.ensures.tells ∙ tells) clock)))

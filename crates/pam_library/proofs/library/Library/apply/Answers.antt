@@ -6,7 +6,7 @@ use Rattle.pam_library.specs.AnyWorld.{leaves_world}
 use Rattle.pam_library.proofs.Stacking.{only_of}
 use Rattle.pam_library.proofs.Within.{both_of, first_of, second_of}
 use Rattle.pam_library.proofs.Holding.{held_in}
-use Rattle.pam_library.proofs.Applying.{IsPut, IsReplaced, all_step, answer_after, bad_number, fails_after, inside_after, moves_after, none_beyond, none_first, others_stay, put, ready_at, replaced, slots_length, sound_after, spends_after, stops_after, succeeds_after, tell_as, tells_at}
+use Rattle.pam_library.proofs.Applying.{IsPut, IsReplaced, all_step, answer_after, bad_number, fails_after, inside_after, moves_after, none_beyond, none_first, others_stay, put, ready_at, replaced, slots_length, sound_after, spends_after, stops_after, succeeds_after, tell_as, tells_at, traces_after}
 use Rattle.pam_library.proofs.Gathering.{answers_with, bad_answers, keeps_still, leaves_all, none_ends, runs_out}
 use Rattle.pam_library.proofs.library.Library.apply.Given as given
 use Rattle.pam_library.proofs.library.Library.apply.Goals as goal
@@ -93,7 +93,8 @@ returns-clause-world g c = λ leaves. c.step-slot.ensures.called.calls.world (su
 
 pub returns-clause-answers : goal.returns-clause-answers
 returns-clause-answers g c = answers_with c.args.step.now _ _ c.step-slot.result.outcome
-    (answer_after _ _ _ _ _ _ _ _ _ _ _ _ _ (put_in g c) c.step-slot.ensures.called.calls.goes) c.step-slot.ensures.called.calls.goes.filed_from c.step-slot.ensures.called.counts
+    (answer_after _ _ _ _ _ _ _ _ _ _ _ _ _ (put_in g c) c.step-slot.ensures.called.calls.goes)
+    (traces_after _ _ _ _ _ _ _ _ _ _ _ _ _ (put_in g c) c.step-slot.ensures.called.calls.goes) c.step-slot.ensures.called.calls.goes.filed_from c.step-slot.ensures.called.counts
 
 pub returns-clause-inside : goal.returns-clause-inside
 returns-clause-inside g c = λ delay inside.

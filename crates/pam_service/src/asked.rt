@@ -1,0 +1,62 @@
+ghost use Rattle.std.specs.Prelude.{◌≡◌, IfOk};
+ghost use Rattle.session_program.specs.Command.{command_of};
+ghost use Rattle.who_calls.specs.Request.{service_request};
+ghost use Rattle.pam_service.specs.Service.{IsOfFrames, asked_command, caller_in, wires_under};
+
+use pam_base::Text;
+use std::alloc::Global;
+use std::io;
+use who_calls::request_in;
+
+/// The caller if nothing is served: nobody.
+const NOBODY: u32 = 65_534;
+
+/// What the program is called with.
+#[derive(Drop)]
+pub struct Asked {
+    /// Its arguments: `wire ROOT`, or none; then only the usage line is written.
+    pub words: Vec<String>,
+    /// The user ID that calls are made for.
+    pub caller: u32,
+}
+
+impl Asked {
+    /// The directory that files are under.
+    pub fn root(&self) -> &[u8] {
+        match self.words.as_slice() {
+            [_, root] => root.as_bytes(),
+            _ => b"/",
+        }
+    }
+}
+
+/// What these arguments ask of a process with this `/proc/self/status`.
+pub fn asked_of(alloc: Global, words: &[String], status: &Text) -> io::Result<Asked>
+    ensures request { IfOk result (λ asked. command_of asked.words.items
+        ≡ asked_command (service_request status.now words.now)) }
+    ensures caller { IfOk result (λ asked. asked.caller
+        ≡ caller_in (service_request status.now words.now)) }
+    ensures frames { IfOk result (λ asked. IsOfFrames (command_of asked.words.items)) }
+{
+    match request_in(words, status.bytes()) {
+        Some(request) => Ok(Asked {
+            words: wire_words(alloc, request.root)?,
+            caller: request.caller,
+        }),
+        None => Ok(Asked {
+            words: Vec::new(alloc),
+            caller: NOBODY,
+        }),
+    }
+}
+
+// `wire ROOT`.
+fn wire_words(alloc: Global, root: &str) -> io::Result<Vec<String>>
+    ensures command { IfOk result (λ words. command_of words.items ≡ wires_under root.now) }
+    ensures frames { IfOk result (λ words. IsOfFrames (command_of words.items)) }
+{
+    let mut words = Vec::new(alloc);
+    words.push(String::from_str(alloc, "wire")?)?;
+    words.push(String::from_str(alloc, root)?)?;
+    Ok(words)
+}

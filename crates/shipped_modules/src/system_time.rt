@@ -1,0 +1,22 @@
+use session_program::TimeOfDay;
+use std::rt::Clock as SystemClock;
+use system_objects::system_moment;
+
+/// The system's time of day.
+#[derive(Drop)]
+pub struct SystemTime<R: SystemClock + Drop> {
+    rt: R,
+}
+
+impl<R: SystemClock + Drop> SystemTime<R> {
+    /// That of a runtime that `main` gets.
+    pub fn new(rt: R) -> Self {
+        SystemTime { rt }
+    }
+}
+
+impl<R: SystemClock + Drop> TimeOfDay for SystemTime<R> {
+    fn seconds(&self) -> u64 {
+        system_moment(&self.rt)
+    }
+}
