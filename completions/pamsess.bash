@@ -1,13 +1,14 @@
 # Completion of pamsess and the scripts beside it for bash: commands, directories, the services and the users below ROOT.
-# To try it: . completions/pamsess.bash
+# In a checkout: . completions/pamsess.bash; then ./pamsess is completed, too.
 #
 # Names of services and users come from the files of a tree that may be anybody's. So none of them is expanded (as `compgen -W`
 # would do), none is a pattern of files, and each is offered as printf's %q quotes it.
 
 # Sets `plain` to a word without its quotes. Nothing in it is expanded, except that a leading `~` means a home directory.
 _pamsess_plain() {
-    local rest=$1 quote= char
+    local rest=$1 quote="" char
     plain=
+    # shellcheck disable=SC2088 # (a tilde that was typed, and isn't to be expanded here)
     case $rest in
         "~" | "~/"*) plain=$HOME rest=${rest#"~"} ;;
     esac
@@ -86,6 +87,14 @@ _pamsess() {
             # (an option before ROOT)
             [ "$first" != --html ] && [ "$first" != --json ] || kinds=(option directory service)
             ;;
+        pamsess-ways)
+            kinds=(directory service)
+            case $first,${COMP_WORDS[2]-} in
+                --json,--compare) kinds=(option option directory directory service) ;;
+                --json,*) kinds=(option directory service) ;;
+                --compare,*) kinds=(option directory directory service) ;;
+            esac
+            ;;
         pamsess-what-if) kinds=(directory service user) ;;
         pamsess-stand-in) kinds=(directory directory user) ;;
         pamsess-try) kinds=(directory service user call call call call call call) ;;
@@ -100,10 +109,11 @@ _pamsess() {
             ;;
     esac
     root=${COMP_WORDS[1]-}
-    case ${kinds[0]} in
-        command | option) root=${COMP_WORDS[2]-} ;;
+    case ${kinds[0]},${kinds[1]-} in
+        option,option) root=${COMP_WORDS[3]-} ;;
+        command,* | option,*) root=${COMP_WORDS[2]-} ;;
     esac
     _pamsess_kind "$word" "${kinds[number - 1]-}" "$root"
 }
 
-complete -F _pamsess pamsess pamsess-check-all pamsess-explain pamsess-stand-in pamsess-try pamsess-what-if
+complete -F _pamsess pamsess pamsess-check-all pamsess-explain pamsess-stand-in pamsess-try pamsess-ways pamsess-what-if

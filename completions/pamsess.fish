@@ -1,4 +1,5 @@
 # Completion of pamsess and the scripts beside it for fish: commands, directories, the services and the users below ROOT.
+# In a checkout: source completions/pamsess.fish; then ./pamsess is completed, too.
 
 # The words that were typed before this one, the command's name left out.
 function __pamsess_words
@@ -11,6 +12,13 @@ function __pamsess_at
     set -l words (__pamsess_words)
     test (count $words) -eq $argv[1]; or return 1
     test (count $argv) -eq 1; or contains -- $words[1] $argv[2..-1]
+end
+
+# Whether so many words were typed after --json, or if there is none, in all, the first of them --compare.
+function __pamsess_compares_at
+    set -l words (__pamsess_words)
+    test "$words[1]" = --json; and set -e words[1]
+    test (count $words) -eq $argv[1]; and test "$words[1]" = --compare
 end
 
 # The root is the word with this number.
@@ -41,7 +49,7 @@ complete -c pamsess -n '__pamsess_at 2 check login audit' -a '(__pamsess_service
 complete -c pamsess -n '__pamsess_at 2 tally' -a '(__pamsess_users 2)'
 complete -c pamsess -n '__pamsess_at 3 login' -a '(__pamsess_users 2)'
 
-for name in check-all explain stand-in try what-if
+for name in check-all explain stand-in try ways what-if
     complete -c pamsess-$name -f
     complete -c pamsess-$name -n '__pamsess_at 0' -a '(__fish_complete_directories)'
 end
@@ -53,6 +61,13 @@ complete -c pamsess-explain -n '__pamsess_at 0' -l html -d 'write a page'
 complete -c pamsess-explain -n '__pamsess_at 1 --html' -a '(__fish_complete_directories)'
 complete -c pamsess-explain -n '__pamsess_at 2 --html' -a '(__pamsess_services 2)'
 complete -c pamsess-explain -n '__pamsess_at 1; and not __pamsess_at 1 --html' -a '(__pamsess_services 1)'
+complete -c pamsess-ways -n '__pamsess_at 0' -l json -d 'print an object'
+complete -c pamsess-ways -n '__pamsess_at 0; or __pamsess_at 1 --json' -l compare -d 'compare two directories'
+complete -c pamsess-ways -n '__pamsess_at 1 --json; or __pamsess_compares_at 1; or __pamsess_compares_at 2' -a '(__fish_complete_directories)'
+complete -c pamsess-ways -n '__pamsess_at 1; and not __pamsess_at 1 --json --compare' -a '(__pamsess_services 1)'
+complete -c pamsess-ways -n '__pamsess_at 2 --json; and not __pamsess_compares_at 1' -a '(__pamsess_services 2)'
+complete -c pamsess-ways -n '__pamsess_at 3 --compare' -a '(__pamsess_services 2)'
+complete -c pamsess-ways -n '__pamsess_at 4 --json; and __pamsess_compares_at 3' -a '(__pamsess_services 3)'
 complete -c pamsess-stand-in -n '__pamsess_at 1' -a '(__fish_complete_directories)'
 complete -c pamsess-stand-in -n '__pamsess_at 2' -a '(__pamsess_users 1)'
 complete -c pamsess-try -n '__pamsess_at 2' -a '(__pamsess_users 1)'

@@ -1,6 +1,7 @@
--- The return codes that a text names (this project's own): names with commas between them, `any`, or, after a `!`, all
--- others. INCOMPLETE is never one of them: with it no run has ended.
-use Rattle.std.specs.Prelude.{ℕ, Bool, true, false, ◌&&◌, not, nat_eq, if◌then◌else◌, List, [], ◌∷◌, Some, None, codes, replicate}
+-- The return codes that a text names (this project's own): names with commas between them, `any`,
+-- or, after a `!`, all others. INCOMPLETE is never one of them: with it no run has ended.
+use Rattle.std.specs.Prelude.{ℕ, Bool, true, false, ◌&&◌, not, nat_eq, if◌then◌else◌, List, [], ◌∷◌}
+use Rattle.std.specs.Prelude.{Some, None, codes, replicate}
 use Rattle.std.specs.List.{list_all, list_any}
 use Rattle.std.specs.Str.{bytes_eq}
 use Rattle.pam_base.specs.declared.code.Code.{Code}

@@ -1,7 +1,8 @@
 ghost use Rattle.std.specs.Prelude.{◌≡◌, map};
 ghost use Rattle.std.specs.List.{list_all, list_any};
 ghost use Rattle.pam_base.specs.Code.{all_codes};
-ghost use Rattle.module_table.specs.Codes.{are_codes, is_code, is_incomplete, is_named, is_same, lists, may, wanted, yes_codes};
+ghost use Rattle.module_table.specs.Codes.{are_codes, is_code, is_incomplete, is_named, is_same};
+ghost use Rattle.module_table.specs.Codes.{lists, may, wanted, yes_codes};
 ghost use Rattle.module_table.specs.Judging.{counts};
 
 use crate::judging::Judging;
@@ -40,8 +41,8 @@ fn is_code(word: &[u8]) -> bool
     }
 }
 
-/// Which codes a text names, in the order of their numbers. `any` names all, and `!` all but those that follow; INCOMPLETE
-/// is never one of them.
+/// Which codes a text names, in the order of their numbers. `any` names all, and `!` all but those
+/// that follow; INCOMPLETE is never one of them.
 pub fn codes_in(text: &[u8]) -> [bool; 32]
     ensures { result ≡ map (may text.now) all_codes }
 {

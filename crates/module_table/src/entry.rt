@@ -2,7 +2,8 @@ ghost use Rattle.std.specs.Prelude.{◌≡◌, ◌&&◌, ◌||◌, option_map, I
 ghost use Rattle.std.specs.List.{find};
 ghost use Rattle.std.specs.Str.{bytes_eq};
 ghost use Rattle.pam_base.specs.Parts.{parts_of};
-ghost use Rattle.module_table.specs.Entries.{codes_of, entry_for, entry_in, entry_of_words, is_for, is_type_word, judged_entry, line_codes};
+ghost use Rattle.module_table.specs.Entries.{codes_of, entry_for, entry_in, entry_of_words, is_for};
+ghost use Rattle.module_table.specs.Entries.{is_type_word, judged_entry, line_codes};
 
 use crate::codes::{are_codes, codes_in, yes_codes};
 use crate::judging::Judging;
@@ -50,8 +51,8 @@ pub fn entry_for<'a>(table: &'a [Entry], name: &[u8], rule_type: &[u8]) -> Optio
     }
 }
 
-/// What is assumed of a line whose module has this entry. A module without one may return anything, and counts as one
-/// that asks.
+/// What is assumed of a line whose module has this entry. A module without one may return anything,
+/// and counts as one that asks.
 pub fn codes_of(found: Option<&Entry>) -> LineCodes
     ensures { result ≡ codes_of (option_map (λ e. e.now) found.entry) }
 {

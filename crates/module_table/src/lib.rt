@@ -1,4 +1,5 @@
-//! What modules may return: the text in which it is written, and the entry of a module in it. Begin at `table.rt`.
+//! What modules may return: the text in which it is written, and the entry of a module in it. Begin
+//! at `table.rt`.
 #![tactic(auto)]
 
 mod codes;

@@ -29,9 +29,9 @@ impl<'a> From<NoMemory> for TableFault<'a> {
     }
 }
 
-/// The entries of a text. A line is a module's name, the word of a type or `*`, what its SUCCESS says, the codes that it
-/// may return, and why this is taken to hold, with one space between them. Empty lines and those that begin with # say
-/// nothing.
+/// The entries of a text. A line is a module's name, the word of a type or `*`, what its SUCCESS
+/// says, the codes that it may return, and why this is taken to hold, with one space between them.
+/// Empty lines and those that begin with # say nothing.
 pub fn read_table(alloc: Global, text: &[u8]) -> Result<Table, TableFault<'_>>
     ensures { Reads result (table_of text.now) }
 {

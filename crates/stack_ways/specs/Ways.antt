@@ -1,5 +1,5 @@
--- Ways: the states in which a stack may end, each with the lines that counted; of several with the same
--- state, those whose lines all count in another one aren't needed.
+-- Ways: the states in which a stack may end, each with the lines that counted; of several with the
+-- same state, those whose lines all count in another one aren't needed.
 use Rattle.std.specs.Prelude.{◌≡◌, ℕ, ◌⊎◌, List, AllPairs, Contains}
 use Rattle.control_words.specs.Stack.{Stack}
 use Rattle.handler_chain.specs.declared.opinion.Opinion.{Opinion}
@@ -47,19 +47,23 @@ pub record Each {A : Type 0} (Leads : A → Way → Type 0) (list : List A) (way
   pub leads : Leads one way
 
 -- a way that is listed is one in which the stack may end
-pub record IsWay (possible counts : CodesOf) (stack : Stack) (at : ℕ) (entry : Opinion) (way : Way) : Type 0 where
+pub record IsWay (possible counts : CodesOf) (stack : Stack) (at : ℕ) (entry : Opinion) (way : Way)
+    : Type 0 where
   pub ran : List Visit
   pub ends : MayEnd possible 0 stack at entry entry ran way.opinion
   pub marks_are : way.marks ≡ marks_of counts ran
 
 -- a way with this state is listed, of whose lines each was run and counted
-pub record IsListed (counts : CodesOf) (ways : List Way) (ran : List Visit) (end : Opinion) : Type 0 where
+pub record IsListed (counts : CodesOf) (ways : List Way) (ran : List Visit) (end : Opinion)
+    : Type 0 where
   pub way : Way
   pub among : Contains ways way
   pub opinion : way.opinion ≡ end
   pub marks : Within way.marks (marks_of counts ran)
 
 -- the ways in which a stack, entered in a state, may end
-pub record WaysOf (possible counts : CodesOf) (stack : Stack) (at : ℕ) (entry : Opinion) (ways : List Way) : Type 0 where
+pub record WaysOf (possible counts : CodesOf) (stack : Stack) (at : ℕ) (entry : Opinion)
+    (ways : List Way) : Type 0 where
   pub sound : (way : Way) → Contains ways way → IsWay possible counts stack at entry way
-  pub complete : (ran : List Visit) (end : Opinion) → MayEnd possible 0 stack at entry entry ran end → IsListed counts ways ran end
+  pub complete : (ran : List Visit) (end : Opinion) → MayEnd possible 0 stack at entry entry ran end
+      → IsListed counts ways ran end

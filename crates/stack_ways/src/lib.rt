@@ -1,5 +1,5 @@
-//! Under which return codes of its lines a stack ends how: what a host's administrator asks before the first login
-//! ("who gets in?"), for all answers of the modules at once.
+//! Under which return codes of its lines a stack ends how: what a host's administrator asks before
+//! the first login ("who gets in?"), for all answers of the modules at once.
 //!
 //! Begin at `ways.rt`.
 #![tactic(auto)]

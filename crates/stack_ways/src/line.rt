@@ -44,7 +44,8 @@ fn way_after(
     way: &Way,
     code: Code,
 ) -> Result<Way, NoMemory>
-    ensures { IfOk result (λ new. new ≡ way_by (counts_in assumed.now) rule.now place left entry way.now code) }
+    ensures { IfOk result (λ new. new
+        ≡ way_by (counts_in assumed.now) rule.now place left entry way.now code) }
 {
     let action = rule.control.action(code);
     let new = way.opinion.after(PassKind::Keep, action, code, code, entry);
@@ -90,8 +91,8 @@ fn return_one(
     next: &mut Ways,
     work: &mut usize,
 ) -> Result<(), WaysFault>
-    ensures { OnOk result (Gained (ByCode (possible_in assumed.now) (counts_in assumed.now) rule.now place left entry
-        way.now code) next.old next.new) }
+    ensures { OnOk result (Gained (ByCode (possible_in assumed.now) (counts_in assumed.now)
+        rule.now place left entry way.now code) next.old next.new) }
 {
     if !may_return(assumed, place, code) {
         return Ok(());
@@ -113,8 +114,8 @@ fn return_each(
     next: &mut Ways,
     work: &mut usize,
 ) -> Result<(), WaysFault>
-    ensures { OnOk result (Gained (Each (ByCode (possible_in assumed.now) (counts_in assumed.now) rule.now place left
-        entry way.now) codes.now) next.old next.new) }
+    ensures { OnOk result (Gained (Each (ByCode (possible_in assumed.now) (counts_in assumed.now)
+        rule.now place left entry way.now) codes.now) next.old next.new) }
 {
     for code in codes {
         return_one(
@@ -136,8 +137,8 @@ fn pass_line(
     next: &mut Ways,
     work: &mut usize,
 ) -> Result<(), WaysFault>
-    ensures { OnOk result (Gained (LineStep (possible_in assumed.now) (counts_in assumed.now) rule.now place left
-        entry way.now) next.old next.new) }
+    ensures { OnOk result (Gained (LineStep (possible_in assumed.now) (counts_in assumed.now)
+        rule.now place left entry way.now) next.old next.new) }
 {
     if way.skip > 0 {
         skip_node(alloc, way, next, work)?;
@@ -160,8 +161,8 @@ pub fn pass_line_by_all(
     ways: &[Way],
     work: &mut usize,
 ) -> Result<Ways, WaysFault>
-    ensures { IfOk result (λ next. Gained (Each (LineStep (possible_in assumed.now) (counts_in assumed.now) rule.now
-        place left entry) ways.now) [] next) }
+    ensures { IfOk result (λ next. Gained (Each (LineStep (possible_in assumed.now)
+        (counts_in assumed.now) rule.now place left entry) ways.now) [] next) }
 {
     let mut next = Sequence::new(alloc);
     for way in ways {

@@ -3,7 +3,8 @@ ghost use Rattle.stack_ways.specs.LineCodes.{counts_in, flag_at, possible_in};
 
 use pam_base::Code;
 
-/// What is assumed of a line. Each list has an element for each return code, in the order of their numbers.
+/// What is assumed of a line. Each list has an element for each return code, in the order of their
+/// numbers.
 #[derive(Clone, Copy, Debug)]
 pub struct LineCodes {
     /// Whether the line may return the code. INCOMPLETE isn't one: with it no run has ended.

@@ -15,11 +15,11 @@ use handler_chain::Opinion;
 use pam_base::{NoMemory, Sequence};
 use std::alloc::Global;
 
-/// The states in which a stack may end, each with the lines that counted on the way there, if its lines return only
-/// the codes that are assumed. Of all that may happen, some way that is listed ends in the same state, and all its
-/// lines counted; each that is listed may happen.
+/// The states in which a stack may end, each with the lines that counted on the way there, if its
+/// lines return only the codes that are assumed. Of all that may happen, some way that is listed
+/// ends in the same state, and all its lines counted; each that is listed may happen.
 ///
-/// `work` is how many comparisons of ways are allowed; TooMany if there are more.
+/// `work` is how many steps of comparing ways are allowed; TooMany if more may be needed.
 pub fn possible_ways(
     alloc: Global,
     nodes: &Nodes,
@@ -40,8 +40,8 @@ pub fn possible_ways(
 
 // The ways at the end of a whole stack, without those that others cover.
 fn ended(alloc: Global, all: &[Way], work: &mut usize) -> Result<Ways, WaysFault>
-    ensures gained { IfOk result (λ ways. Gained (Each (AfterSub (record { opinion = opening; skip = 0; marks = [] }))
-        all.now) [] ways) }
+    ensures gained { IfOk result (λ ways. Gained (Each (AfterSub
+        (record { opinion = opening; skip = 0; marks = [] })) all.now) [] ways) }
     ensures apart { IfOk result (λ ways. AllPairs Apart ways) }
 {
     let first = first_way(alloc, Opinion::opening());
@@ -125,8 +125,8 @@ fn pass_sub_by_all(
     work: &mut usize,
 ) -> Result<Ways, WaysFault>
     requires few { place + lines_in (stack_of inner.now.vec.items) ≤ 4097 }
-    ensures { IfOk result (λ next. Gained (Each (SubStep (possible_in assumed.now) (counts_in assumed.now)
-        (stack_of inner.now.vec.items) place) ways.now) [] next) }
+    ensures { IfOk result (λ next. Gained (Each (SubStep (possible_in assumed.now)
+        (counts_in assumed.now) (stack_of inner.now.vec.items) place) ways.now) [] next) }
 {
     let mut next = Sequence::new(alloc);
     for way in ways {
@@ -148,8 +148,8 @@ fn pass_node(
     work: &mut usize,
 ) -> Result<Ways, WaysFault>
     requires few { place + lines_in (node_on node.now none) ≤ 4097 }
-    ensures { IfOk result (λ next. Gained (Each (StackStep (possible_in assumed.now) (counts_in assumed.now)
-        (node_on node.now none) place left entry) ways.now) [] next) }
+    ensures { IfOk result (λ next. Gained (Each (StackStep (possible_in assumed.now)
+        (counts_in assumed.now) (node_on node.now none) place left entry) ways.now) [] next) }
 {
     match node {
         Node::Line(rule) => {
@@ -163,7 +163,8 @@ fn pass_node(
     }
 }
 
-// The ways in which a list may end that is entered in a state, if its first line has this rule number.
+// The ways in which a list may end that is entered in a state, if its first line has this rule
+// number.
 #[cycle(pass)]
 fn pass_list(
     alloc: Global,

@@ -9,5 +9,6 @@ returns-in_ok-skip_node c = gained_line_skip _ _ _ _ _ _ _ _ _ c.if-way-gt0.true
 pub returns-in_ok-return_each : goal.returns-in_ok-return_each
 returns-in_ok-return_each c =
     let none : c.args.way.now.skip ≡ 0 = omega arith in
-    gained_line (possible_in c.args.assumed.now) (counts_in c.args.assumed.now) c.args.rule.now c.args.place c.args.left c.args.entry c.args.way.now c.args.next.now c.return_each.new.next
+    gained_line (possible_in c.args.assumed.now) (counts_in c.args.assumed.now) c.args.rule.now c.args.place c.args.left c.args.entry c.args.way.now
+    c.args.next.now c.return_each.new.next
     none c.in_ok-return_each.ensures

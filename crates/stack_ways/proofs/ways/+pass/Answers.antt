@@ -22,7 +22,8 @@ pub pass_list-pass_node-requires : goal.pass_list-pass_node-requires
 pass_list-pass_node-requires t c =
     let rest : Stack = stack_of (drop (c.loop-node.node-index + 1) c.deref-node-items.result.now) in
     let here = peeled _ _ _ c.loop-node-test.true c.node-item.is in
-    let falls : 4 * depth (node_on c.node-item.result none) + 2 < t = omega (arith, ap depth here, depth_head c.node-item.result rest, c.loop-node.invariant.shallow, c.decreases) in
+    let falls : 4 * depth (node_on c.node-item.result none) + 2 < t =
+    omega (arith, ap depth here, depth_head c.node-item.result rest, c.loop-node.invariant.shallow, c.decreases) in
     let few : c.loop-node.place + lines_in (node_on c.node-item.result none) ≤ 4097 =
     few_there _ _ _ _ _ _ c.loop-node-test.true c.node-item.is c.loop-node.invariant.placed c.requires.few in
     (falls, few)
@@ -43,7 +44,9 @@ pub pass_list-loop-node-preserved : goal.pass_list-loop-node-preserved
 pass_list-loop-node-preserved t c =
     let node : Node = c.node-item.result in
     let here = peeled _ _ _ c.loop-node-test.true c.node-item.is in
-    let gained = subst (λ (ways : List Way). Gained (Each (StackStep (possible_in c.args.assumed.now) (counts_in c.args.assumed.now) (node_on node none) c.loop-node.place (c.loop-node.left - 1) c.args.entry) ways) [] c.in_ok-ways-2.ways)
+    let gained = subst (λ (ways : List Way). Gained (Each
+    (StackStep (possible_in c.args.assumed.now) (counts_in c.args.assumed.now) (node_on node none) c.loop-node.place (c.loop-node.left - 1) c.args.entry)
+    ways) [] c.in_ok-ways-2.ways)
     c.items.ensures c.in_ok-ways-2.ensures in
     waiting_node _ _ _ _ _ _ _ node _ _ _ _ _ _ c.loop-node.invariant here refl (ap (λ n. c.loop-node.place + n) c.lines_of-place.ensures) gained
 
@@ -60,12 +63,14 @@ pass_node-pass_sub_by_all-requires t c =
 
 pub pass_node-returns-in_ok-next-in-Line : goal.pass_node-returns-in_ok-next-in-Line
 pass_node-returns-in_ok-next-in-Line t c =
-    subst (λ (n : Node). Gained (Each (StackStep (possible_in c.args.assumed.now) (counts_in c.args.assumed.now) (node_on n none) c.args.place c.args.left c.args.entry) c.args.ways.now) [] c.in_ok-next-in-Line.next)
+    subst (λ (n : Node). Gained (Each (StackStep (possible_in c.args.assumed.now) (counts_in c.args.assumed.now) (node_on n none) c.args.place c.args.left
+    c.args.entry) c.args.ways.now) [] c.in_ok-next-in-Line.next)
     (sym c.in-Line.is) c.in_ok-next-in-Line.ensures
 
 pub pass_node-returns-in_ok-next-in-Sub : goal.pass_node-returns-in_ok-next-in-Sub
 pass_node-returns-in_ok-next-in-Sub t c =
-    subst (λ (s : Stack). Gained (Each (StackStep (possible_in c.args.assumed.now) (counts_in c.args.assumed.now) s c.args.place c.args.left c.args.entry) c.args.ways.now) [] c.in_ok-next-in-Sub.next)
+    subst (λ (s : Stack). Gained (Each (StackStep (possible_in c.args.assumed.now) (counts_in c.args.assumed.now) s c.args.place c.args.left c.args.entry)
+    c.args.ways.now) [] c.in_ok-next-in-Sub.next)
     (sym (node_sub _ _ c.in-Sub.is)) c.in_ok-next-in-Sub.ensures
 
 pub pass_sub-returns-in_ok-skip_node : goal.pass_sub-returns-in_ok-skip_node
@@ -74,8 +79,10 @@ pass_sub-returns-in_ok-skip_node t c = gained_sub_skip _ _ _ _ _ _ _ c.if-way-gt
 pub pass_sub-returns-in_ok-leave_sub : goal.pass_sub-returns-in_ok-leave_sub
 pass_sub-returns-in_ok-leave_sub t c =
     let none : c.args.way.now.skip ≡ 0 = omega arith in
-    let gained = subst (λ (ends : List Way). Gained (Each (AfterSub c.args.way.now) ends) c.args.next.now c.leave_sub.new.next) c.items.ensures (c.in_ok-leave_sub.ensures {u = tt}).gained in
-    gained_sub (possible_in c.args.assumed.now) (counts_in c.args.assumed.now) (stack_of c.args.inner.now.vec.items) c.args.place c.args.way.now c.in_ok-ends.ends c.args.next.now c.leave_sub.new.next
+    let gained = subst (λ (ends : List Way). Gained (Each (AfterSub c.args.way.now) ends) c.args.next.now c.leave_sub.new.next) c.items.ensures
+    (c.in_ok-leave_sub.ensures {u = tt}).gained in
+    gained_sub (possible_in c.args.assumed.now) (counts_in c.args.assumed.now) (stack_of c.args.inner.now.vec.items) c.args.place c.args.way.now
+    c.in_ok-ends.ends c.args.next.now c.leave_sub.new.next
     none c.in_ok-ends.ensures gained
 
 pub pass_sub_by_all-loop-way-preserved : goal.pass_sub_by_all-loop-way-preserved

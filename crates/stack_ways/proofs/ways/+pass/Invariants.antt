@@ -20,7 +20,8 @@ decreases-pass_sub l = 4 * depth (stack_of l.inner.now.vec.items) + 4
 
 abbrev pub invariant-pass_list-loop-node : goal.invariant-pass_list-loop-node
 invariant-pass_list-loop-node l =
-    Waiting (possible_in l.assumed) (counts_in l.assumed) (stack_of l.nodes.vec.items) l.first l.entry (stack_of (drop l.node-index l.node-items)) l.place l.left l.ways
+    Waiting (possible_in l.assumed) (counts_in l.assumed) (stack_of l.nodes.vec.items) l.first l.entry (stack_of (drop l.node-index l.node-items)) l.place
+    l.left l.ways
 
 abbrev pub invariant-pass_sub_by_all-loop-way : goal.invariant-pass_sub_by_all-loop-way
 invariant-pass_sub_by_all-loop-way l =

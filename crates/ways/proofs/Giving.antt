@@ -1,0 +1,98 @@
+-- What is to be written, from what was read and from the arguments.
+use Rattle.std.proofs.Common.{◌≡◌, ◌≤◌, ℕ, Bool, true, false, List, length, Option, Some, None, Result, Ok, Err, inl, inr, sym, subst}
+use Rattle.std.specs.Prelude.{IfOk, nat_lt}
+use Rattle.std.proofs.lemmas.Bool.{lt-ltb, le-ltb}
+use Rattle.pam_outside.specs.Counts.{RisesIf}
+use Rattle.pam_outside.specs.Files.{VaultState}
+use Rattle.pam_outside.specs.Streams.{SinkState}
+use Rattle.explain_lines.specs.control_words.specs.Stack.{Stack}
+use Rattle.service_load.specs.declared.rule_type.RuleType.{RuleType}
+use Rattle.service_load.specs.FirstFault.{Counts, Stop}
+use Rattle.service_load.specs.Load.{has_folder, loaded}
+use Rattle.service_load.specs.Loading.{texts_of}
+use Rattle.service_load.specs.Stacks.{stacks_of}
+use Rattle.service_load.specs.Tree.{tree}
+use Rattle.explain_origins.specs.Placed.{sources_at}
+use Rattle.explain_lines.specs.Origins.{Sources}
+use Rattle.ways.specs.declared.saying.Output.{Output}
+use Rattle.transcript_audit.specs.declared.transcript.Transcript.{Transcript}
+use Rattle.transcript_audit.specs.declared.transcript.Transcript.TheVariants.{Whole, TooLong, Unread}
+use Rattle.ways.specs.Said.{IsWritten, One, OrUnread, Says, SaysBy, Written, Tells, refused_written, unread_written}
+use Rattle.transcript_audit.specs.Transcript.{IsRead, IsShort, is_unread}
+use Rattle.ways.specs.Program.{Answers, Asked, Ends, Exits, SaysIf, SaysInput, SaysRead, IsOutputOfInput, IsOutputOfRead, too_long_written, usage_written}
+
+-- ---- what was read
+
+module _ (old new : VaultState) (root service : List ℕ) (before now : ℕ) where
+  whole_input : (e : Output) (text left : List ℕ) → text ≡ left → length text ≤ 1048576 → Says (λ w. IsWritten e w) old root service text new
+      → SaysInput (λ w. IsWritten e w) old root service left new before now
+  whole_input e text left same short is =
+      let fits : nat_lt 1048576 (length left) ≡ false = le-ltb 1048576 (length left) (subst (λ (l : List ℕ). length l ≤ 1048576) same short) in
+      inl (subst (λ (b : Bool). SaysIf b (λ w. IsWritten e w) old root service left new) (sym fits)
+      (subst (λ (l : List ℕ). Says (λ w. IsWritten e w) old root service l new) same is))
+
+  pub given_by : {E : Type 0} (r : Result Output E) (report : Transcript) (left : List ℕ)
+      → IsRead report left → IsShort report → RisesIf (is_unread report) before now → IfOk r (λ e. SaysRead (λ w. IsWritten e w) report old root service new)
+      → IfOk r (λ e. SaysInput (λ w. IsWritten e w) old root service left new before now)
+  given_by (Ok e) (Whole text) left read short rises is = whole_input e text left read short is
+  given_by (Ok e) TooLong left read short rises is =
+      inl (subst (λ (b : Bool). SaysIf b (λ w. IsWritten e w) old root service left new) (sym (lt-ltb 1048576 (length left) read)) is)
+  given_by (Ok e) Unread left read short rises is = inr (is, rises)
+  given_by (Err x) report left read short rises is = tt
+
+pub shown_input : {E : Type 0} (r : Result Output E) (service : List ℕ) (report : Transcript) (input_before input_now before now : ℕ)
+    → RisesIf (is_unread report) input_before input_now
+    → IfOk r (λ e. IsOutputOfRead e service report before now) → IfOk r (λ e. IsOutputOfInput e service input_before input_now before now)
+shown_input (Ok e) service report input_before input_now before now rises shows = record { table = report; read = rises; shown = shows }
+shown_input (Err x) service report input_before input_now before now rises shows = tt
+
+-- ---- the arguments
+
+module _ (words : Option Asked) (old new : VaultState) (input : List ℕ) (before now : ℕ) where
+  pub given_for : {E : Type 0} (r : Result Output E) (root service : List ℕ) → ◌≡◌ {A = Option Asked} (Some (record { root = root; service = service })) words
+      → IfOk r (λ e. SaysInput (λ w. IsWritten e w) old root service input new before now)
+      → IfOk r (λ e. Answers (λ w. IsWritten e w) words old input new before now)
+  given_for r root service is given =
+      subst (λ (o : Option Asked). IfOk r (λ e. Answers (λ w. IsWritten e w) o old input new before now)) is given
+
+  pub usage_given : {E : Type 0} (r : Result Output E) → None ≡ words → IfOk r (λ e. IsWritten e usage_written)
+      → IfOk r (λ e. Answers (λ w. IsWritten e w) words old input new before now)
+  usage_given (Ok e) none is = subst (λ (o : Option Asked). Answers (λ w. IsWritten e w) o old input new before now) none is
+  usage_given (Err x) none is = tt
+
+-- ---- what is written
+
+-- another property of it
+module _ (P Q : Written → Type 0) (also : (w : Written) → P w → Q w) where
+  or_unread : (T : Written → Type 0) (vault : VaultState) → OrUnread P T vault → OrUnread Q T vault
+  or_unread T vault (inl p) = inl (record { one = p.one; may = p.may; holds = also p.one p.holds })
+  or_unread T vault (inr p) = inr (also unread_written p.0, p.1)
+
+  by_result : (looked : Result Counts Stop) (service : List ℕ) (stack : RuleType → Stack) (sources : Sources) (report : List ℕ) (vault : VaultState)
+      → SaysBy P looked service stack sources report vault → SaysBy Q looked service stack sources report vault
+  by_result (Ok counts) service stack sources report vault p = or_unread (Tells service (stacks_of stack) sources report) vault p
+  by_result (Err stop) service stack sources report vault p = also (refused_written stop.fault) p
+
+  by_length : (long : Bool) (old : VaultState) (root service input : List ℕ) (new : VaultState)
+      → SaysIf long P old root service input new → SaysIf long Q old root service input new
+  by_length true old root service input new p = also too_long_written p
+  by_length false old root service input new p =
+      by_result (loaded old root service) service (tree (texts_of root old) (has_folder old root) service)
+      (sources_at (texts_of root old) (has_folder old root) service) input new p
+
+  by_input : (old : VaultState) (root service input : List ℕ) (new : VaultState) (before now : ℕ)
+      → SaysInput P old root service input new before now → SaysInput Q old root service input new before now
+  by_input old root service input new before now (inl p) = inl (by_length (nat_lt 1048576 (length input)) old root service input new p)
+  by_input old root service input new before now (inr p) = inr (also unread_written p.0, p.1)
+
+  answers_too : (words : Option Asked) (old : VaultState) (input : List ℕ) (new : VaultState) (before now : ℕ)
+      → Answers P words old input new before now → Answers Q words old input new before now
+  answers_too None old input new before now p = also usage_written p
+  answers_too (Some words) old input new before now p = by_input old words.root words.service input new before now p
+
+pub ends_so : (status : ℕ) (e : Output) (words : Option Asked) (old : VaultState) (input : List ℕ) (new : VaultState) (before now : ℕ)
+    (out_old out_new : SinkState)
+    → Answers (λ w. IsWritten e w) words old input new before now → ((w : Written) → IsWritten e w → Exits status w out_old out_new)
+    → Ends status words old input new before now out_old out_new
+ends_so status e words old input new before now out_old out_new given exits =
+    inr (answers_too (λ w. IsWritten e w) (λ w. Exits status w out_old out_new) exits words old input new before now given)

@@ -1,0 +1,4 @@
+pub mod Loading
+pub mod Giving
+pub mod Leaving
+pub mod Telling

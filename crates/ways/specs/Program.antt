@@ -1,0 +1,112 @@
+-- The program: its arguments, what it writes, and its exit status (this project's own).
+use Rattle.std.specs.Prelude.{◌≡◌, ◌≢◌, ◌⊎◌, ℕ, nat_lt, Bool, true, false, List, [], ◌∷◌, ◌++◌}
+use Rattle.std.specs.Prelude.{length, codes, string_bytes, String, Option, Some, None}
+use Rattle.std.specs.declared.alloc.Global.{Global}
+use Rattle.pam_outside.specs.Counts.{Rose, RisesIf}
+use Rattle.pam_outside.specs.Files.{VaultState}
+use Rattle.pam_outside.specs.Streams.{SinkState}
+use Rattle.ways.specs.declared.saying.Output.{Output}
+use Rattle.transcript_audit.specs.declared.transcript.Transcript.{Transcript}
+use Rattle.transcript_audit.specs.declared.transcript.Transcript.TheVariants.{Whole, TooLong}
+use Rattle.transcript_audit.specs.declared.transcript.Transcript.TheVariants.{Unread}
+use Rattle.ways.specs.declared.program.Target.{Target}
+use Rattle.ways.specs.Said.{Written, written, IsWritten, Says, IsOutputOf, unread_written}
+use Rattle.transcript_audit.specs.Transcript.{is_unread}
+
+-- ---- the arguments
+
+pub record Asked : Type 0 where
+  pub root : List ℕ
+  pub service : List ℕ
+
+-- ROOT SERVICE
+abbrev pub asked_of : List (String Global) → Option Asked
+asked_of (root ∷ service ∷ []) =
+    Some (record { root = string_bytes root; service = string_bytes service })
+asked_of words = None
+
+-- the command that was found in them
+abbrev pub asked : Option Target → Option Asked
+asked None = None
+asked (Some place) = Some (record { root = place.root.now; service = place.service.now })
+
+-- ---- what is written
+
+abbrev pub usage_written : Written
+usage_written = written 2 (codes "usage: ways ROOT SERVICE < TABLE\n")
+
+abbrev pub too_long_written : Written
+too_long_written = written 12 (codes "table too long\n")
+
+-- ---- with modelled objects: what is written has this property
+
+-- of what was read
+abbrev pub SaysRead : (Written → Type 0) → Transcript → VaultState → List ℕ → List ℕ → VaultState
+    → Type 0
+SaysRead P (Whole text) old root service new = Says P old root service text new
+SaysRead P TooLong old root service new = P too_long_written
+SaysRead P Unread old root service new = P unread_written
+
+-- depending on whether the input is too long
+abbrev pub SaysIf : Bool → (Written → Type 0) → VaultState → List ℕ → List ℕ → List ℕ
+    → VaultState → Type 0
+SaysIf true P old root service input new = P too_long_written
+SaysIf false P old root service input new = Says P old root service input new
+
+-- of an input of these bytes; or nothing, if reading it failed
+abbrev pub SaysInput : (Written → Type 0) → VaultState → List ℕ → List ℕ → List ℕ → VaultState
+    → ℕ → ℕ → Type 0
+SaysInput P old root service input new before now =
+    SaysIf (nat_lt 1048576 (length input)) P old root service input new
+    ⊎ (P unread_written × Rose before now)
+
+-- what is written for these arguments
+abbrev pub Answers : (Written → Type 0) → Option Asked → VaultState → List ℕ → VaultState → ℕ → ℕ
+    → Type 0
+Answers P None old input new before now = P usage_written
+Answers P (Some words) old input new before now =
+    SaysInput P old words.root words.service input new before now
+
+-- the text is written, or with status 6 a prefix of it
+pub record Exits (status : ℕ) (w : Written) (old new : SinkState) : Type 0 where
+  pub front : List ℕ
+  pub back : List ℕ
+  pub parts : w.text ≡ front ++ back
+  pub adds : new.written ≡ old.written ++ front
+  pub ends : ((status ≡ w.status) × (front ≡ w.text)) ⊎ (status ≡ 6)
+
+-- if an allocation failed, nothing is written and the status is 4
+abbrev pub Ends : ℕ → Option Asked → VaultState → List ℕ → VaultState → ℕ → ℕ → SinkState
+    → SinkState → Type 0
+Ends status words old input new before now out_old out_new =
+    ((status ≡ 4) × (out_new ≡ out_old))
+    ⊎ Answers (λ w. Exits status w out_old out_new) words old input new before now
+
+-- ---- with any objects
+
+-- of what was read, with the failures of the files before and after it
+abbrev pub IsOutputOfRead : Output → List ℕ → Transcript → ℕ → ℕ → Type 0
+IsOutputOfRead e service (Whole text) before now = IsOutputOf e service text before now
+IsOutputOfRead e service TooLong before now = IsWritten e too_long_written × (now ≡ before)
+IsOutputOfRead e service Unread before now = IsWritten e unread_written × (now ≡ before)
+
+-- of some table, with the failures of the input and of the files
+pub record IsOutputOfInput (e : Output) (service : List ℕ) (input_before input_now before now : ℕ)
+    : Type 0 where
+  pub table : Transcript
+  pub read : RisesIf (is_unread table) input_before input_now
+  pub shown : IsOutputOfRead e service table before now
+
+-- what the status of an output says about the arguments and about failures
+pub record Causes (status : ℕ) (words : Option Asked) (input_before input_now before now : ℕ) :
+    Type 0 where
+  pub usage : words ≡ None → status ≡ 2
+  pub no_usage : status ≡ 2 → words ≡ None
+  pub unread : status ≡ 5 → Rose input_before input_now ⊎ Rose before now
+  pub memory : status ≢ 4
+  pub unwritten : status ≢ 6
+
+-- the status of an output, unless a write failed
+abbrev pub Leaves : ℕ → ℕ → ℕ → ℕ → Type 0
+Leaves status given before now =
+    ((status ≡ given) × (now ≡ before)) ⊎ ((status ≡ 6) × Rose before now)
