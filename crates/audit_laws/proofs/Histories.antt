@@ -6,11 +6,12 @@ use Rattle.pam_base.specs.declared.code.Code.TheVariants as returns
 use Rattle.pam_base.specs.declared.item.ItemName.TheVariants.{AuthTok}
 use Rattle.pam_base.specs.declared.item.ItemName.{ItemName}
 use Rattle.pam_base.specs.declared.style.Style.TheVariants.{ErrorMsg}
+use Rattle.pam_outside.specs.declared.held.LockKind.TheVariants.{Record}
 use Rattle.pam_outside.specs.Paths.{path_of}
 use Rattle.pam_room.specs.Call.{PlainCall}
 use Rattle.mod_unix.specs.module_acts.specs.account_db.specs.declared.passwd.Passwd.{Passwd}
 use Rattle.mod_unix.specs.module_acts.specs.Accounts.{Account, account_limit, found, missing, unreadable}
-use Rattle.mod_unix.specs.module_acts.specs.Act.{Act, answers, finds_account, reads_groups, reads_passwds, shows, unless_answered}
+use Rattle.mod_unix.specs.module_acts.specs.Act.{Act, answers, finds_account, lets_go, reads_groups, reads_passwds, shows, unless_answered}
 use Rattle.mod_unix.specs.module_acts.specs.Steps.{sees_caller}
 use Rattle.mod_unix.specs.module_acts.specs.Uncheck.{code_unchecked}
 use Rattle.mod_unix.specs.declared.look.KnownPassword.{KnownPassword}
@@ -22,8 +23,8 @@ use Rattle.mod_history.specs.History.{history_text}
 use Rattle.mod_history.specs.Renewal.{hashes_of, renewed}
 use Rattle.mod_history.specs.Wheel.{checks_wheel, code_by_groups, code_by_passwds, wheel_act}
 use Rattle.mod_history.specs.Securetty.{by_account, by_list, by_root, by_terminal, checks_terminal, securetty_act, terminal_name}
-use Rattle.mod_history.specs.Pwhistory.{at_once, remember_in_history, by_length, renew_if_known, by_remember, by_token, by_use, checks_token, history_in, history_limit, history_name, is_refused, pwhistory_act, refuses_token, remember_of, remembers, renews, stores_text, unsets_item}
-use Rattle.audit_laws.proofs.Steps.{Leaves, answering, asking, finding, reading, reading_groups, reading_passwds, replacing, seeing_caller, seeing_items, showing, unless}
+use Rattle.mod_history.specs.Pwhistory.{at_once, by_length, by_remember, by_token, by_use, checks_token, compares_token, history_in, history_limit, history_name, if_locked, is_refused, locks_history, pwhistory_act, refuses_token, remember_in_history, remember_locked, remember_of, remembers, renew_if_known, renews, stores_text, unless_refused, unless_used, unsets_item}
+use Rattle.audit_laws.proofs.Steps.{Leaves, answering, asking, finding, holding, letting_go, reading, reading_groups, reading_passwds, replacing, seeing_caller, seeing_items, showing, unless}
 use Rattle.audit_laws.proofs.Unixes.{looking, taking}
 
 module _ (path : List ℕ) where
@@ -75,28 +76,61 @@ module _ (path : List ℕ) where
         let shown : Act = shows ErrorMsg (codes "Password has been already used.") (act returns.AuthtokErr) in
         unsetting AuthTok shown (showing path ErrorMsg (codes "Password has been already used.") (act returns.AuthtokErr) (next returns.AuthtokErr))
 
-    by_size : (short : Bool) (text : List ℕ) → Still (by_length short text act)
-    by_size true text = replacing path history_name text (λ done. act (write_result done)) apart (λ done. next (write_result done))
-    by_size false text = next returns.AuthtokErr
+    -- the lock is released, and then the code is returned
+    abbrev ends : Option Code → Act
+    ends done = lets_go true (unless_refused act done)
 
-    storing : (text : List ℕ) → Still (stores_text text act)
+    unless_used_since : (done : Option Code) → Still (unless_refused act done)
+    unless_used_since (Some code) = next code
+    unless_used_since None = refusing
+
+    ended : (done : Option Code) → Still (ends done)
+    ended done = letting_go path true (unless_refused act done) (unless_used_since done)
+
+    by_size : (short : Bool) (text : List ℕ) → Still (by_length short text (λ code. ends (Some code)))
+    by_size true text = replacing path history_name text (λ done. ends (Some (write_result done))) apart (λ done. ended (Some (write_result done)))
+    by_size false text = ended (Some returns.AuthtokErr)
+
+    storing : (text : List ℕ) → Still (stores_text text (λ code. ends (Some code)))
     unfolding stores_text
     storing text = by_size (nat_le (length text) history_limit) text
 
-    used : (refused : Bool) (remember : ℕ) (user hash : List ℕ) (history : List Remembered) → Still (by_use refused remember user hash history act)
-    used true remember user hash history = refusing
+    used : (refused : Bool) (remember : ℕ) (user hash : List ℕ) (history : List Remembered) → Still (by_use refused remember user hash history ends)
+    used true remember user hash history = ended None
     used false remember user hash history = storing (history_text (renewed remember user hash history))
 
     module _ (call : PlainCall) (remember : ℕ) (user hash token : List ℕ) where
-      history_read : (history : Option (List Remembered)) → Still (remember_in_history call remember user hash token history act)
-      history_read None = next returns.AuthtokErr
+      history_read : (history : Option (List Remembered)) → Still (remember_in_history call remember user hash token history ends)
+      history_read None = ended (Some returns.AuthtokErr)
       history_read (Some history) =
-          seeing_caller path (λ caller. by_use (is_refused call.args caller token hash (hashes_of user history)) remember user hash history act)
+          seeing_caller path (λ caller. by_use (is_refused call.args caller token hash (hashes_of user history)) remember user hash history ends)
           (λ caller. used (is_refused call.args caller token hash (hashes_of user history)) remember user hash history)
+
+      read_again : Still (remember_locked call remember user hash token ends)
+      unfolding remember_locked
+      read_again = reading path history_name history_limit (λ content. remember_in_history call remember user hash token (history_in content) ends) (λ content. history_read (history_in content))
+
+      by_held : (held : Bool) → Still (if_locked call remember user hash token act held)
+      by_held true = read_again
+      by_held false = unsetting AuthTok (act returns.AuthtokErr) (next returns.AuthtokErr)
+
+      locking : Still (locks_history call remember user hash token act)
+      unfolding locks_history
+      locking = holding path (codes "/etc/.pwd.lock") Record (if_locked call remember user hash token act) by_held
+
+      unless_had : (refused : Bool) → Still (unless_used refused call remember user hash token act)
+      unless_had true = refusing
+      unless_had false = locking
+
+      compared : (history : Option (List Remembered)) → Still (compares_token call remember user hash token history act)
+      compared None = next returns.AuthtokErr
+      compared (Some history) =
+          seeing_caller path (λ caller. unless_used (is_refused call.args caller token hash (hashes_of user history)) call remember user hash token act)
+          (λ caller. unless_had (is_refused call.args caller token hash (hashes_of user history)))
 
       unless_zero : (zero : Bool) → Still (by_remember zero call remember user hash token act)
       unless_zero true = next returns.Success
-      unless_zero false = reading path history_name history_limit (λ content. remember_in_history call remember user hash token (history_in content) act) (λ content. history_read (history_in content))
+      unless_zero false = reading path history_name history_limit (λ content. compares_token call remember user hash token (history_in content) act) (λ content. compared (history_in content))
 
     module _ (call : PlainCall) (user : List ℕ) where
       with_token : (hash : List ℕ) (token : Option (List ℕ)) → Still (by_token call user hash token act)

@@ -1,11 +1,13 @@
 -- Which steps of a module leave a file as it was.
-use Rattle.std.proofs.Common.{◌≡◌, ℕ, Bool, true, false, not, cond, List, [], ◌∷◌, Option, Some, None, Result, Ok, Err, codes, refl, ap, ◌∙◌}
+use Rattle.std.proofs.Common.{◌≡◌, ℕ, Bool, true, false, not, cond, ◌||◌, nat_lt, length, List, [], ◌∷◌, Option, Some, None, Result, Ok, Err, codes, refl, ap, ◌∙◌}
 use Rattle.std.specs.Str.{bytes_eq}
 use Rattle.std.specs.Bool.{Decides}
 use Rattle.std.proofs.lemmas.Slice.Eq.{bytes_eq-Decides}
 use Rattle.pam_base.specs.declared.code.Code.{Code}
 use Rattle.pam_base.specs.declared.item.ItemName.{ItemName}
 use Rattle.pam_base.specs.declared.style.Style.{Style}
+use Rattle.pam_outside.specs.declared.held.LockKind.{LockKind}
+use Rattle.pam_outside.specs.declared.vault.TheConstants.{MAX_FILE}
 use Rattle.pam_outside.specs.Files.{File, file_at, file_put}
 use Rattle.pam_outside.specs.Paths.{path_of}
 use Rattle.pam_outside.specs.Time.{Time}
@@ -22,7 +24,7 @@ use Rattle.mod_unix.specs.module_acts.specs.declared.content.Content.{Content}
 use Rattle.mod_unix.specs.module_acts.specs.declared.content.Content.TheVariants.{Absent}
 use Rattle.mod_unix.specs.module_acts.specs.Content.{is_rooted}
 use Rattle.mod_unix.specs.module_acts.specs.Accounts.{Account, account_in, account_limit, nothing_known, shells_in}
-use Rattle.mod_unix.specs.module_acts.specs.Act.{Act, Stage, answers, asks_user, called, draws_word, finds_account, groups_by, in_room, later, passwds_by, plays_by, reads_file, reads_groups, reads_if, reads_passwds, reads_shells, replaced, replaces_file, sees_items, sees_moment, shown, shows, unless_answered}
+use Rattle.mod_unix.specs.module_acts.specs.Act.{Act, Stage, answers, asks_user, called, draws_word, finds_account, groups_by, holds_if, holds_lock, holds_unless, in_room, later, lets_go, passwds_by, plays_by, reads_file, reads_groups, reads_if, reads_passwds, reads_shells, replaced, replaces_file, sees_items, sees_moment, shown, shows, unless_answered}
 use Rattle.mod_unix.specs.module_acts.specs.Steps.{answers_keeping, asks_token, exchanges, requests_delay, sees_caller, sees_clock, sees_data, sets_item, with_replies}
 use Rattle.audit_laws.specs.Tallied.{LeavesFile}
 
@@ -175,4 +177,22 @@ module _ (path : List ℕ) where
 
   pub replacing : (name bytes : List ℕ) (act : Bool → Act) → ((root : List ℕ) → path_of root name ≡ path → ⊥) → ((done : Bool) → Leaves (act done)) → Leaves (replaces_file name bytes act)
   unfolding replaces_file
-  replacing name bytes act apart next stage = put_by (stage.sight.failing 0) name bytes act apart next stage
+  replacing name bytes act apart next stage = put_by (stage.sight.failing 0 || nat_lt MAX_FILE (length bytes)) name bytes act apart next stage
+
+  -- ---- locks
+
+  held_unless : (fails : Bool) (place : List ℕ) (kind : LockKind) (act : Bool → Act) → ((held : Bool) → Leaves (act held)) → Leaves (holds_unless fails place kind act)
+  held_unless true place kind act next stage = next false (record stage { sight = later stage.sight })
+  held_unless false place kind act next stage = next true (record stage { sight = later stage.sight })
+
+  held_by : (rooted : Bool) (name : List ℕ) (kind : LockKind) (act : Bool → Act) → ((held : Bool) → Leaves (act held)) → Leaves (holds_if rooted name kind act)
+  held_by true name kind act next stage = held_unless (stage.sight.failing 0) (path_of stage.sight.root name) kind act next stage
+  held_by false name kind act next stage = next true stage
+
+  pub holding : (name : List ℕ) (kind : LockKind) (act : Bool → Act) → ((held : Bool) → Leaves (act held)) → Leaves (holds_lock name kind act)
+  unfolding holds_lock
+  holding name kind act next stage = held_by (is_rooted name) name kind act next stage
+
+  pub letting_go : (held : Bool) (act : Act) → Leaves act → Leaves (lets_go held act)
+  unfolding lets_go
+  letting_go held act next stage = next stage

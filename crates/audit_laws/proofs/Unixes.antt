@@ -5,6 +5,7 @@ use Rattle.pam_base.specs.declared.code.Code.TheVariants as returns
 use Rattle.pam_base.specs.declared.call.Func.{Func}
 use Rattle.pam_base.specs.declared.call.Func.TheVariants as funcs
 use Rattle.pam_base.specs.declared.item.ItemName.TheVariants.{AuthTok}
+use Rattle.pam_outside.specs.declared.held.LockKind.TheVariants.{Record}
 use Rattle.pam_outside.specs.Paths.{path_of}
 use Rattle.pam_room.specs.Call.{PlainCall, has_flag, prelim_check}
 use Rattle.pam_room.specs.Module.{NamedData}
@@ -15,7 +16,7 @@ use Rattle.mod_unix.specs.module_acts.specs.account_db.specs.Passwd.{entry_of, p
 use Rattle.mod_unix.specs.module_acts.specs.declared.content.Content.{Content}
 use Rattle.mod_unix.specs.module_acts.specs.declared.content.Content.TheVariants as content
 use Rattle.mod_unix.specs.module_acts.specs.Accounts.{account_limit}
-use Rattle.mod_unix.specs.module_acts.specs.Act.{Act, answers, asks_user, draws_word}
+use Rattle.mod_unix.specs.module_acts.specs.Act.{Act, answers, asks_user, draws_word, lets_go}
 use Rattle.mod_unix.specs.module_acts.specs.Arguments.{has_argument}
 use Rattle.mod_unix.specs.module_acts.specs.Steps.{answers_keeping}
 use Rattle.pam_base.specs.Code.{number_of}
@@ -27,9 +28,9 @@ use Rattle.mod_unix.specs.Verify.{hash_verified, verified}
 use Rattle.mod_unix.specs.NewHash.{hashed_token}
 use Rattle.mod_unix.specs.Account.{account_by, checks_account}
 use Rattle.mod_unix.specs.Authenticate.{asks_password, authenticates, judge_account, by_open, by_pass as verified_by, delays, is_empty, is_open, is_success, keeps_for_setcred, setcred_return, try_first, unless_success, verifies_token, with_first}
-use Rattle.mod_unix.specs.Change.{asks_old, by_authtok, write_result, by_early, by_empty, by_kept, by_pass, by_root, by_text, by_token, change_by, changed_shadow, changes_entry, changes_shadow, changes_token, is_kept, is_too_early, new_prompts, same_reply, sets_new, stores_token, takes_token, tries_change, usable}
+use Rattle.mod_unix.specs.Change.{asks_old, by_authtok, write_result, by_early, by_empty, by_kept, by_pass, by_root, by_text, by_token, change_by, changed_shadow, changes_entry, changes_locked, changes_shadow, changes_token, if_locked, is_kept, is_too_early, new_prompts, same_reply, sets_new, stores_token, takes_token, tries_change, usable}
 use Rattle.mod_unix.specs.Unix.{by_func, kept_code, unix_act}
-use Rattle.audit_laws.proofs.Steps.{Leaves, answering, asking, asking_token, delaying, drawing, exchanging, keeping, reading, replacing, seeing_caller, seeing_clock, seeing_data, seeing_items, setting_item}
+use Rattle.audit_laws.proofs.Steps.{Leaves, answering, asking, asking_token, delaying, drawing, exchanging, holding, keeping, letting_go, reading, replacing, seeing_caller, seeing_clock, seeing_data, seeing_items, setting_item}
 
 module _ (path : List ℕ) where
   abbrev Still : Act → Type 0
@@ -168,13 +169,26 @@ module _ (path : List ℕ) where
   -- ---- shadow is replaced, which is another file
 
   module _ (apart : (root : List ℕ) → path_of root (codes "/etc/shadow") ≡ path → ⊥) (act : Code → Act) (next : (code : Code) → Still (act code)) where
-    text_set : (text : Option (List ℕ)) → Still (by_text text act)
-    text_set (Some text) = replacing path (codes "/etc/shadow") text (λ done. act (write_result done)) apart (λ done. next (write_result done))
-    text_set None = next returns.AuthtokErr
+    -- the lock is released, and then the code is returned
+    ended : (code : Code) → Still (lets_go true (act code))
+    ended code = letting_go path true (act code) (next code)
+
+    text_set : (text : Option (List ℕ)) → Still (by_text text (λ code. lets_go true (act code)))
+    text_set (Some text) = replacing path (codes "/etc/shadow") text (λ done. lets_go true (act (write_result done))) apart (λ done. ended (write_result done))
+    text_set None = ended returns.AuthtokErr
+
+    locked : (user hash : List ℕ) (today : ℕ) → Still (changes_locked user hash today (λ code. lets_go true (act code)))
+    unfolding changes_locked
+    locked user hash today =
+        reading path (codes "/etc/shadow") account_limit (λ c. by_text (changed_shadow user hash today c) (λ code. lets_go true (act code))) (λ c. text_set (changed_shadow user hash today c))
+
+    by_held : (user hash : List ℕ) (today : ℕ) (held : Bool) → Still (if_locked user hash today act held)
+    by_held user hash today true = locked user hash today
+    by_held user hash today false = next returns.AuthtokErr
 
     changing : (user hash : List ℕ) (today : ℕ) → Still (changes_shadow user hash today act)
     unfolding changes_shadow
-    changing user hash today = reading path (codes "/etc/shadow") account_limit (λ c. by_text (changed_shadow user hash today c) act) (λ c. text_set (changed_shadow user hash today c))
+    changing user hash today = holding path (codes "/etc/.pwd.lock") Record (if_locked user hash today act) (by_held user hash today)
 
     module _ (call : PlainCall) (user : List ℕ) where
       token_stored : (token : Option (List ℕ)) → Still (by_token call user token act)

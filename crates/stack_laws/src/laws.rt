@@ -1,3 +1,4 @@
+ghost use Rattle.stack_laws.specs.Counted.{CountedFailureDenies};
 ghost use Rattle.stack_laws.specs.First.{FailingFirstLineEnds};
 ghost use Rattle.stack_laws.specs.Success.{FailedLineDenies, FailedRequiredDenies, SuccessNeedsALine};
 
@@ -16,6 +17,14 @@ pub fn success_needs_a_line<S>()
 pub fn failed_line_denies<S>()
     ensures line { FailedLineDenies S }
     ensures required { FailedRequiredDenies S }
+{}
+
+/// After a line that returned another code than SUCCESS and IGNORE, and whose action lets codes
+/// count (`ok`, `done`, in other runs than first ones also a jump), a run doesn't return SUCCESS,
+/// unless a later line's control has `reset`. In a run by cached codes the action is that of the
+/// cached code: a line that succeeded in chauthtok's first pass has to succeed in the second, too.
+pub fn counted_failure_denies<S>()
+    ensures { CountedFailureDenies S }
 {}
 
 /// If a stack's first line is `requisite`, what it returns and the code by which it acts are

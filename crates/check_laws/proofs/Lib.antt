@@ -1,0 +1,7 @@
+mod Looking
+mod Shells
+mod Nologin
+mod Securetty
+mod Wheel
+mod Listfile
+mod Listdeny

@@ -1,0 +1,10 @@
+mod Giving
+mod At_once
+mod Checking
+mod Listing
+mod Environment
+mod Tallying
+mod Passwords
+mod Changing
+mod Remembering
+mod Anything

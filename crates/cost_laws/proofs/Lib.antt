@@ -1,0 +1,4 @@
+mod Noting
+mod Measuring
+mod Bounding
+mod Rows

@@ -1,0 +1,9 @@
+mod Steps
+mod Lists
+mod Passwords
+mod Terminals
+mod Others
+mod Gating
+mod Walking
+mod Keeping_out
+mod Authenticating

@@ -1,0 +1,3 @@
+pub mod NoWay
+pub mod Leaving
+pub mod Kept_out

@@ -1,0 +1,4 @@
+mod Listing
+mod Ending
+mod Calling
+mod Rows

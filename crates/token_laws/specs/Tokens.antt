@@ -1,0 +1,64 @@
+-- Tokens that were set before a call, and those that are set while it waits (pam_get_authtok(3),
+-- pam_fail_delay(3); the statement is this project's own).
+use Rattle.std.specs.Prelude.{◌≡◌, ℕ, false, true, List, Option, None}
+use Rattle.pam_base.specs.declared.code.Code.{Code}
+use Rattle.pam_base.specs.declared.call.Func.{Func}
+use Rattle.pam_base.specs.declared.call.Func.TheVariants.{Authenticate}
+use Rattle.dispatch_core.specs.Pending.{is_other_pending, past_in}
+use Rattle.dispatch_core.specs.pam_room.specs.Module.{Player}
+use Rattle.dispatch_core.specs.pam_room.specs.State.{PlainWorld}
+use Rattle.pam_handle.specs.AnyWorld.{AreUnset}
+use Rattle.pam_handle.specs.Call.{Called, called, clears_tokens, items_before, request_forgotten, waits_after}
+use Rattle.pam_handle.specs.Handle.{PlainHandle, in_room}
+use Rattle.pam_handle.specs.Pass.{Passed}
+use Rattle.pam_handle.specs.StackCalls.{is_refused_for_flags, passes_first, stack_call}
+
+-- the transaction with these tokens
+abbrev pub with_tokens : Option (List ℕ) → Option (List ℕ) → PlainHandle → PlainHandle
+with_tokens token old h = in_room (record h.room {
+  transaction = record h.room.transaction {
+    items = record h.room.transaction.items {
+      auth_tok = token;
+      old_auth_tok = old;
+    };
+  };
+}) h
+
+-- a call of authenticate or chauthtok that begins, and isn't refused for its flags, does the same
+-- whatever tokens were set before: its code, its prompts, what it leaves in the transaction and in
+-- files, and its wait
+abbrev pub EarlierTokensDontMatter : Type 0
+EarlierTokensDontMatter =
+    (players : List Player) (number : Code → ℕ → ℕ) (func : Func) (flags : ℕ) (h : PlainHandle)
+    (w : PlainWorld) (token old : Option (List ℕ)) → clears_tokens func ≡ true →
+    h.pending ≡ None → is_refused_for_flags func flags ≡ false →
+    stack_call players number func flags (with_tokens token old h) w
+    ≡ stack_call players number func flags h w
+
+-- the transaction as it is when the pass of an authentication begins or is resumed
+abbrev pub begun : PlainHandle → PlainHandle
+begun h = in_room (record h.room {
+  transaction = record h.room.transaction
+      { items = items_before Authenticate h.pending h.room.transaction.items };
+}) h
+
+-- a call that waits from this transaction and world on, and then only forgets the requested delay
+abbrev pub waits_from : (Code → ℕ → ℕ) → Code → PlainHandle → PlainWorld → Called
+waits_from number code h w =
+    let waited = waits_after number code h w in
+    called code (request_forgotten waited.handle) waited.world
+
+-- where the wait begins: both tokens are unset, and what follows is the wait
+pub record WaitsUnset (number : Code → ℕ → ℕ) (p : Passed) (c : Called) : Type 0 where
+  pub before : PlainHandle
+  pub unset : AreUnset before.room.transaction.items
+  pub rest : c ≡ waits_from number p.code before p.state.world
+
+-- if the pass of an authentication has ended, both tokens are unset when the wait begins
+abbrev pub NoTokenWhileItWaits : Type 0
+NoTokenWhileItWaits =
+    (players : List Player) (number : Code → ℕ → ℕ) (flags : ℕ) (h : PlainHandle)
+    (w : PlainWorld) → is_other_pending h.pending Authenticate ≡ false →
+    let p = passes_first players Authenticate flags (past_in h.pending) (begun h) w in
+    p.paused ≡ None →
+    WaitsUnset number p (stack_call players number Authenticate flags h w)
