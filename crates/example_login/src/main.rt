@@ -2,23 +2,27 @@
 //! conversation of its own. It prints PAM's return code, and exits with that code's number.
 #![tactic(auto)]
 
+ghost use Rattle.std.specs.Prelude.{◌≡◌, Ok};
 ghost use Rattle.pam_handle.specs.Plain.{plain_handle};
 ghost use Rattle.pam_handle.specs.Ready.{IsReadyFor};
+ghost use Rattle.pam_handle.specs.StackCalled.{StackCalled};
+ghost use Rattle.example_login.specs.LetIn.{IsLetIn, IsSameWorld};
 
 mod card;
 mod guest;
 
 use card::Card;
-use fail_delay::DelayFn;
+use fail_delay::{DelayFn, DelayTold};
 use guest::Guest;
 use mod_basic::{Permit, Probe};
 use pam_base::{Code, ESTABLISH_CRED, NoMemory, Text, code_name, code_number};
 use pam_handle::{Gear, GearTold, Handle, StartCache};
+use pam_outside::set_moment;
 use pam_room::{Module, Process, Room, RoomTold, World, WorldTold};
 use std::alloc::Global;
 use std::io;
 use std::process::ExitCode;
-use system_objects::{FolderVault, RealClock, SleepNap};
+use system_objects::{FolderVault, RealClock, SleepNap, system_moment};
 
 fn main(rt: HostRuntime) -> io::Result<ExitCode> {
     let alloc = rt.alloc();
@@ -52,15 +56,17 @@ fn main(rt: HostRuntime) -> io::Result<ExitCode> {
         println!(rt; "refused")?;
         return Ok(ExitCode::FAILURE);
     };
-    let code = let_in(alloc, &gear, &mut world, &mut handle).unwrap_or(Code::BufErr);
+    let code = let_in(alloc, &rt, &gear, &mut world, &mut handle).unwrap_or(Code::BufErr);
     let _card = handle.end(&gear, &mut world, code_number(code));
     println!(rt; "{}", code_name(code))?;
     Ok(ExitCode::from(code_number(code) as u8))
 }
 
-// Makes the calls of a login program, up to the first that doesn't return SUCCESS.
+// Makes the calls of a login program, up to the first that doesn't return SUCCESS. SUCCESS means
+// that all three returned it.
 fn let_in(
     alloc: Global,
+    rt: &HostRuntime,
     gear: &Gear,
     world: &mut World,
     handle: &mut Handle,
@@ -71,14 +77,30 @@ fn let_in(
     ensures ready { IsReadyFor (⟦<Gear as GearTold>⟧.players gear.now)
         (plain_handle ⟦<Room as RoomTold>⟧.plain handle.new)
         (⟦<World as WorldTold>⟧.plain world.new).process }
+    ensures let_in { result ≡ Ok Code.Success → IsLetIn (λ func flags.
+        StackCalled func flags (⟦<Gear as GearTold>⟧.players gear.now)
+        (⟦<DelayFn as DelayTold>⟧.delay_is gear.now.delay)
+        ⟦<Room as RoomTold>⟧.tells ⟦<Room as RoomTold>⟧.plain
+        ⟦<World as WorldTold>⟧.tells ⟦<World as WorldTold>⟧.plain (Ok Code.Success))
+        IsSameWorld handle.old handle.new world.old world.new }
 {
-    let code = handle.authenticate(alloc, gear, world, 0)?;
-    if code != Code::Success {
-        return Ok(code);
+    set_time(rt, world);
+    match handle.authenticate(alloc, gear, world, 0)? {
+        Code::Success => {}
+        code => return Ok(code),
     }
-    let code = handle.acct_mgmt(alloc, gear, world, 0)?;
-    if code != Code::Success {
-        return Ok(code);
+    set_time(rt, world);
+    match handle.acct_mgmt(alloc, gear, world, 0)? {
+        Code::Success => {}
+        code => return Ok(code),
     }
+    set_time(rt, world);
     handle.setcred(alloc, gear, world, ESTABLISH_CRED)
+}
+
+// Sets the clock, which stands still otherwise, to the system's time.
+fn set_time(rt: &HostRuntime, world: &mut World)
+    ensures { IsSameWorld world.old world.new }
+{
+    set_moment(&mut world.clock, system_moment(rt));
 }
