@@ -99,7 +99,7 @@ static bool refuse(unsigned char kind)
     static const char names[][16] = { "start", "end", "authenticate", "setcred", "acct_mgmt", "open_session", "close_session",
         "chauthtok", "set_item", "get_item", "putenv", "getenv", "envlist", "fail_delay", "delay" };
     static const char code[] = " PERM_DENIED 6\n";
-    static unsigned char answer[64] = { [8] = '1', [9] = ' ' };
+    unsigned char answer[64] = { [8] = '1', [9] = ' ' };
     size_t size = 10;
 
     if (kind < 1 || kind > DELAY)
@@ -125,22 +125,19 @@ static bool write_all(const unsigned char *bytes, size_t size)
 }
 
 /* Passes frames on, or refuses them. False if that isn't possible, or one isn't whole. */
-static bool pass(struct message *message, pid_t *starter)
+static bool pass(const struct message *message, const struct ucred *starter)
 {
     const struct ucred *sender = &message->sender;
-    bool has_rights = sender->uid == (uid_t)call(SYS_geteuid, 0, 0, 0, 0, 0)
-        && (sender->uid == 0 || sender->gid == (gid_t)call(SYS_getegid, 0, 0, 0, 0, 0)), goes_on = true;
+    bool has_rights = sender->uid == starter->uid && (sender->uid == 0 || sender->gid == starter->gid), goes_on = true;
 
     if (!is_whole(message))
         return !has_rights; /* what others send in part is dropped, and nobody else's frames with it */
-    if (*starter == 0)
-        *starter = sender->pid;
     if (has_rights)
         return write_all(message->bytes, message->size);
     for (size_t at = 0, size; goes_on && at < message->size; at += size) {
         unsigned char kind = message->bytes[at + 3];
         size = frame_at(message, at);
-        bool may = kind == GET_ITEM || kind == GETENV || kind == ENVLIST || (kind == END && sender->pid == *starter);
+        bool may = kind == GET_ITEM || kind == GETENV || kind == ENVLIST || (kind == END && sender->pid == starter->pid);
         goes_on = may ? write_all(message->bytes + at, size) : refuse(kind);
     }
     return goes_on;
@@ -149,10 +146,11 @@ static bool pass(struct message *message, pid_t *starter)
 _Noreturn void _start(void);
 _Noreturn void _start(void)
 {
-    static struct message message;
+    struct message message; /* on the stack, so the program has one segment, and begins faster */
     struct pollfd ends[] = { { .fd = 0, .events = POLLIN }, { .fd = 1 } };
-    pid_t starter = 0;
-    bool goes_on = true;
+    struct ucred starter; /* who called pam_start, and sent the first frame to pam_service itself */
+    socklen_t size = sizeof starter;
+    bool goes_on = call(SYS_getsockopt, 0, SOL_SOCKET, SO_PEERCRED, (long)&starter, (long)&size) == 0;
 
     (void)call(SYS_prctl, PR_SET_DUMPABLE, 0, 0, 0, 0); /* passwords go through it */
     /* The pipe is in error once pam_service has ended: then the application must see the end of its socket. */

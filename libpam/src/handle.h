@@ -77,10 +77,12 @@ struct answer {
 };
 
 /* server.c */
-/* If a limit can't be raised, that is named. */
-bool server_start(struct wire *wire, const char **lacks);
+/* Starts a process and sends it START. If a limit can't be raised, that is named. */
+bool server_start(struct wire *wire, const void *rest, size_t size, const char **lacks);
 
 /* wire.c */
+/* Makes a frame of at most 4 + MAX_REST bytes, and returns how many it has. */
+size_t wire_frame(unsigned char *frame, enum kind kind, const void *rest, size_t size);
 bool wire_send(struct wire *wire, enum kind kind, const void *rest, size_t size);
 bool wire_receive(struct wire *wire, enum kind kind, struct answer *answer);
 bool wire_call(struct wire *wire, enum kind kind, const void *rest, size_t size, struct answer *answer);

@@ -58,14 +58,14 @@ static int start(pam_handle_t *handle, const char *user)
     memcpy(rest + 1, handle->service, size);
     if ((value = put_value(rest + 1 + size, user)) == 0)
         return PAM_BUF_ERR;
-    if (!server_start(&handle->wire, &lacks)) {
+    if (!server_start(&handle->wire, rest, 1 + size + value, &lacks)) {
         if (lacks != NULL)
             log_say(handle, LOG_ERR, "pamsess", "start", "no process is started, since %s is too low and can't be raised", lacks);
         else
             log_say(handle, LOG_CRIT, "pamsess", "start", "no process could be started: %m");
         return PAM_ABORT;
     }
-    if (wire_call(&handle->wire, START, rest, 1 + size + value, &answer))
+    if (wire_receive(&handle->wire, START, &answer))
         code = read_start(handle, &answer);
     answer_free(&answer);
     if (code != PAM_SUCCESS)

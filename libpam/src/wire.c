@@ -136,19 +136,25 @@ static bool is_well_formed(struct answer *answer, enum kind kind)
     return result_of(answer, kind) != NULL || (kind >= AUTHENTICATE && kind <= CHAUTHTOK && is_exchange(answer, &prompts));
 }
 
-bool wire_send(struct wire *wire, enum kind kind, const void *rest, size_t size)
+size_t wire_frame(unsigned char *frame, enum kind kind, const void *rest, size_t size)
 {
-    unsigned char frame[4 + MAX_REST];
-
-    if (wire->broken || size > MAX_REST)
-        return false;
     frame[0] = (unsigned char)((size + 2) >> 8);
     frame[1] = (unsigned char)(size + 2);
     frame[2] = 1;
     frame[3] = (unsigned char)kind;
     if (size > 0)
         memcpy(frame + 4, rest, size);
-    const char *fault = is_ours(wire) ? transfer(wire, true, frame, size + 4, now_in_millis() + PATIENCE * 1000) : NOT_OURS;
+    return size + 4;
+}
+
+bool wire_send(struct wire *wire, enum kind kind, const void *rest, size_t size)
+{
+    unsigned char frame[4 + MAX_REST];
+
+    if (wire->broken || size > MAX_REST)
+        return false;
+    size_t whole = wire_frame(frame, kind, rest, size);
+    const char *fault = is_ours(wire) ? transfer(wire, true, frame, whole, now_in_millis() + PATIENCE * 1000) : NOT_OURS;
     explicit_bzero(frame, sizeof frame);
     log_broken(wire, fault);
     return !wire->broken;

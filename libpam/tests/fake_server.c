@@ -3,11 +3,13 @@
  * `says` the rest of the file is its answer to authenticate, and after `asks` it asks for a password before that answer.
  */
 #define _GNU_SOURCE
+#include <fcntl.h>
 #include <signal.h>
 #include <stdbool.h>
 #include <stdio.h>
 #include <stdlib.h>
 #include <string.h>
+#include <sys/resource.h>
 #include <sys/stat.h>
 #include <unistd.h>
 
@@ -54,6 +56,15 @@ static void write_raw(const char *bytes, size_t size)
 {
     if (write(1, bytes, size) != (ssize_t)size)
         exit(1);
+}
+
+/* How many descriptors are open beside 0, 1 and 2. */
+static int other_descriptors(void)
+{
+    int found = 0;
+    for (int fd = 3; fd < 64; fd++)
+        found += fcntl(fd, F_GETFD) >= 0;
+    return found;
 }
 
 int main(int count, char **words)
@@ -113,12 +124,14 @@ int main(int count, char **words)
             continue;
         }
         struct stat in, out;
+        struct rlimit core;
         if (kind == 10)
             snprintf(text, sizeof text, "1 get_item %s%s\n", items[frame[2]][0] ? "set " : "unset", items[frame[2]]);
         else if (kind == 12) /* what a test asks about this process */
-            snprintf(text, sizeof text, "1 getenv set %s,%s,%d,%d,%d\n", environ[0] ? environ[0] : "", environ[1] ? environ[1] : "",
-                access("/proc/self/fd/3", F_OK), getsid(0) != getpid() && getppid() != getsid(0),
-                fstat(0, &in) == 0 && fstat(1, &out) == 0 && S_ISFIFO(in.st_mode) && S_ISSOCK(out.st_mode));
+            snprintf(text, sizeof text, "1 getenv set %s,%s,%d,%d,%d,%d\n", environ[0] ? environ[0] : "", environ[1] ? environ[1] : "",
+                other_descriptors(), getsid(0) != getpid() && getppid() != getsid(0),
+                fstat(0, &in) == 0 && fstat(1, &out) == 0 && S_ISFIFO(in.st_mode) && S_ISSOCK(out.st_mode),
+                getrlimit(RLIMIT_CORE, &core) == 0 ? (int)core.rlim_cur : -1);
         else if (kind == 13)
             snprintf(text, sizeof text, "1 env A=b\\x0ac\n1 env B=\n1 envlist 2\n");
         else

@@ -75,9 +75,10 @@ static bool ends_with(const char *line)
     return begin[-1] == '\n' || (begin[-1] == size && begin[-2] == 0);
 }
 
-bool server_start(struct wire *wire, const char **lacks)
+bool server_start(struct wire *wire, const void *rest, size_t size, const char **lacks)
 {
     int pair[2];
+    (void)rest, (void)size;
     *lacks = NULL;
     struct stat found;
     assert(socketpair(AF_UNIX, SOCK_STREAM | SOCK_CLOEXEC, 0, pair) == 0 && fstat(pair[0], &found) == 0);

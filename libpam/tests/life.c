@@ -5,14 +5,19 @@
 #define _GNU_SOURCE
 #include <errno.h>
 #include <fcntl.h>
+#include <linux/filter.h>
+#include <linux/seccomp.h>
 #include <pthread.h>
 #include <signal.h>
 #include <stdarg.h>
 #include <stdbool.h>
+#include <stddef.h>
 #include <stdio.h>
 #include <stdlib.h>
 #include <string.h>
+#include <sys/prctl.h>
 #include <sys/resource.h>
+#include <sys/syscall.h>
 #include <sys/time.h>
 #include <sys/wait.h>
 #include <time.h>
@@ -321,6 +326,13 @@ static void test_log_and_wait(void)
     double began = now();
     answers("a wait", "1 wait AUTH_ERR 7 300000 300000\n1 authenticate AUTH_ERR 7\n", PAM_AUTH_ERR);
     is("is waited", now() - began >= 0.3, 1);
+    struct itimerval often = { { 0, 200000 }, { 0, 200000 } }, never = { { 0, 0 }, { 0, 0 } };
+    signal(SIGALRM, count);
+    setitimer(ITIMER_REAL, &often, NULL);
+    began = now();
+    answers("a wait of ten seconds", "1 wait AUTH_ERR 7 10000000 10000000\n1 authenticate AUTH_ERR 7\n", PAM_AUTH_ERR);
+    is("is over at a signal", now() - began < 8, 1);
+    setitimer(ITIMER_REAL, &never, NULL);
     mode("says 1 wait AUTH_ERR 7 3000000 3000000\n1 authenticate AUTH_ERR 7\n");
     is("start", start(&handle), PAM_SUCCESS);
     is("a delay function", pam_set_item(handle, PAM_FAIL_DELAY, own.item), PAM_SUCCESS);
@@ -424,6 +436,34 @@ static bool with_few_descriptors(void)
     return start(&handle) == PAM_ABORT && handle == NULL;
 }
 
+/* The server's environment, no descriptor beyond 2, a session that isn't this one's, a pipe and a socket as its 0 and 1, and no core
+   file, or one in a pipe. */
+static bool is_as_it_should_be(pam_handle_t *handle)
+{
+    const char *told = pam_getenv(handle, "X");
+    return told != NULL && strcmp(told, "LC_ALL=C,,0,1,1,1") == 0;
+}
+
+/* A kernel, or a container's filter, that doesn't have close_range(2). */
+static bool without_close_range(void)
+{
+    struct sock_filter filter[] = {
+        BPF_STMT(BPF_LD | BPF_W | BPF_ABS, offsetof(struct seccomp_data, nr)),
+        BPF_JUMP(BPF_JMP | BPF_JEQ | BPF_K, SYS_close_range, 0, 1),
+        BPF_STMT(BPF_RET | BPF_K, SECCOMP_RET_ERRNO | ENOSYS),
+        BPF_STMT(BPF_RET | BPF_K, SECCOMP_RET_ALLOW),
+    };
+    const struct sock_fprog program = { sizeof filter / sizeof *filter, filter };
+    pam_handle_t *handle = NULL;
+
+    for (int i = 0; i < 8; i++)
+        (void)dup(0); /* an application's own, which aren't closed over exec */
+    if (prctl(PR_SET_NO_NEW_PRIVS, 1, 0, 0, 0) != 0 || prctl(PR_SET_SECCOMP, SECCOMP_MODE_FILTER, &program) != 0)
+        return false;
+    return close_range(3, ~0U, 0) != 0 && start(&handle) == PAM_SUCCESS && is_as_it_should_be(handle)
+        && pam_end(handle, 0) == PAM_SUCCESS;
+}
+
 static void test_descriptors(const char *foreign)
 {
     pam_handle_t *handle = NULL;
@@ -442,6 +482,7 @@ static void test_descriptors(const char *foreign)
     is("0, 1 and 2 were closed", in_a_copy(without_descriptors), 0);
     is("no file may be written", in_a_copy(without_files), 0);
     is("no descriptors: refused", in_a_copy(with_few_descriptors), 0);
+    is("there is no close_range", in_a_copy(without_close_range), 0);
     if (getuid() == 0)
         is("limits that can't be raised: refused", in_a_copy(with_low_limits), 0);
 }
@@ -460,9 +501,7 @@ static void test_life(void)
     is("wait finds no child", waitpid(-1, &status, WNOHANG) == -1 && errno == ECHILD, 1);
     is("authenticate", pam_authenticate(handle, 0), PAM_SUCCESS);
     setenv("SECRET", "x", 1);
-    /* The server's environment, no descriptor 3, a session that isn't this one's, a pipe and a socket as its 0 and 1. */
-    const char *told = pam_getenv(handle, "X");
-    is("getenv", told != NULL && strcmp(told, "LC_ALL=C,,-1,1,1") == 0, 1);
+    is("the process is as it should be", is_as_it_should_be(handle), 1);
     pid_t child = fork(); /* as sshd does: a copy authenticates, this process goes on */
     if (child == 0) {
         int code = pam_authenticate(handle, 0) == PAM_SUCCESS ? 0 : 1;

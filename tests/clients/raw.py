@@ -52,8 +52,13 @@ class Response(ctypes.Structure):
     _fields_ = [("reply", ctypes.c_void_p), ("code", ctypes.c_int)]
 
 
-TALK = ctypes.CFUNCTYPE(ctypes.c_int, ctypes.c_int, ctypes.POINTER(ctypes.POINTER(Message)), ctypes.POINTER(ctypes.c_void_p),
-    ctypes.c_void_p)
+TALK = ctypes.CFUNCTYPE(
+    ctypes.c_int,
+    ctypes.c_int,
+    ctypes.POINTER(ctypes.POINTER(Message)),
+    ctypes.POINTER(ctypes.c_void_p),
+    ctypes.c_void_p,
+)
 
 
 class Conversation(ctypes.Structure):

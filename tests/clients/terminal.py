@@ -1,4 +1,5 @@
-"""A program on a pseudo-terminal: what it shows is waited for, and what is typed is typed when the echo is as it should be."""
+"""A program on a pseudo-terminal: what it shows is waited for, and what is typed is typed when the echo is as it should
+be."""
 import os
 import pty
 import select
