@@ -1,7 +1,8 @@
-"""What the scripts share: where the programs are, how foreign text is printed, the codes and what controls do with them in words,
-and the files below a root, of which no link leads out.
+"""What the scripts share: where the programs are, how foreign text is printed, the codes and what controls do with them
+in words, and the files below a root, of which no link leads out.
 
-Texts are decoded as file names are (`os.fsdecode`), so each is written again byte by byte, and none is refused in any locale.
+Texts are decoded as file names are (`os.fsdecode`), so each is written again byte by byte, and none is refused in any
+locale.
 """
 import os
 import re
@@ -10,13 +11,22 @@ import stat
 import sys
 
 TYPES = ("auth", "account", "password", "session")
-CODES = """success open_err symbol_err service_err system_err buf_err perm_denied auth_err cred_insufficient authinfo_unavail
-user_unknown maxtries new_authtok_reqd acct_expired session_err cred_unavail cred_expired cred_err no_module_data conv_err
-authtok_err authtok_recover_err authtok_lock_busy authtok_disable_aging try_again ignore abort authtok_expired module_unknown
-bad_item conv_again incomplete""".split()
+CODES = """
+    success open_err symbol_err service_err system_err buf_err perm_denied auth_err cred_insufficient
+    authinfo_unavail user_unknown maxtries new_authtok_reqd acct_expired session_err cred_unavail cred_expired
+    cred_err no_module_data conv_err authtok_err authtok_recover_err authtok_lock_busy authtok_disable_aging
+    try_again ignore abort authtok_expired module_unknown bad_item conv_again incomplete
+""".split()
 # As the report names them.
 NAMES = [code.upper().replace("TOK_RECOVER_", "TOK_RECOVERY_") for code in CODES]
-CALLS = {"authenticate": "auth", "acct_mgmt": "account", "setcred": "auth", "open_session": "session", "close_session": "session", "chauthtok": "password"}
+CALLS = {
+    "authenticate": "auth",
+    "acct_mgmt": "account",
+    "setcred": "auth",
+    "open_session": "session",
+    "close_session": "session",
+    "chauthtok": "password",
+}
 
 # The longest file that pamsess reads for a module, and the longest that holds rules.
 MOST = 1048576
@@ -26,8 +36,12 @@ TOP = os.path.dirname(os.path.dirname(os.path.realpath(__file__)))
 
 
 def shown(text):
-    """A text that comes from a file, or a file's name, as the reports print it: a byte that isn't printable is `\\x` and two digits."""
-    return "".join("\\\\" if byte == 0x5C else chr(byte) if 0x20 <= byte <= 0x7E else f"\\x{byte:02x}" for byte in os.fsencode(text))
+    """A text that comes from a file, or a file's name, as the reports print it: a byte that isn't printable is `\\x`
+    and two digits."""
+    return "".join(
+        "\\\\" if byte == 0x5C else chr(byte) if 0x20 <= byte <= 0x7E else f"\\x{byte:02x}"
+        for byte in os.fsencode(text)
+    )
 
 
 def as_word(text):
@@ -48,16 +62,27 @@ def asks_for_help(words):
     return words[:1] in (["--help"], ["-h"])
 
 
-def program(script, crate="pam_session_cli", name="pamsess", variable="PAMSESS", is_needed=True):
-    """A program: the one that a variable names, that of this checkout, or the installed one; None, with a line that says so, if it
-    isn't built."""
+def place_of(crate, name, variable):
+    """Where a program is: as a variable names it, or else in this checkout, or installed."""
     built = f"{TOP}/crates/{crate}/out/{crate}" if os.path.isdir(f"{TOP}/crates") else f"{TOP}/{name}"
-    for path in (os.environ.get(variable), built):
-        if path and os.path.isfile(path) and os.access(path, os.X_OK):
-            return os.path.abspath(path)
+    return os.path.abspath(os.environ.get(variable) or built)
+
+
+def program(script, crate="pam_session_cli", name="pamsess", variable="PAMSESS", is_needed=True):
+    """A program, as `place_of` says; None, with a line that says so, if it isn't built."""
+    path = place_of(crate, name, variable)
+    if os.path.isfile(path) and os.access(path, os.X_OK):
+        return path
     if not is_needed:
         return None
-    say(script, "the program isn't built: run ./build" if crate == "pam_session_cli" else f"the program isn't built: ./build {crate} builds it")
+    say(
+        script,
+        (
+            "the program isn't built: run ./build"
+            if crate == "pam_session_cli"
+            else f"the program isn't built: ./build {crate} builds it"
+        ),
+    )
     return None
 
 
@@ -73,7 +98,14 @@ def sibling(name):
 
 def words_of(action):
     """What an action does with a code."""
-    plain = {"ignore": "ignored", "ok": "counts", "done": "counts, ends the list if nothing failed", "bad": "fails the stack", "die": "fails the stack, ends the list", "reset": "undoes what this list did"}
+    plain = {
+        "ignore": "ignored",
+        "ok": "counts",
+        "done": "counts, ends the list if nothing failed",
+        "bad": "fails the stack",
+        "die": "fails the stack, ends the list",
+        "reset": "undoes what this list did",
+    }
     return plain.get(action) or f"skips {action}"
 
 
@@ -92,8 +124,8 @@ class Below:
         self.fd = os.open(root, os.O_RDONLY | os.O_DIRECTORY | os.O_CLOEXEC)
 
     def find(self, path, follow=True):
-        """The directory in which a file is, opened, and the file's name there; and its real path, as a list of names. The name is
-        `.` for a directory to which a link or `..` leads."""
+        """The directory in which a file is, opened, and the file's name there; and its real path, as a list of names.
+        The name is `.` for a directory to which a link or `..` leads."""
         at, real, todo, links = [os.dup(self.fd)], [], [name for name in path.split("/") if name not in ("", ".")], 0
         try:
             while todo:
@@ -203,5 +235,9 @@ class Below:
 
 def unquoted(text):
     """A text that was printed as reports print it."""
-    raw = re.sub(rb"\\(?:x([0-9a-f]{2})|(\\))", lambda it: b"\\" if it[2] else bytes([int(it[1], 16)]), text.encode("latin-1", "replace"))
+    raw = re.sub(
+        rb"\\(?:x([0-9a-f]{2})|(\\))",
+        lambda it: b"\\" if it[2] else bytes([int(it[1], 16)]),
+        text.encode("latin-1", "replace"),
+    )
     return os.fsdecode(raw)

@@ -10,7 +10,10 @@ from common import Unread
 FAULT, WARNING, NOTE = "fault", "warning", "note"
 # The keys of faillock.conf(5) and pwhistory.conf(5).
 KEYS = {
-    "etc/security/faillock.conf": (replacing.FAILLOCK, {"audit", "silent", "no_log_info", "nodelay", "local_users_only", "root_unlock_time", "admin_group"}),
+    "etc/security/faillock.conf": (
+        replacing.FAILLOCK,
+        {"audit", "silent", "no_log_info", "nodelay", "local_users_only", "root_unlock_time", "admin_group"},
+    ),
     "etc/security/pwhistory.conf": (replacing.PWHISTORY, {"debug", "retry", "file"}),
 }
 # Those of which nothing is lost in a trial.
@@ -24,14 +27,30 @@ def look_at_text(found, path, text):
         begin = begin or number
         joined += line
         if len(joined) >= 1023:
-            found.add(WARNING, f"{path}:{begin}", "this line has 1,023 bytes or more, with those joined to it: before 1.6 libpam cuts it there, and reads the rest as another rule", None)
+            found.add(
+                WARNING,
+                f"{path}:{begin}",
+                (
+                    "this line has 1,023 bytes or more, with those joined to it: before 1.6 libpam cuts it there, "
+                    "and reads the rest as another rule"
+                ),
+                None,
+            )
             joined = ""
         if not re.search(r"\\\r?$", line) or line.lstrip().startswith("#"):
             joined, begin = "", 0
     last = text.rstrip(" \t\r\n").rsplit("\n", 1)[-1]
     if last.endswith("\\") and not last.lstrip().startswith("#"):
         number = text.rstrip(" \t\r\n").count("\n") + 1
-        found.add(WARNING, f"{path}:{number}", "the file ends in a continued line: libpam refuses the whole file, and every service that includes it; pamsess reads it", None)
+        found.add(
+            WARNING,
+            f"{path}:{number}",
+            (
+                "the file ends in a continued line: libpam refuses the whole file, and every service that includes "
+                "it; pamsess reads it"
+            ),
+            None,
+        )
 
 
 def look_at_texts(found, tree):
@@ -53,13 +72,27 @@ def look_at_accounts(found, below):
                 found.add(WARNING, f"etc/{name}", f"it can't be read: {fault}", None)
             continue
         lines = text.split("\n")
-        bad = [number for number, line in enumerate(lines, 1) if not replacing.is_passed_over(line) and not is_entry(line)]
+        bad = [
+            number for number, line in enumerate(lines, 1) if not replacing.is_passed_over(line) and not is_entry(line)
+        ]
         more = f" (also in line {', '.join(map(str, bad[1:4]))}{' ..' if len(bad) > 4 else ''})" if bad[1:] else ""
         if bad:
-            found.add(WARNING, f"etc/{name}:{bad[0]}", f"this isn't an entry of {name}(5){more}: libpam passes over it, pamsess denies everybody", None)
+            found.add(
+                WARNING,
+                f"etc/{name}:{bad[0]}",
+                f"this isn't an entry of {name}(5){more}: libpam passes over it, pamsess denies everybody",
+                None,
+            )
         if len(text) > common.MOST * 9 // 10:
-            what = "has more bytes than pamsess reads" if len(text) > common.MOST else "is nearly as long as pamsess reads"
-            found.add(WARNING, f"etc/{name}", f"it {what} ({len(text):,} of {common.MOST:,}): beyond that nobody logs in here", None)
+            what = (
+                "has more bytes than pamsess reads" if len(text) > common.MOST else "is nearly as long as pamsess reads"
+            )
+            found.add(
+                WARNING,
+                f"etc/{name}",
+                f"it {what} ({len(text):,} of {common.MOST:,}): beyond that nobody logs in here",
+                None,
+            )
 
 
 def look_at_settings(found, below):
@@ -69,13 +102,19 @@ def look_at_settings(found, below):
             line = line.partition("#")[0].strip()
             key, _, value = (part.strip() for part in line.partition("="))
             if not line or key in here | QUIET:
-                if key in ("deny", "fail_interval", "unlock_time", "remember") and not re.fullmatch("[0-9]{1,9}|never", value):
+                if (
+                    key in ("deny", "fail_interval", "unlock_time", "remember")
+                    and not re.fullmatch("[0-9]{1,9}|never", value)
+                ):
                     found.add(WARNING, f"{path}:{number}", f"{key} needs a number, and not `{value}`", None)
             elif key in others:
                 found.add(NOTE, f"{path}:{number}", f"{key} isn't tried: pamsess's module has nothing like it", None)
             else:
                 found.add(WARNING, f"{path}:{number}", f"there is no setting {key}{near(key, here | others)}", None)
-        if path.endswith("faillock.conf") and any(line.partition("#")[0].strip() for line in below.text(path).split("\n")):
+        if (
+            path.endswith("faillock.conf")
+            and any(line.partition("#")[0].strip() for line in below.text(path).split("\n"))
+        ):
             found.add(NOTE, path, "pamsess doesn't read it: stand-in makes its settings arguments", None)
 
 

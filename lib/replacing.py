@@ -7,7 +7,12 @@ import services
 
 LISTS = "/etc/stand-in"
 # What an argument of pam_debug is called for each type.
-ARGUMENTS = {"auth": ("auth", "cred"), "account": ("acct",), "password": ("prechauthtok", "chauthtok"), "session": ("open_session", "close_session")}
+ARGUMENTS = {
+    "auth": ("auth", "cred"),
+    "account": ("acct",),
+    "password": ("prechauthtok", "chauthtok"),
+    "session": ("open_session", "close_session"),
+}
 # The keys of configuration files that pamsess's modules have as arguments, and those that mean nothing for a trial.
 FAILLOCK = {"deny", "fail_interval", "unlock_time", "even_deny_root", "dir"}
 PWHISTORY = {"remember", "enforce_for_root"}
@@ -21,8 +26,8 @@ def debug(kind, code):
 
 
 def failure_of(module, arguments, kind, actions):
-    """What a module that verifies who the user is returns if it can't: of somebody whom it doesn't know, or if what it needs isn't
-    there. A code that its line would take as a success is passed over."""
+    """What a module that verifies who the user is returns if it can't: of somebody whom it doesn't know, or if what it
+    needs isn't there. A code that its line would take as a success is passed over."""
     if "ignore_unknown_user" in arguments or (module == "pam_krb5" and kind == "account"):
         return "ignore"
     codes = ["authinfo_unavail", "user_unknown"] if module in modules.KEYS else ["user_unknown", "authinfo_unavail"]
@@ -68,13 +73,18 @@ class Replacing:
         self.notes = set()
 
     def is_there(self, path, module):
-        """Whether the host has a module. Without directories of modules below the root, a name counts that is known or on this machine."""
+        """Whether the host has a module. Without directories of modules below the root, a name counts that is known or
+        on this machine."""
         if self.here is None:
             return self.disk.has(path)
-        return path.endswith(".so") and (module in modules.KNOWN - set(modules.OBSOLETE) or f"{module}.so" in self.here.files)
+        return (
+            path.endswith(".so")
+            and (module in modules.KNOWN - set(modules.OBSOLETE) or f"{module}.so" in self.here.files)
+        )
 
     def other(self, kind, control, path, arguments):
-        """What takes the place of a module's path, and how that is reported; None if it stays as it is. What is reported may be empty."""
+        """What takes the place of a module's path, and how that is reported; None if it stays as it is. What is
+        reported may be empty."""
         module, actions = services.module_of(path), services.actions_of(control)
         chosen = self.choices.get(module)
         if chosen == "missing" or (chosen is None and not self.is_there(path, module)):
@@ -86,7 +96,13 @@ class Replacing:
         return self.exact(kind, module, arguments) or self.stand_in(kind, module, actions, arguments)
 
     def missing(self, module, path, chosen):
-        how = "left as it is, as you chose" if chosen else "left as it is: the host has no such module" if self.here is None else "left as it is: no module of this name is known"
+        how = (
+            "left as it is, as you chose"
+            if chosen
+            else "left as it is: the host has no such module"
+            if self.here is None
+            else "left as it is: no module of this name is known"
+        )
         better = f" ({modules.OBSOLETE[module]} replaces it)" if module in modules.OBSOLETE and not chosen else ""
         how += f"{better}, so its lines return MODULE_UNKNOWN"
         # (of a module that pamsess has, libpam wouldn't find this path)
@@ -96,10 +112,16 @@ class Replacing:
         """A module here that does the same."""
         words = {it.partition("=")[0] for it in arguments}
         if module == "pam_localuser" and "file" not in words:
-            return f"pam_listfile.so item=user sense=allow onerr=fail file={LISTS}/local", "pam_listfile with the users of passwd"
+            return (
+                f"pam_listfile.so item=user sense=allow onerr=fail file={LISTS}/local",
+                "pam_listfile with the users of passwd",
+            )
         if module == "pam_usertype" and "use_uid" not in words and words & {"issystem", "isregular"}:
             name = "system" if "issystem" in words else "regular"
-            return f"pam_listfile.so item=user sense=allow onerr=fail file={LISTS}/{name}", f"pam_listfile with the {name} users of passwd"
+            return (
+                f"pam_listfile.so item=user sense=allow onerr=fail file={LISTS}/{name}",
+                f"pam_listfile with the {name} users of passwd",
+            )
         if module == "pam_faildelay" and kind == "auth":
             delay = "" if "delay" in words else f" delay={number_of(self.defs, 'FAIL_DELAY', 0) * 1000000}"
             return f"pam_probe.so answer=ignore{delay}", "pam_probe with the same delay"
@@ -137,10 +159,17 @@ class Replacing:
         found = settings(self.below.text(name))
         if name == "/etc/security/faillock.conf" and found.get("deny") == "0":
             found["deny"] = "999999999"
-        taken = " ".join(key if value is None else f"{key}={value}" for key, value in found.items() if key in known and not re.search(r"[\s\[\]#\\]", value or ""))
+        taken = " ".join(
+            key if value is None else f"{key}={value}"
+            for key, value in found.items()
+            if key in known and not re.search(r"[\s\[\]#\\]", value or "")
+        )
         rest = sorted(set(found) - known - QUIET)
         if rest:
-            self.notes.add(f"{name.lstrip('/')}: what these say isn't tried, since pamsess's module has no such argument: {', '.join(rest)}")
+            self.notes.add(
+                f"{name.lstrip('/')}: what these say isn't tried, since pamsess's module has no such "
+                f"argument: {', '.join(rest)}"
+            )
         return (f"{path} {taken}", f"itself, with {taken} of {name.lstrip('/')}") if taken else (None, "")
 
 
@@ -149,8 +178,8 @@ STANDS_FOR = re.compile(r"(?:\S+/)?(pam_debug|pam_pwhistory|pam_listfile|pam_pro
 
 
 def original(path, arguments):
-    """The module that a rule had before stand-in replaced it, and how many of its arguments come before that name; None if it
-    wasn't replaced."""
+    """The module that a rule had before stand-in replaced it, and how many of its arguments come before that name; None
+    if it wasn't replaced."""
     if STANDS_FOR.fullmatch(path):
         for at, word in enumerate(arguments):
             if re.fullmatch(r"(\S*/)?pam_[A-Za-z0-9_-]+(\.so)?", word) and "=" not in word:

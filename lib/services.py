@@ -1,9 +1,19 @@
-"""Service files as texts: their rules, with the places of the tokens, and what a control does with each code."""
+"""Service files as texts: their rules, with the places of the tokens, and what a control does with each code.
+
+Stacks come from the program `ways` (ways.py). This is for what no program prints: where in a text the tokens are that
+stand-in and try --as replace, and which types and includes a file itself has. tests/scripts/lib compares the rules of
+texts at random with those that the program reads.
+"""
 import re
 
 import common
 
-KEYWORDS = {"required": ("ok", "ignore", "bad"), "requisite": ("ok", "ignore", "die"), "sufficient": ("done", "ignore", "ignore"), "optional": ("ok", "ignore", "ignore")}
+KEYWORDS = {
+    "required": ("ok", "ignore", "bad"),
+    "requisite": ("ok", "ignore", "die"),
+    "sufficient": ("done", "ignore", "ignore"),
+    "optional": ("ok", "ignore", "ignore"),
+}
 JOIN = re.compile(r"\\\r?\n")
 SPACE = " \t\r"
 # Names that an editor or a package manager left.
@@ -20,7 +30,8 @@ class Token(str):
 
 
 def rules(text):
-    """The rules of a text: the number of the first line of each, and its tokens. A token in brackets keeps its brackets."""
+    """The rules of a text: the number of the first line of each, and its tokens. A token in brackets keeps its
+    brackets."""
     line, start, tokens, at = 1, 1, [], 0
     while at < len(text):
         join = JOIN.match(text, at)
@@ -60,8 +71,13 @@ def actions_of(control):
     control = control.lower()
     if control in KEYWORDS:
         yes, ignored, no = KEYWORDS[control]
-        return {code: yes if code in ("success", "new_authtok_reqd") else ignored if code == "ignore" else no for code in common.CODES}
-    entries = dict(entry.partition("=")[::2] for entry in re.sub(r"[ \t\r]*=[ \t\r]*", "=", control.strip("[]")).split())
+        return {
+            code: yes if code in ("success", "new_authtok_reqd") else ignored if code == "ignore" else no
+            for code in common.CODES
+        }
+    entries = dict(
+        entry.partition("=")[::2] for entry in re.sub(r"[ \t\r]*=[ \t\r]*", "=", control.strip("[]")).split()
+    )
     return {code: entries.get(code, entries.get("default", "bad")) for code in common.CODES}
 
 
@@ -76,7 +92,8 @@ def is_service(name):
 
 
 def as_written(control, actions):
-    """A control as it is shown: a keyword if it is short for the same, or else the codes that differ from the most usual action."""
+    """A control as it is shown: a keyword if it is short for the same, or else the codes that differ from the most
+    usual action."""
     if not control.startswith("["):
         return control
     for keyword in KEYWORDS:
@@ -86,4 +103,6 @@ def as_written(control, actions):
     for code in common.CODES:
         counts[actions[code]] = counts.get(actions[code], 0) + 1
     usual = max(counts, key=counts.get)
-    return "[" + "".join(f"{code}={actions[code]} " for code in common.CODES if actions[code] != usual) + f"default={usual}]"
+    return "[" + "".join(
+        f"{code}={actions[code]} " for code in common.CODES if actions[code] != usual
+    ) + f"default={usual}]"

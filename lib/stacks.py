@@ -1,8 +1,4 @@
-"""The stacks of a service, as `pamsess check` prints them, with file and line of each rule."""
-import os
-import re
-import subprocess
-
+"""The rules of stacks, as the program `ways` prints them (ways.py), and which files of a root are services."""
 import common
 import services
 from services import plain
@@ -24,28 +20,17 @@ class Line:
         """Whether a success of this line ends its list, or jumps."""
         return services.is_decisive(self.actions)
 
+    def told(self, code):
+        """The control if it is a keyword, or else what it does with a code."""
+        written = self.told_control()
+        return f"{code}={self.actions[code]}" if written.startswith("[") else written
+
+    def told_control(self):
+        """The control as it is shown."""
+        return services.as_written(self.control, self.actions)
+
     def where(self):
         return f"{self.file}:{self.line}" if self.file else "(unknown)"
-
-
-
-def printed(text):
-    """The four stacks that `check` printed: lists of lines, and of lists for substacks."""
-    files, name, first = {}, None, None
-    for line in text.split("\n"):
-        if re.fullmatch(r"file [^ ]+", line):
-            name = line[5:]
-            first = first or name
-            files[name] = []
-        elif name:
-            files[name].extend(tokens for _, tokens in services.rules(line + "\n"))
-
-    def nodes(name, kind):
-        for tokens in files[name]:
-            if tokens[0].lstrip("-") == kind:
-                yield list(nodes(tokens[2], kind)) if tokens[1] == "substack" else Line(str(tokens[0]), str(tokens[1]), plain(tokens[2]), [plain(it) for it in tokens[3:]])
-
-    return {kind: list(nodes(first, kind)) for kind in common.TYPES}
 
 
 def lines_of(nodes):
@@ -54,15 +39,7 @@ def lines_of(nodes):
 
 
 class Refusal(Exception):
-    """What `check` printed of a service instead of its stacks, and its exit status."""
-
-
-def stacks_of(program, root, service):
-    """The four stacks of a service."""
-    ran = subprocess.run([program, "check", root, service], capture_output=True, stdin=subprocess.DEVNULL, check=False)
-    if ran.returncode:
-        raise Refusal(os.fsdecode(ran.stdout), ran.returncode)
-    return printed(os.fsdecode(ran.stdout))
+    """What a program printed of a service instead of its stacks, and its exit status."""
 
 
 class Tree:
@@ -80,7 +57,8 @@ class Tree:
         return path, self.texts[path]
 
     def services(self):
-        """The services that have a file (or lines of pam.conf), and names that are no service's or that an editor or dpkg left."""
+        """The services that have a file (or lines of pam.conf), and names that are no service's or that an editor or
+        dpkg left."""
         if not self.has_directory:
             return sorted({plain(tokens[0]).lower() for _, tokens in self.rules("/etc/pam.conf")[1]}), []
         names = [name for name in self.below.names("etc/pam.d") if not self.below.is_directory(f"etc/pam.d/{name}")]
@@ -94,36 +72,23 @@ class Tree:
         path, found = self.rules("/etc/pam.conf")
         return path, [(line, tokens[1:]) for line, tokens in found if plain(tokens[0]).lower() == service]
 
-    def places(self, kind, found, depth=0):
-        """File, line and module of each line of a type, in the order of the stack; and None for a substack, which is a node too."""
-        path, listed = found
-        for line, tokens in listed:
-            first = plain(tokens[0]).lower()
-            if first == "@include" and len(tokens) > 1:
-                self.included.add(plain(tokens[1]))
-                yield from self.places(kind, self.rules(plain(tokens[1])), depth + 1) if depth < 20 else ()
-            elif first.lstrip("-") == kind and len(tokens) > 2:
-                if plain(tokens[1]).lower() in ("include", "substack"):
-                    self.included.add(plain(tokens[2]))
-                    if plain(tokens[1]).lower() == "substack":
-                        yield None
-                    yield from self.places(kind, self.rules(plain(tokens[2])), depth + 1) if depth < 20 else ()
-                else:
-                    yield path, line, services.module_of(plain(tokens[2]))
+    def has_rule(self, kind, found, depth=0):
+        """Whether one of these rules is of a type, or an include or a substack that leads to one. What is included is
+        noted."""
+        has_one = False
+        for _, tokens in found[1]:
+            first, second, third = [*map(plain, tokens[:3]), "", ""][:3]
+            is_of_type = first.lower().lstrip("-") == kind and len(tokens) > 2
+            leads = third if is_of_type and second.lower() in ("include", "substack") else None
+            if first.lower() == "@include" and len(tokens) > 1:
+                leads = second
+            has_one = has_one or is_of_type and second.lower() != "include"
+            if leads is not None:
+                self.included.add(leads)
+                there = depth < 20 and self.has_rule(kind, self.rules(leads), depth + 1)
+                has_one = has_one or there
+        return has_one
 
-    def locate(self, service, kind, nodes):
-        """Sets file and line of each line of a stack. Whether the stack is that of `other`."""
-        found = list(self.places(kind, self.own(service)))
-        is_others = not found and service != "other"
-        found = [it for it in (list(self.places(kind, self.own("other"))) if is_others else found) if it]
-        lines = list(lines_of(nodes))
-        if [it[2] for it in found] == [it.module for it in lines]:
-            for line, (path, number, _) in zip(lines, found):
-                line.file, line.line = path.lstrip("/"), number
-        return is_others
-
-
-def located(program, root, service):
-    """The stacks of a service, with file and line of each rule, and the types whose stack is that of `other`."""
-    found, tree = stacks_of(program, root, service), Tree(common.Below(root))
-    return found, [kind for kind, nodes in found.items() if tree.locate(service.lower(), kind, nodes)]
+    def is_others(self, service, kind):
+        """Whether a service's stack is that of `other`."""
+        return service != "other" and not self.has_rule(kind, self.own(service))

@@ -1,4 +1,5 @@
-"""What ./build uses of the toolchain's own `rt` that none of its commands does: one crate's proof over what the crates below it state, kept.
+"""What ./build uses of the toolchain's own `rt` that none of its commands does: one crate's proof over what the crates
+below it state, kept.
 
 These are private parts of `rt`, so another version of it is refused.
 """
@@ -17,7 +18,10 @@ def loaded():
     """`rt` as a module, set up as in a run of `rt ci`."""
     version = subprocess.run(["rt", "version"], capture_output=True, text=True, check=False).stdout.strip()
     if not version.endswith(LOGIC):
-        sys.exit(f"build: this toolchain is `{version}`, and lib/toolchain.py was written for `{LOGIC}`: use that one, or `rt ci`")
+        sys.exit(
+            f"build: this toolchain is `{version}`, and lib/toolchain.py was written for `{LOGIC}`: use that one, or "
+            "`rt ci`"
+        )
     sys.dont_write_bytecode = True
     loader = importlib.machinery.SourceFileLoader("rt", os.path.realpath(shutil.which("rt")))
     rt = importlib.util.module_from_spec(importlib.util.spec_from_loader("rt", loader))
@@ -38,12 +42,15 @@ class Crate:
         self.rt = loaded()
         by = self.rt.Crate.compile_by
         # (a program is built by LLVM alone: that a second compiler agrees is for CI to see)
-        self.rt.Crate.compile_by = lambda crate, backend, words, to: by(crate, backend, words, to) if backend == "llvm" else 0
+        self.rt.Crate.compile_by = (
+            lambda crate, backend, words, to: by(crate, backend, words, to) if backend == "llvm" else 0
+        )
         self.crate = next(it for it in self.rt.rtlib.crates_below(top) if it.name == name)
         os.makedirs(f"{self.crate.folder}/out", exist_ok=True)
 
     def prove(self, jobs):
-        """Proves it, and builds it if it is a program; or takes what an `rt ci` on this machine has made of the same files."""
+        """Proves it, and builds it if it is a program; or takes what an `rt ci` on this machine has made of the same
+        files."""
         if self.is_taken_over():
             print(f"{self.crate.name} is kept from an rt ci of the same files", flush=True)
             return 0
@@ -58,7 +65,9 @@ class Crate:
         return kept.give(self.crate, False, kept.key(self.crate))
 
     def test(self, jobs):
-        is_well = not self.crate.has_tests() or not self.crate.ci(["--jobs", jobs], True) and self.rt.run(self.crate, True)
+        is_well = (
+            not self.crate.has_tests() or not self.crate.ci(["--jobs", jobs], True) and self.rt.run(self.crate, True)
+        )
         return 0 if is_well else 1
 
     def try_mutants(self, jobs):
@@ -69,3 +78,20 @@ class Crate:
             print(f"rt: {text}", flush=True)
         print(f"{sum(well for well, _ in tried)} of {len(good) + len(bad)} refused", flush=True)
         return 0 if not bad and all(well for well, _ in tried) else 1
+
+
+def hand_out(top, names, to):
+    """Gives what is built of these crates to the same crates below another directory, as links, marked as built of
+    these sources: there `rt check` and `rt plant` find it, and prove none of it again."""
+    for crate in loaded().rtlib.crates_below(top):
+        given = f"{to}/crates/{crate.name}/out/rlib"
+        if crate.name not in names or not os.path.isdir(crate.rlib):
+            continue
+        shutil.rmtree(given, ignore_errors=True)
+        shutil.copytree(
+            f"{crate.folder}/out/rlib", given, copy_function=os.link, ignore=shutil.ignore_patterns("stamp")
+        )
+        with open(f"{given}/stamp", "w", encoding="utf-8") as file:
+            file.write(crate.stamp())
+        # (./build asks this whether it has to be given again)
+        shutil.copy(f"{crate.folder}/out/built", given)

@@ -15,14 +15,17 @@ class TooLarge(Exception):
 
 
 def copy_of(root, made, choices):
-    """Copies a tree; the copy's path, and the modules that were chosen and are there. A choice is for a module, or for a module and a type."""
+    """Copies a tree; the copy's path, and the modules that were chosen and are there. A choice is for a module, or for
+    a module and a type."""
     files = size = 0
     for at, _, names in os.walk(root):
         files += len(names)
         size += sum(os.lstat(f"{at}/{name}").st_size for name in names)
         if files > MOST_FILES or size > MOST_BYTES:
             raise TooLarge
-    shutil.copytree(root, made, symlinks=True, ignore=lambda at, names: [name for name in names if not is_copied(f"{at}/{name}")])
+    shutil.copytree(
+        root, made, symlinks=True, ignore=lambda at, names: [name for name in names if not is_copied(f"{at}/{name}")]
+    )
     below, used = common.Below(made), set()
     paths = [f"/etc/pam.d/{name}" for name in below.names("/etc/pam.d")]
     for path in [*paths, "/etc/pam.conf"]:
