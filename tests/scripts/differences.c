@@ -4,13 +4,39 @@
  * defined here. Only tests/scripts/differences runs it, in a root of its own.
  */
 #define _GNU_SOURCE
-#include <security/pam_appl.h>
 #include <stdio.h>
 #include <stdlib.h>
 #include <string.h>
 #include <sys/time.h>
 #include <time.h>
 #include <unistd.h>
+
+/* what the driver needs of <security/pam_appl.h>, so that the library is enough and its headers needn't be there */
+typedef struct pam_handle pam_handle_t;
+struct pam_message {
+    int msg_style;
+    const char *msg;
+};
+struct pam_response {
+    char *resp;
+    int resp_retcode;
+};
+struct pam_conv {
+    int (*conv)(int count, const struct pam_message **messages, struct pam_response **to, void *data);
+    void *appdata_ptr;
+};
+enum { PAM_PROMPT_ECHO_OFF = 1, PAM_PROMPT_ECHO_ON = 2 };
+enum { PAM_SUCCESS = 0, PAM_CONV_ERR = 19, PAM_CONV_AGAIN = 30 };
+enum { PAM_USER = 2, PAM_TTY = 3, PAM_RHOST = 4, PAM_RUSER = 8, PAM_USER_PROMPT = 9, PAM_FAIL_DELAY = 10 };
+int pam_start(const char *service, const char *user, const struct pam_conv *conversation, pam_handle_t **to);
+int pam_end(pam_handle_t *handle, int status);
+int pam_set_item(pam_handle_t *handle, int item, const void *value);
+int pam_authenticate(pam_handle_t *handle, int flags);
+int pam_setcred(pam_handle_t *handle, int flags);
+int pam_acct_mgmt(pam_handle_t *handle, int flags);
+int pam_open_session(pam_handle_t *handle, int flags);
+int pam_close_session(pam_handle_t *handle, int flags);
+int pam_chauthtok(pam_handle_t *handle, int flags);
 
 static time_t now;
 static uid_t caller = 65534;

@@ -8,20 +8,24 @@ import subprocess
 import sys
 import tempfile
 
-TOP = os.path.dirname(os.path.dirname(os.path.dirname(os.path.abspath(__file__))))
-PROGRAM = os.path.abspath(os.environ.get("PAMSESS") or f"{TOP}/crates/pam_session_cli/out/pam_session_cli")
+sys.path.insert(0, os.path.dirname(os.path.dirname(os.path.realpath(__file__))))
+import harness
+from harness import PROGRAM, TOP
 
 # What makes a directory a stored row or example, and all that one has beside its tree.
 RUNS = ("cases", "checked", "script", "words")
-PARTS = ("README.md", "after", "cases", "checked", "client", "fails", "input", "input.hex", "output", "output.hex", "pads", "runs", "script", "status", "words")
+PARTS = (
+    "README.md", "after", "cases", "checked", "client", "fails", "input", "input.hex", "output", "output.hex", "pads",
+    "runs", "script", "status", "words",
+)
 
 # How long a run may take, and how long one of a case that is run hundreds of times, in seconds.
 SECONDS = 60
 SLOW = 0.2
 
-# Empty files that are locked while others are replaced; they stay. The third is removed once the lock is taken, and stays only if
-# that fails, until the lock is taken again.
-LOCKS = (".pwd.lock", ".pamsess-lock", ".pwd.lock-wal")
+# Empty files that are locked while others are replaced; they stay. The third is removed once the lock is taken, and
+# stays only if that fails, until the lock is taken again.
+LOCKS = re.compile(r"\.pwd\.lock(-wal)?|\..+:pamsess-lock")
 
 # Files that are larger are compared by their size alone.
 LARGE = 16 << 20
@@ -69,7 +73,11 @@ class Case:
         if text in (old, new):
             return True
         # Of two lines that set a token each writes the file whole, with a hash of its own.
-        return path == "etc/shadow" and None not in (text, new) and HASHES.sub(b"HASH", text) == HASHES.sub(b"HASH", bytes_of(new))
+        return (
+            path == "etc/shadow"
+            and None not in (text, new)
+            and HASHES.sub(b"HASH", text) == HASHES.sub(b"HASH", bytes_of(new))
+        )
 
 
 # a hash of SHA-crypt as a field
@@ -84,7 +92,12 @@ COMMON_AUTH = """auth [success=1 default=ignore] pam_unix.so nullok
 auth requisite pam_deny.so
 auth required pam_permit.so
 """
-DEBIAN = {"etc/pam.d/t": "@include common-auth\n", "etc/pam.d/common-auth": COMMON_AUTH, "etc/passwd": PASSWD, "etc/shadow": shadow(HASH)}
+DEBIAN = {
+    "etc/pam.d/t": "@include common-auth\n",
+    "etc/pam.d/common-auth": COMMON_AUTH,
+    "etc/passwd": PASSWD,
+    "etc/shadow": shadow(HASH),
+}
 LOCKING = """auth required pam_faillock.so preauth deny=3
 auth sufficient pam_unix.so nodelay
 auth [default=die] pam_faillock.so authfail deny=3
@@ -110,44 +123,59 @@ def own_cases():
         "data that replace one another",
         {"etc/pam.d/t": "auth required pam_probe.so set=a:x set=a:yy set=a:zzz\n"},
         "start 1 t joe\nauthenticate 1\nend 1 0x40000007\n",
-        "1 start SUCCESS 0\n1 line 1 pam_probe SUCCESS 0\n1 clean 0 20000000 256 pam_probe a\n"
-        "1 clean 1 20000000 512 pam_probe a\n1 authenticate SUCCESS 0\n1 clean 2 40000007 775 pam_probe a\n1 end SUCCESS 0\n",
+        (
+            "1 start SUCCESS 0\n1 line 1 pam_probe SUCCESS 0\n1 clean 0 20000000 256 pam_probe a\n"
+            "1 clean 1 20000000 512 pam_probe a\n1 authenticate SUCCESS 0\n1 clean 2 40000007 775 pam_probe a\n"
+            "1 end SUCCESS 0\n"
+        ),
     )
     yield Case(
         "pam_unix, the password",
         DEBIAN,
         "start 1 t joe\nreply 1 Hello world!\nauthenticate 1\nend 1 0\n",
-        "1 start SUCCESS 0\n1 say 1 Password: \n1 line 1 pam_unix SUCCESS 0\n1 line 3 pam_permit SUCCESS 0\n1 authenticate SUCCESS 0\n"
-        + CLEAN.format(1, 0, "00000000")
-        + "1 end SUCCESS 0\n",
+        (
+            "1 start SUCCESS 0\n1 say 1 Password: \n1 line 1 pam_unix SUCCESS 0\n1 line 3 pam_permit SUCCESS 0\n"
+            "1 authenticate SUCCESS 0\n"
+            + CLEAN.format(1, 0, "00000000")
+            + "1 end SUCCESS 0\n"
+        ),
     )
     yield Case(
         "pam_unix, another password",
         DEBIAN,
         "start 1 t joe\nreply 1 hello\nauthenticate 1\nend 1 0\n",
-        "1 start SUCCESS 0\n1 say 1 Password: \n1 line 1 pam_unix AUTH_ERR 7\n1 line 2 pam_deny AUTH_ERR 7\n"
-        "1 wait AUTH_ERR 7 2000000 2000000\n1 authenticate AUTH_ERR 7\n" + CLEAN.format(1, 0, "00000000") + "1 end SUCCESS 0\n",
+        (
+            "1 start SUCCESS 0\n1 say 1 Password: \n1 line 1 pam_unix AUTH_ERR 7\n1 line 2 pam_deny AUTH_ERR 7\n"
+            "1 wait AUTH_ERR 7 2000000 2000000\n1 authenticate AUTH_ERR 7\n" + CLEAN.format(
+                1, 0, "00000000"
+            ) + "1 end SUCCESS 0\n"
+        ),
     )
     replaced = [CLEAN.format(number, datum, "20000000") for number, datum in ((1, 0), (2, 1), (1, 2), (1, 4))]
     yield Case(
         "pam_faillock, three failures and after",
         {"etc/pam.d/t": LOCKING, "etc/passwd": PASSWD, "etc/shadow": shadow(HASH)},
-        "start 1 t joe\nstart 2 t joe\nreply 1 a\nat 100\nauthenticate 1\nreply 2 b\nat 110\nauthenticate 2\nreply 1 c\nat 120\nauthenticate 1\n"
-        "at 121\nreply 2 Hello world!\nauthenticate 2\nat 719\nreply 1 Hello world!\nauthenticate 1\n"
-        "at 720\nreply 1 Hello world!\nauthenticate 1\nend 1 0\nend 2 0\n",
-        "1 start SUCCESS 0\n2 start SUCCESS 0\n"
-        + FAILED.format(1, "")
-        + FAILED.format(2, "")
-        + FAILED.format(1, replaced[0])
-        + LOCKED.format(2, replaced[1])
-        + LOCKED.format(1, replaced[2])
-        + "1 say 1 Password: \n1 line 1 pam_faillock SUCCESS 0\n1 line 2 pam_unix SUCCESS 0\n"
-        + replaced[3]
-        + "1 authenticate SUCCESS 0\n"
-        + CLEAN.format(1, 5, "00000000")
-        + "1 end SUCCESS 0\n"
-        + CLEAN.format(2, 3, "00000000")
-        + "2 end SUCCESS 0\n",
+        (
+            "start 1 t joe\nstart 2 t joe\nreply 1 a\nat 100\nauthenticate 1\nreply 2 b\nat 110\nauthenticate 2\n"
+            "reply 1 c\nat 120\nauthenticate 1\n"
+            "at 121\nreply 2 Hello world!\nauthenticate 2\nat 719\nreply 1 Hello world!\nauthenticate 1\n"
+            "at 720\nreply 1 Hello world!\nauthenticate 1\nend 1 0\nend 2 0\n"
+        ),
+        (
+            "1 start SUCCESS 0\n2 start SUCCESS 0\n"
+            + FAILED.format(1, "")
+            + FAILED.format(2, "")
+            + FAILED.format(1, replaced[0])
+            + LOCKED.format(2, replaced[1])
+            + LOCKED.format(1, replaced[2])
+            + "1 say 1 Password: \n1 line 1 pam_faillock SUCCESS 0\n1 line 2 pam_unix SUCCESS 0\n"
+            + replaced[3]
+            + "1 authenticate SUCCESS 0\n"
+            + CLEAN.format(1, 5, "00000000")
+            + "1 end SUCCESS 0\n"
+            + CLEAN.format(2, 3, "00000000")
+            + "2 end SUCCESS 0\n"
+        ),
         after={TALLY: "faillock 2\n100 S t\n110 S t\n120 S t\n"},
     )
     yield Case(
@@ -158,10 +186,13 @@ def own_cases():
             "etc/shadow": shadow(HASH),
         },
         "start 1 t joe\ncaller 0\nreply 1 n\nreply 1 n\nreply 1 n\nchauthtok 1\nauthenticate 1\nend 1 0\n",
-        "1 start SUCCESS 0\n1 say 1 New password: \n1 say 1 Retype new password: \n1 line 1 pam_unix SUCCESS 0\n1 line 1 pam_unix SUCCESS 0\n"
-        "1 chauthtok SUCCESS 0\n1 say 1 Password: \n1 line 1 pam_unix SUCCESS 0\n1 authenticate SUCCESS 0\n"
-        + CLEAN.format(1, 0, "00000000")
-        + "1 end SUCCESS 0\n",
+        (
+            "1 start SUCCESS 0\n1 say 1 New password: \n1 say 1 Retype new password: \n1 line 1 pam_unix SUCCESS 0\n"
+            "1 line 1 pam_unix SUCCESS 0\n"
+            "1 chauthtok SUCCESS 0\n1 say 1 Password: \n1 line 1 pam_unix SUCCESS 0\n1 authenticate SUCCESS 0\n"
+            + CLEAN.format(1, 0, "00000000")
+            + "1 end SUCCESS 0\n"
+        ),
         after={"etc/shadow": shadow(HASH_OF_N, 0)},
     )
 
@@ -204,7 +235,10 @@ def stored_case(name, folders):
     """The case in the files of these directories, which the last one overrides, and their merged trees."""
 
     def part(*names, missing=b""):
-        return next((read_part(f"{it}/{one}") for it in folders[::-1] for one in names if os.path.isfile(f"{it}/{one}")), missing)
+        return next(
+            (read_part(f"{it}/{one}") for it in folders[::-1] for one in names if os.path.isfile(f"{it}/{one}")),
+            missing,
+        )
 
     files = {}
     for folder in folders:
@@ -263,14 +297,14 @@ class Ran:
 
 
 def tree_of(root):
-    """What a directory contains: kind, mode, owner and group of each, and a file's bytes or a link's text. Lock files as they should
-    be, empty and their owner's alone, are left out."""
+    """What a directory contains: kind, mode, owner and group of each, and a file's bytes or a link's text. Lock files
+    as they should be, empty and their owner's alone, are left out."""
     found = {}
     for at, folders, names in os.walk(root):
         for name in folders + names:
             path = f"{at}/{name}"
             told = os.lstat(path)
-            if name in LOCKS and told.st_mode == stat.S_IFREG | 0o600 and told.st_size == 0:
+            if LOCKS.fullmatch(name) and told.st_mode == stat.S_IFREG | 0o600 and told.st_size == 0:
                 continue
             text = None
             if stat.S_ISREG(told.st_mode):
@@ -317,7 +351,10 @@ def difference(case, ran):
         return f"status {ran.status}, output {ran.output!r} {ran.said!r}"
     given = {path: text for path, (mode, _, _, text) in ran.tree.items() if stat.S_ISREG(mode)}
     if given != case.after:
-        return f"the files {sorted(path for path in given.keys() | case.after.keys() if given.get(path) != case.after.get(path))}"
+        return (
+            "the files "
+            f"{sorted(path for path in given.keys() | case.after.keys() if given.get(path) != case.after.get(path))}"
+        )
     return None
 
 
@@ -345,6 +382,14 @@ def build_shim(name, room):
     return made
 
 
-def need_program():
+def begin(doc):
+    """Prints the usage if that is asked for, and ends if the program isn't built."""
+    harness.help_if_asked(doc)
     if not os.access(PROGRAM, os.X_OK):
         sys.exit(f"{sys.argv[0]}: the program isn't built: run ./build, or name one by PAMSESS")
+
+
+def end(runs, wrong):
+    """Prints the last line. The exit status."""
+    print(f"{runs - wrong} passed, {wrong} failed")
+    return 1 if wrong else 0
