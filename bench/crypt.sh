@@ -4,6 +4,9 @@
 # apt-get install gcc libcrypt-dev. Printed are milliseconds of the processor for one hash, the least of nine runs each. The
 # program's are what 20 logins take beyond 20 that stop before the hash, by 20: with the reading of the two account files.
 set -euo pipefail
+case ${1-} in
+    -h | --help) sed -n '2,/^[^#]/s/^# \{0,1\}//p' "$0" && exit ;;
+esac
 cd "$(dirname "$0")/.."
 program=${PAMSESS:-$PWD/crates/pam_session_cli/out/pam_session_cli}
 [ -x "$program" ] || { echo "crypt.sh: no program is built: ./build builds it" >&2; exit 1; }
@@ -49,13 +52,14 @@ echo "joe:x:1000:1000:Joe:/home/joe:/bin/sh" >"$room/root/etc/passwd"
 
 echo "| Setting | Bytes of the key | Program | libcrypt | Ratio |"
 echo "|---|--:|--:|--:|--:|"
+# shellcheck disable=SC2016 # (a dollar sign is a part of the setting)
 for setting in '$5$saltstring' '$6$saltstring'; do
     for length in 1 12 40 128 504; do
         key=$(printf '%*s' "$length" '' | tr ' ' x)
         hash=$("$room/driver" 1 "$setting" "$key")
         logins "$key" >"$room/script"
         : >"$room/times"
-        for run in 1 2 3 4 5 6 7 8 9; do
+        for _ in 1 2 3 4 5 6 7 8 9; do
             echo "joe:$hash:19000:0:99999:7:::" >"$room/root/etc/shadow"
             ours=$(seconds "$room/script" "$program" run "$room/root")
             echo "joe:!$hash:19000:0:99999:7:::" >"$room/root/etc/shadow"

@@ -1,10 +1,11 @@
 #!/usr/bin/env python3
-"""Runs CI, `rt ci`, and prints what it cost: for each crate the processor seconds (user and system) of its proof, its tests and its
-mutants, and the minutes of all by the clock. It looks at the processes of that run twice a second, so what ends sooner is left
-out.
+"""Runs CI, `rt ci`, and prints what it cost: for each crate the processor seconds (user and system) of its proof, its
+tests and its mutants, and the minutes of all by the clock. It looks at the processes of that run twice a second, so
+what ends sooner is left out.
 
   bench/gate.py [--anew] [--beyond] [--save FILE]
-      --anew     nothing is taken from earlier runs on this machine, also if the toolchain's `rt ci` keeps what it has proved; only what
+      --anew     nothing is taken from earlier runs on this machine, also if the toolchain's `rt ci` keeps what it has
+                 proved; only what
                  this run proves and tries is counted
       --beyond   the mutants of tests/mutants are tried beside those of CI, in a copy of the checkout, and counted apart
       --save     keeps the figures
@@ -26,7 +27,8 @@ TOP = os.path.dirname(os.path.dirname(os.path.abspath(__file__)))
 TICKS = os.sysconf("SC_CLK_TCK")
 SHARES = ("proof", "tests", "edits")
 BEYOND = "beyond"
-# The processor minutes that all crates may take, and the minutes that the longest chain of crates may take by the clock on two processors.
+# The processor minutes that all crates may take, and the minutes that the longest chain of crates may take by the clock
+# on two processors.
 BUDGET, CHAIN = 230, 100
 
 
@@ -79,12 +81,22 @@ def share_of(process):
         return crate, "tests" if "--test" in words else "proof"
     folder = f"{TOP}/tests/mutants/{crate}"
     further = [f"{folder}/{name}" for name in os.listdir(folder)] if os.path.isdir(folder) else []
-    return crate, BEYOND if any(is_edited(room, f"{TOP}/crates/{crate}", edit) for edit in further if edit.endswith(".edit")) else "edits"
+    return (
+        crate,
+        BEYOND if any(
+            is_edited(room, f"{TOP}/crates/{crate}", edit) for edit in further if edit.endswith(".edit")
+        ) else "edits",
+    )
 
 
 def lay_beside(room):
     """A copy of the checkout, in which the mutants of tests/mutants are put beside those of CI."""
-    shutil.copytree(TOP, room, ignore=lambda at, names: {"out"} & set(names) | ({".git"} if at == TOP else set()), dirs_exist_ok=True)
+    shutil.copytree(
+        TOP,
+        room,
+        ignore=lambda at, names: {"out"} & set(names) | ({".git"} if at == TOP else set()),
+        dirs_exist_ok=True,
+    )
     subprocess.run(["git", "init", "-q", room], check=True)
     for at, _, names in os.walk(f"{TOP}/tests/mutants"):
         for name in names:
@@ -123,8 +135,8 @@ class Watched:
 
 
 def measure(run, save):
-    """The seconds of each crate's shares in a run of CI, when it has ended. What was measured is saved twice a minute, for a run
-    that is cut off."""
+    """The seconds of each crate's shares in a run of CI, when it has ended. What was measured is saved twice a minute,
+    for a run that is cut off."""
     shares, seconds, began = {}, {}, time.monotonic()
     kept = began
     while run.poll() is None:
@@ -173,12 +185,19 @@ def table(costs):
     yield "| Crate | Proof | Tests | Mutants | Sum |" + (" Beyond |" if BEYOND in kinds else "")
     yield "|---|--:|--:|--:|--:|" + ("--:|" if BEYOND in kinds else "")
     for name, shares in [*((name, costs[name]) for name in listed() if name in costs), ("all", total)]:
-        cells = [*(shares[kind] for kind in SHARES), sum(shares[kind] for kind in SHARES), *(shares.get(kind, 0) for kind in kinds[len(SHARES) :])]
+        cells = [
+            *(shares[kind] for kind in SHARES),
+            sum(shares[kind] for kind in SHARES),
+            *(shares.get(kind, 0) for kind in kinds[len(SHARES) :]),
+        ]
         yield f"| {name} | " + " | ".join(f"{it:.0f}" for it in cells) + " |"
     parts = ", ".join(f"{total[kind] / 60:.0f} of {name}" for kind, name in zip(SHARES, ("proofs", "tests", "mutants")))
     yield f"\nIn processor minutes: {sum(total[kind] for kind in SHARES) / 60:.0f} of {BUDGET} ({parts})."
     seconds, names = longest_chain(costs)
-    yield f"Longest chain of proofs: {seconds / 60:.0f} processor minutes ({', '.join(names)}). It may take {CHAIN} by the clock on two processors."
+    yield (
+        f"Longest chain of proofs: {seconds / 60:.0f} processor minutes ({', '.join(names)}). It may take {CHAIN} by "
+        "the clock on two processors."
+    )
     if BEYOND in kinds:
         yield f"Mutants beyond the gate: {total[BEYOND] / 60:.0f} more."
 
@@ -201,6 +220,9 @@ def load(files):
 
 
 def main(words):
+    if words[:1] in (["-h"], ["--help"]):
+        print(__doc__.strip())
+        return 0
     if words[:1] == ["--load"]:
         print("\n".join(table(load(words[1:]))))
         return 0

@@ -3,6 +3,9 @@
 # service in memory, counted by callgrind (valgrind). The program is that of the crate library_bench, or the one that the variable
 # LIBRARY_BENCH names. What a run without that repetition takes is taken off.
 set -eu
+case ${1-} in
+    -h | --help) sed -n '2,/^[^#]/s/^# \{0,1\}//p' "$0" && exit ;;
+esac
 cd "$(dirname "$0")/.."
 program=${LIBRARY_BENCH-$PWD/crates/library_bench/out/library_bench}
 command -v valgrind >/dev/null || { echo "library.sh: there is no valgrind" >&2; exit 1; }

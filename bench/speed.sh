@@ -4,6 +4,9 @@
 # loads of 1,000 and of 4,000 lines; an authentication for each line that it walks; and a user that a module looks up.
 # `bench/speed.sh [EARLIER]`, from any directory; ./build first.
 set -euo pipefail
+case ${1-} in
+    -h | --help) sed -n '2,/^[^#]/s/^# \{0,1\}//p' "$0" && exit ;;
+esac
 cd "$(dirname "$0")/.."
 program=$PWD/crates/pam_session_cli/out/pam_session_cli
 earlier=${1-}
@@ -16,9 +19,9 @@ TIMEFORMAT='%U %S'
 
 # The least seconds of five runs of a command whose input is a file.
 seconds() {
-    local input=$1 run
+    local input=$1
     shift
-    for run in 1 2 3 4 5; do
+    for _ in 1 2 3 4 5; do
         { time "$@" <"$input" >/dev/null 2>&1; } 2>&1
     done | awk '{ s = $1 + $2; if (NR == 1 || s < least) least = s } END { printf "%.3f", least }'
 }
