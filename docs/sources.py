@@ -1,7 +1,5 @@
-"""What docs/definitions, docs/api and docs/check read of the sources. It needs the layout of `rt fmt`: items begin in column 0,
-methods in column 4."""
+"""What the scripts of docs/ read of the repository: its files, and crates.txt."""
 import os
-import re
 
 TOP = os.path.dirname(os.path.dirname(os.path.abspath(__file__)))
 NAME = r"[A-Za-z_][A-Za-z0-9_]*"
