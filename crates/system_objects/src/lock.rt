@@ -159,7 +159,7 @@ fn open_again(rt: &HostRuntime, path: &str) -> io::Result<Option<File>> {
     }
 }
 
-// What came of an attempt. The file stays open while it waits.
+// The result of an attempt. The file stays open while it waits.
 #[derive(Drop)]
 enum Outcome {
     Taken(Taken),
