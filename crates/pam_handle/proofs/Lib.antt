@@ -9,4 +9,5 @@ mod Lacking
 mod Laying
 mod Rows
 mod Waiting
+mod Tokens
 mod Calling

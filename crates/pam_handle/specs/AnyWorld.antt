@@ -1,6 +1,6 @@
 -- What holds for a transaction after its calls, with real objects and out of memory too (this
 -- project's own).
-use Rattle.std.specs.Prelude.{◌≡◌, ℕ, ◌≤◌, Bool, false, Option, None, Some, IfSome, IsTrue}
+use Rattle.std.specs.Prelude.{◌≡◌, ℕ, ◌≤◌, Bool, true, false, List, Option, None, Some, IfSome, IsTrue}
 use Rattle.pam_base.specs.declared.code.Code.{Code}
 use Rattle.pam_base.specs.declared.code.Code.TheVariants as codes
 use Rattle.pam_base.specs.declared.call.Func.{Func}
@@ -15,7 +15,7 @@ use Rattle.dispatch_core.specs.handler_chain.specs.Route.{KeptAnswers}
 use Rattle.pam_handle.specs.declared.wait.Wait.{Wait}
 use Rattle.dispatch_core.specs.Pending.{Pending}
 use Rattle.pam_handle.specs.Handle.{PlainHandle}
-use Rattle.pam_handle.specs.Call.{nap_after, waited_by}
+use Rattle.pam_handle.specs.Call.{clears_tokens, nap_after, waited_by}
 
 -- what a stack call keeps: the stacks, the names and the delay function; what is to report only grows, and so do the
 -- data and the cleanup log
@@ -55,6 +55,11 @@ pub record LeavesOthers (func : Func) (old new : PlainHandle) : Type 0 where
 
 abbrev pub AreUnset : ItemTexts → Type 0
 AreUnset items = (items.auth_tok ≡ None) × (items.old_auth_tok ≡ None)
+
+-- authenticate and chauthtok begin their passes with both tokens unset; if they are resumed, lines of this call may
+-- have set them
+abbrev pub BeginsUnset : Func → Option (List Code) → ItemTexts → Type 0
+BeginsUnset func paused items = clears_tokens func ≡ true → paused ≡ None → AreUnset items
 
 -- authenticate and chauthtok clear the tokens when they end
 abbrev pub ClearsTokens : Func → ItemTexts → Type 0

@@ -2,10 +2,11 @@ ghost use Rattle.std.specs.Prelude.{◌≡◌, ◌≤◌, ℕ, false, Some, IfNo
 ghost use Rattle.dispatch_core.specs.fail_delay.specs.Delay.{asked_delay};
 ghost use Rattle.dispatch_core.specs.fail_delay.specs.Wait.{wait_of};
 ghost use Rattle.pam_base.specs.declared.code.Code.{Code};
-ghost use Rattle.pam_handle.specs.AnyWorld.{WaitsFor, WaitsOnlyAtEnd};
+ghost use Rattle.pam_handle.specs.AnyWorld.{AreUnset, WaitsFor, WaitsOnlyAtEnd};
 ghost use Rattle.pam_handle.specs.Call.{WaitsBehind, drawn_by, nap_after, rested_by, waited_by};
 ghost use Rattle.pam_handle.specs.Plain.{Keeps, in_box};
 
+use crate::ended::Ended;
 use crate::gear::Gear;
 use crate::wait::Wait;
 use dispatch_core::fail_delay::{
@@ -13,16 +14,17 @@ use dispatch_core::fail_delay::{
 };
 use dispatch_core::pam_outside::{random_word, rest};
 use dispatch_core::pam_room::{World, WorldTold};
+use item_store::Items;
 use pam_base::Code;
 
-// Waits after an authentication with this code (`pam_fail_delay(3)`), by the longest request in microseconds and by the
+// Waits after an authentication that has ended (`pam_fail_delay(3)`), by the longest request in microseconds and by the
 // delay function, if it is on. A wait replaces the record of an earlier one.
 fn wait(
     gear: &Gear,
     world: &mut World,
     delay_on: bool,
     longest: u32,
-    code: Code,
+    ended: Ended,
     waited: &mut Option<Wait>,
 )
     requires { longest ≤ LONGEST_REQUEST }
@@ -31,33 +33,37 @@ fn wait(
         ⟦<DelayFn as DelayTold>⟧.delay_is gear.now.delay number →
         IsTrue (⟦<World as WorldTold>⟧.tells world.old) →
         (let asked = asked_delay longest (⟦<World as WorldTold>⟧.plain world.old).clock.word in
-        (waited.new ≡ waited_by code asked (wait_of delay_on number code asked) waited.old)
+        (waited.new ≡ waited_by ended.entry.code asked
+        (wait_of delay_on number ended.entry.code asked) waited.old)
         × (⟦<World as WorldTold>⟧.plain world.new
-        ≡ rested_by (wait_of delay_on number code asked)
+        ≡ rested_by (wait_of delay_on number ended.entry.code asked)
         (drawn_by longest (⟦<World as WorldTold>⟧.plain world.old)))) }
-    ensures sound { WaitsFor code delay_on waited.old waited.new
+    ensures sound { WaitsFor ended.entry.code delay_on waited.old waited.new
         (nap_tells (in_box world.old.nap)) (nap_holds (in_box world.old.nap))
         (nap_holds (in_box world.new.nap)) }
     ensures process { world.new.process ≡ world.old.process }
 {
     let asked = asked_of(longest, world);
+    let code = ended.code;
     if let Some(wait) = wait_by(gear, delay_on, code, asked) {
         rest_for(world, wait);
         *waited = Some(Wait { code, asked, wait });
     }
 }
 
-/// Waits after an authentication that has ended with this code; doesn't wait after one that hasn't
-/// ended.
+/// Waits after an authentication that has ended with this code, with these items, in which no token
+/// is set; doesn't wait after one that hasn't ended.
 pub(crate) fn sleep_after(
     gear: &Gear,
     world: &mut World,
     delay_on: bool,
     longest: u32,
     code: Option<Code>,
+    items: &Items,
     waited: &mut Option<Wait>,
 )
-    requires { longest ≤ LONGEST_REQUEST }
+    requires longest { longest ≤ LONGEST_REQUEST }
+    requires unset { IfSome code (λ _. AreUnset items.now) }
     ensures tells { Keeps ⟦<World as WorldTold>⟧.tells world.old world.new }
     ensures told { (number : Code → ℕ → ℕ) →
         ⟦<DelayFn as DelayTold>⟧.delay_is gear.now.delay number →
@@ -72,7 +78,14 @@ pub(crate) fn sleep_after(
     ensures process { world.new.process ≡ world.old.process }
 {
     if let Some(code) = code {
-        wait(gear, world, delay_on, longest, code, waited);
+        wait(
+            gear,
+            world,
+            delay_on,
+            longest,
+            Ended { code, items },
+            waited,
+        );
     }
 }
 

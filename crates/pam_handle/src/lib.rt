@@ -12,6 +12,7 @@ mod conversation;
 mod delay;
 mod delaying;
 mod end;
+mod ended;
 mod environment;
 mod flags;
 mod gear;
@@ -29,6 +30,7 @@ mod take_told;
 mod wait;
 
 pub use dispatch_core::{pam_room, service_load};
+pub use ended::Ended;
 pub use flags::has_pass_flag;
 pub use gear::{Gear, GearTold};
 pub use handle::Handle;

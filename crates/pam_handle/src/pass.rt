@@ -2,6 +2,7 @@ ghost use Rattle.std.specs.Prelude.{◌≡◌, ◌<◌, ◌^◌, ◌&&◌, lengt
 ghost use Rattle.dispatch_core.specs.AnyWorld.{PassStays};
 ghost use Rattle.dispatch_core.specs.AnswersSoFar.{past_of};
 ghost use Rattle.dispatch_core.specs.Calls.{following};
+ghost use Rattle.pam_handle.specs.AnyWorld.{BeginsUnset};
 ghost use Rattle.pam_handle.specs.Handle.{in_room};
 ghost use Rattle.pam_handle.specs.Pass.{kept_answers};
 ghost use Rattle.pam_handle.specs.Passes.{PassGives, kind_of, stack_at, stack_type};
@@ -20,7 +21,8 @@ use std::alloc::Global;
 
 impl Handle {
     /// One pass of a stack call over its stack, with the cached return codes that belong to the
-    /// call and, if the pass is resumed, with the codes it has so far.
+    /// call and, if the pass is resumed, with the codes it has so far. If it is the first pass of a
+    /// call that clears the tokens, and isn't resumed, none is set when its first line is run.
     pub(crate) fn pass(
         &mut self,
         alloc: Global,
@@ -30,7 +32,9 @@ impl Handle {
         kept: &mut Kept,
         paused: &mut Paused,
     ) -> Result<Code, NoMemory>
-        requires { IsReadyFor (⟦<Gear as GearTold>⟧.players gear.now)
+        requires unset { request.kind ≡ PassKind.Keep →
+            BeginsUnset request.func paused.old self.old.room.transaction.items }
+        requires ready { IsReadyFor (⟦<Gear as GearTold>⟧.players gear.now)
             (plain_handle ⟦<Room as RoomTold>⟧.plain self.old)
             (⟦<World as WorldTold>⟧.plain world.old).process }
         ensures stays { PassStays (⟦<Gear as GearTold>⟧.players gear.now)

@@ -1,4 +1,4 @@
-ghost use Rattle.std.specs.Prelude.{◌≡◌, false, None};
+ghost use Rattle.std.specs.Prelude.{◌≡◌, false, None, is_some};
 ghost use Rattle.std.specs.Option.{option_map};
 ghost use Rattle.dispatch_core.specs.AnswersSoFar.{past_of};
 ghost use Rattle.dispatch_core.specs.Pending.{first_in, is_other_pending, past_in, pending_after, pending_func, same_func};
@@ -62,6 +62,7 @@ impl Handle {
 /// What a pending call is resumed with: its codes so far and, in the second pass of a change of
 /// token, those that the first one cached. Both are empty if nothing is pending.
 pub(crate) fn resumed_from(pending: Option<PutOff>) -> (Paused, Kept)
+    ensures begins { is_some result.0 ≡ is_some pending }
     ensures past { past_of result.0 ≡ past_in (option_map pending_of pending) }
     ensures first { kept_answers result.1 ≡ first_in (option_map pending_of pending) }
 {

@@ -1,3 +1,5 @@
+ghost use Rattle.std.specs.Prelude.{◌≡◌, true, is_some};
+
 use dispatch_core::Paused;
 use frozen_chain::Kept;
 use pam_base::Func;
@@ -9,4 +11,5 @@ pub struct PutOff {
     pub func: Func,
     pub paused: Paused,
     pub first: Kept,
+    ghost incomplete: { is_some paused ≡ true },
 }

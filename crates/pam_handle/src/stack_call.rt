@@ -2,7 +2,7 @@ ghost use Rattle.std.specs.Prelude.{◌≡◌, ◌&&◌, false, None, IfOk, OnEr
 ghost use Rattle.dispatch_core.specs.AnyWorld.{PassStays};
 ghost use Rattle.dispatch_core.specs.AnswersSoFar.{past_of};
 ghost use Rattle.dispatch_core.specs.Pending.{is_other_pending};
-ghost use Rattle.pam_handle.specs.AnyWorld.{Waits};
+ghost use Rattle.pam_handle.specs.AnyWorld.{BeginsUnset, Waits};
 ghost use Rattle.pam_handle.specs.Pass.{kept_answers};
 ghost use Rattle.pam_handle.specs.Passes.{PassesGive, authenticated_with, cached_of, first_request, is_followed, is_second, opened_with, second_request};
 ghost use Rattle.pam_handle.specs.Plain.{in_box, plain_handle, room_in};
@@ -70,13 +70,22 @@ impl Handle {
         let longest = self.room.transaction.delay.longest();
         clear_after(func, &mut self.room.transaction.items, &paused);
         let ended = code_waited(func, &result, &paused);
-        sleep_after(gear, world, self.delay_on, longest, ended, &mut self.waited);
+        let items = &self.room.transaction.items;
+        sleep_after(
+            gear,
+            world,
+            self.delay_on,
+            longest,
+            ended,
+            items,
+            &mut self.waited,
+        );
         self.keep_pending(func, paused, first);
         result
     }
 
     // The passes that are left of a call: one, or in a change of token two, the second of which uses the codes that the
-    // first has cached.
+    // first has cached. If the call clears the tokens, and isn't resumed, none is set.
     fn passes(
         &mut self,
         alloc: Global,
@@ -87,7 +96,8 @@ impl Handle {
         first: &mut Kept,
         paused: &mut Paused,
     ) -> Result<Code, NoMemory>
-        requires { IsReadyFor (⟦<Gear as GearTold>⟧.players gear.now)
+        requires unset { BeginsUnset func paused.old self.old.room.transaction.items }
+        requires ready { IsReadyFor (⟦<Gear as GearTold>⟧.players gear.now)
             (plain_handle ⟦<Room as RoomTold>⟧.plain self.old)
             (⟦<World as WorldTold>⟧.plain world.old).process }
         ensures stays { PassStays (⟦<Gear as GearTold>⟧.players gear.now)

@@ -1,4 +1,4 @@
-use Rattle.std.proofs.Common.{Option, map, length, refl, sym, ◌∙◌, ap, rules}
+use Rattle.std.proofs.Common.{Option, is_some, map, length, refl, sym, ◌∙◌, ap, rules}
 use Rattle.std.specs.Option.{option_map}
 use Rattle.item_store.specs.Items.{ItemTexts}
 use Rattle.pam_base.specs.declared.code.Code.TheVariants.{Abort, SystemErr}
@@ -13,9 +13,16 @@ use Rattle.pam_handle.specs.StackCalls.{held_in}
 use Rattle.pam_handle.specs.declared.put_off.PutOff.{PutOff}
 use Rattle.pam_handle.proofs.Calling.{call_aborted, call_refused, fails_as, leaves_others, leaves_pending, leaves_same, not_false, room_end, room_start, room_with, runs_soundly, same_call, stops_room, told_as, trail_left}
 use Rattle.pam_handle.proofs.Stopping.{stops_call}
+use Rattle.pam_handle.proofs.Tokens.{begins_unset, ends_unset}
 use Rattle.pam_handle.proofs.Tracing.{called_by_trail}
 use Rattle.pam_handle.proofs.Waiting.{none_plain, not_rested, not_waited, tells_beside, waited_at_end}
 use Rattle.pam_handle.proofs.handle.Handle.call.Goals as goal
+
+pub passes-result-requires-clause-unset : goal.passes-result-requires-clause-unset
+passes-result-requires-clause-unset g c = begins_unset c.args.func c.args.self.now.pending _ _ _ c.clear_before.ensures (c.resumed_from-paused.ensures.begins ∙ ap is_some c.take.ensures.value)
+
+pub sleep_after-requires-clause-unset : goal.sleep_after-requires-clause-unset
+sleep_after-requires-clause-unset g c = ends_unset c.args.func c.passes-result.new.paused c.passes-result.result _ _ _ c.code_waited-ended.ensures c.clear_after.ensures
 
 pub returns-then-is_refused-clause-called : goal.returns-then-is_refused-clause-called
 returns-then-is_refused-clause-called g c =

@@ -10,7 +10,7 @@ use Rattle.pam_handle.proofs.handle.Handle.pass.Goals as goal
 
 pub dispatch-requires-clause-names : goal.dispatch-requires-clause-names
 dispatch-requires-clause-names g c =
-    rw c.deref.ensures.value (ap (λ (k : ChainView). k.names) c.of_mut-chain.ensures.value ∙ names_at c.args.self.now.chains c.stack_type.result ∙ c.requires.0 ∙ names_of_players _ _ _ _ c.args.gear.now.mods.items)
+    rw c.deref.ensures.value (ap (λ (k : ChainView). k.names) c.of_mut-chain.ensures.value ∙ names_at c.args.self.now.chains c.stack_type.result ∙ c.requires.ready.0 ∙ names_of_players _ _ _ _ c.args.gear.now.mods.items)
 
 pub returns-clause-gives : goal.returns-clause-gives
 returns-clause-gives g c =
