@@ -7,11 +7,12 @@ use Rattle.pam_base.specs.declared.call.Func.TheVariants.{Authenticate, SetCred,
 use Rattle.dispatch_core.specs.Pending.{Pending, is_other_pending, past_in, same_func}
 use Rattle.dispatch_core.specs.pam_room.specs.Module.{Player}
 use Rattle.dispatch_core.specs.pam_room.specs.State.{PlainWorld}
-use Rattle.pam_handle.specs.Call.{Called, begun_or_going_on, called, items_before, tokens_cleared}
+use Rattle.pam_handle.specs.Call.{Called, begun_or_going_on, called, clears_tokens, items_before, tokens_cleared}
+use Rattle.pam_handle.specs.AnyWorld.{AreUnset}
 use Rattle.pam_handle.specs.Handle.{PlainHandle, in_room}
 use Rattle.pam_handle.specs.Pass.{Passed}
 use Rattle.pam_handle.specs.StackCalls.{authenticated, authentication, behind_pass, change_goes_on, check, has_pass_flag, passes_first, stack_call}
-use Rattle.token_laws.specs.Tokens.{EarlierTokensDontMatter, NoTokenWhileItWaits, WaitsUnset, begun, with_tokens}
+use Rattle.token_laws.specs.Tokens.{BeginsWithoutTokens, EarlierTokensDontMatter, FirstLineSeesNoToken, NoTokenWhileItWaits, WaitsUnset, begun, begun_for, with_tokens}
 
 begins : (pending : Option Pending) (func : Func) (aborted begun : Called) (goes_on : Pending → Called) → pending ≡ None
     → begun_or_going_on pending func aborted begun goes_on ≡ begun
@@ -95,3 +96,33 @@ module _ (players : List Player) (number : Code → ℕ → ℕ) (flags : ℕ) w
 
 pub no_token : NoTokenWhileItWaits
 no_token players number flags h w free = λ ends. by_pending players number flags h.pending h w refl free ends
+
+-- ---- with real objects
+
+abbrev begun_with : Func → PlainHandle → Option Pending → PlainHandle
+begun_with func h pending = in_room (record h.room {
+  transaction = record h.room.transaction { items = items_before func pending h.room.transaction.items };
+}) h
+
+-- the transactions in which two calls begin are the same, if nothing is pending in either, and those in which nothing is
+-- pending are
+begins_same : (func : Func) (h i : PlainHandle) → h.pending ≡ None → i.pending ≡ None → begun_with func h None ≡ begun_with func i None
+    → begun_for func h ≡ begun_for func i
+begins_same func h i e f same = ap (begun_with func h) e ∙ same ∙ sym (ap (begun_with func i) f)
+
+begins_without : (func : Func) (h : PlainHandle) → clears_tokens func ≡ true → h.pending ≡ None
+    → ((token old : Option (List ℕ)) → begun_with func (with_tokens token old h) None ≡ begun_with func h None)
+    → AreUnset (begun_with func h None).room.transaction.items → BeginsWithoutTokens func h
+begins_without func h clears none same unset = record {
+  same = λ token old. begins_same func (with_tokens token old h) h none none (same token old);
+  unset = subst (λ (x : PlainHandle). AreUnset x.room.transaction.items) (sym (ap (begun_with func h) none)) unset;
+  required = λ begun requires. requires clears refl;
+}
+
+pub first_line : FirstLineSeesNoToken
+first_line Authenticate h clears none = begins_without Authenticate h clears none (λ token old. refl) (refl, refl)
+first_line ChAuthTok h clears none = begins_without ChAuthTok h clears none (λ token old. refl) (refl, refl)
+first_line SetCred h clears none = absurd (true≢false (sym clears))
+first_line AcctMgmt h clears none = absurd (true≢false (sym clears))
+first_line OpenSession h clears none = absurd (true≢false (sym clears))
+first_line CloseSession h clears none = absurd (true≢false (sym clears))

@@ -7,7 +7,7 @@ use Rattle.pam_base.specs.declared.call.Func.TheVariants.{Authenticate}
 use Rattle.dispatch_core.specs.Pending.{is_other_pending, past_in}
 use Rattle.dispatch_core.specs.pam_room.specs.Module.{Player}
 use Rattle.dispatch_core.specs.pam_room.specs.State.{PlainWorld}
-use Rattle.pam_handle.specs.AnyWorld.{AreUnset}
+use Rattle.pam_handle.specs.AnyWorld.{AreUnset, BeginsUnset}
 use Rattle.pam_handle.specs.Call.{Called, called, clears_tokens, items_before, request_forgotten, waits_after}
 use Rattle.pam_handle.specs.Handle.{PlainHandle, in_room}
 use Rattle.pam_handle.specs.Pass.{Passed}
@@ -62,3 +62,29 @@ NoTokenWhileItWaits =
     let p = passes_first players Authenticate flags (past_in h.pending) (begun h) w in
     p.paused ≡ None →
     WaitsUnset number p (stack_call players number Authenticate flags h w)
+
+-- ---- with real objects too
+
+-- the transaction as it is when the first pass of a call begins or is resumed
+abbrev pub begun_for : Func → PlainHandle → PlainHandle
+begun_for func h = in_room (record h.room {
+  transaction = record h.room.transaction
+      { items = items_before func h.pending h.room.transaction.items };
+}) h
+
+-- A call that begins: the transaction in which its first line is run.
+pub record BeginsWithoutTokens (func : Func) (h : PlainHandle) : Type 0 where
+  -- it is the same whatever tokens were set before the call
+  pub same : (token old : Option (List ℕ)) →
+      begun_for func (with_tokens token old h) ≡ begun_for func h
+  -- no token is set in it
+  pub unset : AreUnset (begun_for func h).room.transaction.items
+  -- which is what `Handle::pass` requires, the function that runs the lines
+  pub required : (begun : PlainHandle) →
+      BeginsUnset func None begun.room.transaction.items →
+      AreUnset begun.room.transaction.items
+
+abbrev pub FirstLineSeesNoToken : Type 0
+FirstLineSeesNoToken =
+    (func : Func) (h : PlainHandle) → clears_tokens func ≡ true → h.pending ≡ None →
+    BeginsWithoutTokens func h
