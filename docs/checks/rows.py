@@ -1,12 +1,23 @@
 """What docs/check looks for in the rows of linux-pam.md and modules.md: that each difference by which somebody gets in
-or is kept out has its cases, and that each definition that a row names exists."""
+or is kept out has its test case and its cases over both sides, and that each definition that a row names exists."""
 import os
 import re
 
 from sources import TOP, files_below, text_of
 
 CASES = "tests/scripts/differences.txt"
-MARK = r" \(\*\*(?:in|out|in, out)\*\*\)"
+TEST_CASES = "tests/cases/differs-from-libpam/"
+# What follows a row's subject: in, out or both, which is a link to the row's test case.
+MARK = r" \(\[\*\*(?:in|out|in, out)\*\*\]\(\.\./([^)\s]+)\)\)"
+UNLINKED = r"\(\*\*(?:in|out|in, out)\*\*\)"
+# Rows that can't be a test case, and the script that tests them. The first needs two processes, the others a mode
+# or a link, which a copy of a stored tree doesn't have.
+ELSEWHERE = {
+    "linux-pam.md: usermod -L during a change of password that had begun": "tests/scripts/read-anew",
+    "modules.md pam_listfile: file=: a link; a list that everyone can write": "tests/scripts/differences",
+    "modules.md pam_shells: a list that everyone can write": "tests/scripts/differences",
+    "modules.md pam_securetty: a list that everyone can write": "tests/scripts/differences",
+}
 
 
 def rows(page):
@@ -17,7 +28,7 @@ def rows(page):
             section = line.lstrip("# ")
         is_row = line.startswith("|")
         if is_row:
-            cells = [cell.strip() for cell in line.strip().strip("|").split(" | ")]
+            cells = [cell.strip() for cell in re.split(r" \|(?= |$)", line.strip().removeprefix("|"))][:-1]
             head = head if was_table else cells
             if was_table and not line.startswith("|-"):
                 yield number, section, cells, head
@@ -32,27 +43,55 @@ def named(page, section, cell):
 
 def differing(all_pages):
     """Each row of linux-pam.md and modules.md by which somebody gets in or is kept out has a group of
-    tests/scripts/differences.txt, each group is of a row, and has a case, a test case or a reason."""
+    tests/scripts/differences.txt, and each group is of a row, and has a case or a reason."""
     groups, lines_of = {}, {}
     for number, line in enumerate(text_of(CASES).splitlines(), 1):
         if line.startswith("@ "):
             groups[line[2:]], lines_of[line[2:]] = [], number
         elif line and not line.startswith("#"):
             groups[list(groups)[-1]].append(line)
-            if line.startswith("+ ") and not os.path.isdir(os.path.join(TOP, "tests/cases", line[2:])):
-                yield f"{CASES}:{number}: no test case {line[2:]}"
     known = set()
-    for path in ("docs/linux-pam.md", "docs/modules.md"):
-        for number, section, cells, _ in rows(all_pages[path]):
-            name = named(all_pages[path], section, cells[0])
-            known.add(name)
-            if re.search(MARK, cells[0]) and name not in groups:
-                yield f"{path}:{number}: {CASES} has no group {name}"
+    for path, number, name, mark, _ in differences(all_pages):
+        known.add(name)
+        if mark and name not in groups:
+            yield f"{path}:{number}: {CASES} has no group {name}"
     for name, cases in groups.items():
         if name not in known:
             yield f"{CASES}:{lines_of[name]}: no page has the row {name}"
         if not cases:
             yield f"{CASES}:{lines_of[name]}: no case"
+
+
+def tested(all_pages):
+    """Each row of linux-pam.md and modules.md by which somebody gets in or is kept out leads to a test case of
+    tests/cases/differs-from-libpam, and each of these to a run."""
+    marked = set()
+    for path, number, name, mark, cells in differences(all_pages):
+        wanted = ELSEWHERE.get(name)
+        if re.search(UNLINKED, cells[0]):
+            yield f"{path}:{number}: the mark leads to no test case"
+        if mark:
+            marked.add(name)
+            to = mark[1]
+            if wanted and to != wanted:
+                yield f"{path}:{number}: {wanted} tests this row"
+            if not wanted and not re.fullmatch(rf"{TEST_CASES}[^/]+", to):
+                yield f"{path}:{number}: {to} is none of {TEST_CASES}"
+            if not wanted and not has_run(to):
+                yield f"{path}:{number}: {to} has no run"
+    yield from (f"no page marks the row {name}" for name in ELSEWHERE if name not in marked)
+
+
+def differences(all_pages):
+    """The rows of both pages: page, line, name, mark if there is one, and cells."""
+    for path in ("docs/linux-pam.md", "docs/modules.md"):
+        for number, section, cells, _ in rows(all_pages[path]):
+            yield path, number, named(all_pages[path], section, cells[0]), re.search(MARK, cells[0]), cells
+
+
+def has_run(path):
+    """Whether a test case runs something, or checks a service."""
+    return any(os.path.exists(os.path.join(TOP, path, part)) for part in ("script", "words", "checked", "cases"))
 
 
 def defined_by(all_pages):
