@@ -64,7 +64,7 @@ def differing(all_pages):
 
 def tested(all_pages):
     """Each row of linux-pam.md and modules.md by which somebody gets in or is kept out leads to a test case of
-    tests/cases/differs-from-libpam, and each of these to a run."""
+    tests/cases/differs-from-libpam, and each of these to a run; linux-pam.md has no row without a column."""
     marked = set()
     for path, number, name, mark, cells in differences(all_pages):
         wanted = ELSEWHERE.get(name)
@@ -80,6 +80,9 @@ def tested(all_pages):
             if not wanted and not has_run(to):
                 yield f"{path}:{number}: {to} has no run"
     yield from (f"no page marks the row {name}" for name in ELSEWHERE if name not in marked)
+    for number, _, cells, head in rows(all_pages["docs/linux-pam.md"]):
+        if len(cells) != len(head) or head[:4] != ["Subject", "Here", "1.5.2", "1.6, 1.7"]:
+            yield f"docs/linux-pam.md:{number}: {len(cells)} cells below {', '.join(head)}"
 
 
 def differences(all_pages):
