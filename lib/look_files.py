@@ -4,8 +4,8 @@ import re
 import common
 import modules
 import replacing
-import services
 from common import Unread
+from trees import is_service
 
 FAULT, WARNING, NOTE = "fault", "warning", "note"
 # The keys of faillock.conf(5) and pwhistory.conf(5).
@@ -57,7 +57,7 @@ def look_at_texts(found, tree):
     paths = [f"etc/pam.d/{name}" for name in tree.below.names("etc/pam.d")] if tree.has_directory else ["etc/pam.conf"]
     for path in paths:
         name = path.rsplit("/", 1)[-1]
-        if services.is_service(name) and tree.below.is_file(path):
+        if is_service(name) and tree.below.is_file(path):
             look_at_text(found, path, tree.below.text(path, common.MOST))
 
 

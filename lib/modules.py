@@ -1,5 +1,6 @@
 """What is known of modules, those that pamsess has and others: what they do, and in which directories they are."""
 import fnmatch
+import re
 
 # The modules that pamsess has.
 HERE_TOO = set("""
@@ -52,11 +53,17 @@ OBSOLETE = {
 }
 KNOWN = HERE_TOO | SETUP | NEVER_YES | CONDITIONS | WHO | ASKS
 
+
 # Where modules are, below a root.
 PLACES = (
     "lib/security", "lib/*/security", "lib64/security", "usr/lib/security", "usr/lib/*/security", "usr/lib64/security",
     "usr/local/lib/security",
 )
+
+
+def module_of(path):
+    """A module's name, of its path."""
+    return re.sub(r"\.so$", "", path.rsplit("/", 1)[-1])
 
 
 def directories(below):

@@ -3,7 +3,7 @@ import re
 
 import common
 import modules
-import services
+from modules import module_of
 
 LISTS = "/etc/stand-in"
 # What an argument of pam_debug is called for each type.
@@ -20,18 +20,19 @@ QUIET = {"audit", "silent", "no_log_info", "nodelay", "debug", "retry"}
 METHODS = {"md5", "bigcrypt", "sha256", "sha512", "blowfish", "gost_yescrypt", "yescrypt"}
 
 
-def debug(kind, code):
+def debug(kind, code, names=None):
     """The arguments with which pamsess's pam_debug returns a code."""
-    return "pam_debug.so" + "".join(f" {name}={code}" for name in ARGUMENTS[kind])
+    return "pam_debug.so" + "".join(f" {name}={code}" for name in names or ARGUMENTS[kind])
 
 
-def failure_of(module, arguments, kind, actions):
+def failure_of(rule):
     """What a module that verifies who the user is returns if it can't: of somebody whom it doesn't know, or if what it
     needs isn't there. A code that its line would take as a success is passed over."""
-    if "ignore_unknown_user" in arguments or (module == "pam_krb5" and kind == "account"):
+    if "ignore_unknown_user" in rule.arguments or (rule.module == "pam_krb5" and rule.kind == "account"):
         return "ignore"
-    codes = ["authinfo_unavail", "user_unknown"] if module in modules.KEYS else ["user_unknown", "authinfo_unavail"]
-    return next((code for code in [*codes, "auth_err"] if actions[code] not in ("ok", "done")), "ignore")
+    codes = ["user_unknown", "authinfo_unavail"]
+    codes = codes[::-1] if rule.module in modules.KEYS else codes
+    return next((code for code in [*codes, "auth_err"] if rule.actions[code] not in ("ok", "done")), "ignore")
 
 
 def settings(text):
@@ -82,20 +83,20 @@ class Replacing:
             and (module in modules.KNOWN - set(modules.OBSOLETE) or f"{module}.so" in self.here.files)
         )
 
-    def other(self, kind, control, path, arguments):
-        """What takes the place of a module's path, and how that is reported; None if it stays as it is. What is
-        reported may be empty."""
-        module, actions = services.module_of(path), services.actions_of(control)
-        chosen = self.choices.get(module)
-        if chosen == "missing" or (chosen is None and not self.is_there(path, module)):
-            return self.missing(module, path, chosen)
+    def other(self, rule):
+        """The module that takes the place of a rule's, with the arguments before the rule's own, and how that is
+        reported. None if it stays as it is; what is reported may be empty."""
+        chosen = self.choices.get(rule.module)
+        if chosen == "missing" or (chosen is None and not self.is_there(rule.path, rule.module)):
+            return self.missing(rule, chosen)
         if chosen:
-            return debug(kind, chosen), f"pam_debug, which returns {chosen.upper()} as you chose"
-        if module in modules.HERE_TOO:
-            return self.with_settings(kind, module, path, arguments)
-        return self.exact(kind, module, arguments) or self.stand_in(kind, module, actions, arguments)
+            return in_place(rule, debug(rule.kind, chosen)), f"pam_debug, which returns {chosen.upper()} as you chose"
+        if rule.module in modules.HERE_TOO:
+            return self.with_settings(rule)
+        made, how = self.exact(rule) or self.stand_in(rule)
+        return in_place(rule, made), how
 
-    def missing(self, module, path, chosen):
+    def missing(self, rule, chosen):
         how = (
             "left as it is, as you chose"
             if chosen
@@ -103,74 +104,79 @@ class Replacing:
             if self.here is None
             else "left as it is: no module of this name is known"
         )
-        better = f" ({modules.OBSOLETE[module]} replaces it)" if module in modules.OBSOLETE and not chosen else ""
-        how += f"{better}, so its lines return MODULE_UNKNOWN"
+        better = modules.OBSOLETE.get(rule.module) if not chosen else None
+        how += f"{f' ({better} replaces it)' if better else ''}, so its lines return MODULE_UNKNOWN"
         # (of a module that pamsess has, libpam wouldn't find this path)
-        return (f"pam_missing.so {path}" if module in modules.HERE_TOO else None), how
+        return (in_place(rule, "pam_missing.so") if rule.module in modules.HERE_TOO else None), how
 
-    def exact(self, kind, module, arguments):
+    def exact(self, rule):
         """A module here that does the same."""
-        words = {it.partition("=")[0] for it in arguments}
-        if module == "pam_localuser" and "file" not in words:
+        words = {it.partition("=")[0] for it in rule.arguments}
+        if rule.module == "pam_localuser" and "file" not in words:
             return (
                 f"pam_listfile.so item=user sense=allow onerr=fail file={LISTS}/local",
                 "pam_listfile with the users of passwd",
             )
-        if module == "pam_usertype" and "use_uid" not in words and words & {"issystem", "isregular"}:
+        if rule.module == "pam_usertype" and "use_uid" not in words and words & {"issystem", "isregular"}:
             name = "system" if "issystem" in words else "regular"
             return (
                 f"pam_listfile.so item=user sense=allow onerr=fail file={LISTS}/{name}",
                 f"pam_listfile with the {name} users of passwd",
             )
-        if module == "pam_faildelay" and kind == "auth":
+        if rule.module == "pam_faildelay" and rule.kind == "auth":
             delay = "" if "delay" in words else f" delay={number_of(self.defs, 'FAIL_DELAY', 0) * 1000000}"
             return f"pam_probe.so answer=ignore{delay}", "pam_probe with the same delay"
-        if module == "pam_warn":
-            return debug(kind, "ignore"), "pam_debug, which returns IGNORE as it does"
+        if rule.module == "pam_warn":
+            return debug(rule.kind, "ignore"), "pam_debug, which returns IGNORE as it does"
         return None
 
-    def stand_in(self, kind, module, actions, arguments):
+    def stand_in(self, rule):
+        kind, module = rule.kind, rule.module
         if kind == "password" and module in modules.ASKS:
             return "pam_pwhistory.so remember=0", "pam_pwhistory, which asks for a new password"
         is_known = module in modules.KNOWN
         if (module in modules.WHO and kind != "session") or (not is_known and kind == "auth"):
-            code = failure_of(module, arguments, kind, actions)
-            cred = " cred=ignore" if kind == "auth" else ""
-            name = ARGUMENTS[kind][0]
-            made = f"pam_debug.so {name}={code}{cred}" if kind != "password" else debug(kind, code)
+            code = failure_of(rule)
+            made = f"{debug(kind, code, ARGUMENTS[kind][:1])} cred=ignore" if kind == "auth" else debug(kind, code)
             return made, f"pam_debug, which returns {code.upper()}"
-        if kind == "auth" or services.is_decisive(actions):
+        if kind == "auth" or rule.decides():
             return debug(kind, "ignore"), "pam_debug, which returns IGNORE"
         return "pam_debug.so", "pam_debug, which returns SUCCESS"
 
-    def with_settings(self, kind, module, path, arguments):
+    def with_settings(self, rule):
         """A module that pamsess has, with the settings of its file as arguments before its own."""
-        given = {key: value for key, _, value in (it.partition("=") for it in arguments)}
-        if module == "pam_faillock":
-            return self.settings_of(path, given.get("conf") or "/etc/security/faillock.conf", FAILLOCK)
-        if module == "pam_pwhistory" and kind == "password":
-            return self.settings_of(path, given.get("conf") or "/etc/security/pwhistory.conf", PWHISTORY)
+        given = {key: value for key, _, value in (it.partition("=") for it in rule.arguments)}
+        if rule.module == "pam_faillock":
+            return self.settings_of(rule, given.get("conf") or "/etc/security/faillock.conf", FAILLOCK)
+        if rule.module == "pam_pwhistory" and rule.kind == "password":
+            return self.settings_of(rule, given.get("conf") or "/etc/security/pwhistory.conf", PWHISTORY)
         method = self.defs.get("ENCRYPT_METHOD", "").lower()
-        if module == "pam_unix" and kind == "password" and method in ("sha256", "sha512") and not METHODS & set(given):
-            return f"{path} {method}", f"itself, with {method} as etc/login.defs says"
+        is_method = method in ("sha256", "sha512") and not METHODS & set(given)
+        if rule.module == "pam_unix" and rule.kind == "password" and is_method:
+            return [rule.path, method], f"itself, with {method} as etc/login.defs says"
         return None, ""
 
-    def settings_of(self, path, name, known):
+    def settings_of(self, rule, name, known):
         found = settings(self.below.text(name))
         if name == "/etc/security/faillock.conf" and found.get("deny") == "0":
             found["deny"] = "999999999"
-        taken = " ".join(
+        taken = [
             key if value is None else f"{key}={value}"
             for key, value in found.items()
             if key in known and not re.search(r"[\s\[\]#\\]", value or "")
-        )
+        ]
         rest = sorted(set(found) - known - QUIET)
         if rest:
             self.notes.add(
                 f"{name.lstrip('/')}: what these say isn't tried, since pamsess's module has no such "
                 f"argument: {', '.join(rest)}"
             )
-        return (f"{path} {taken}", f"itself, with {taken} of {name.lstrip('/')}") if taken else (None, "")
+        return ([rule.path, *taken], f"itself, with {' '.join(taken)} of {name.lstrip('/')}") if taken else (None, "")
+
+
+def in_place(rule, made):
+    """A module with its arguments, and the module after them whose place it takes."""
+    return [*made.split(), rule.path]
 
 
 # What stand-in writes before the name of a module that another one replaces.
@@ -187,13 +193,26 @@ def original(path, arguments):
     return None
 
 
+def module_before(rule):
+    """The module that a rule had before stand-in replaced it, or has."""
+    path, _ = original(rule.path, rule.arguments) or (rule.path, -1)
+    return module_of(path)
+
+
+def with_code(rule, code):
+    """A rule's module and arguments with which it returns a code, whether stand-in replaced its module or not."""
+    path, at = original(rule.path, rule.arguments) or (rule.path, -1)
+    made, *arguments = debug(rule.kind, code).split()
+    return made, [*arguments, path, *rule.arguments[at + 1 :]]
+
+
 def stood_for(rule, call):
     """A rule of a trial tree as it is shown: the old module, with what is returned in its place."""
     found = original(rule.path, rule.arguments)
     if not found:
         return rule.path, rule.arguments
     own, rest = rule.arguments[: found[1]], rule.arguments[found[1] + 1 :]
-    module = services.module_of(rule.path)
+    module = module_of(rule.path)
     if module == "pam_debug":
         names = {"authenticate": "auth", "setcred": "cred", "acct_mgmt": "acct"}
         code = {key: value for key, _, value in (it.partition("=") for it in own)}.get(names.get(call, call), "success")

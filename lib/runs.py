@@ -12,10 +12,9 @@ import calls
 import common
 import questions
 import replacing
-import services
 import ways
 from common import CODES, NAMES
-from stacks import lines_of
+from stacks import actions_of, lines_of
 
 # Stacks with more rules aren't asked about, and runs are made of so many ways: each question runs the program once.
 MOST_RULES, MOST_WAYS = 64, 12
@@ -182,7 +181,7 @@ def failed(node, kind):
     """A node that only jumps and ends its list, since it has failed before; a substack is one node."""
     if isinstance(node, list):
         return Probe(kind, "[default=ignore]", ["success"])
-    actions = services.actions_of(node.control)
+    actions = actions_of(node.control)
     kept = {code: actions[code] if actions[code].isdigit() or actions[code] == "die" else "ignore" for code in CODES}
     return Probe(kind, control_of(kept), node.codes)
 
@@ -204,7 +203,7 @@ def ending(nodes, path, controls, code):
 
 def longer(probe, left, more):
     """A rule whose jumps over `left` nodes or more are longer."""
-    actions = services.actions_of(probe.control)
+    actions = actions_of(probe.control)
     far = {
         code: str(min(255, int(action) + more)) if action.isdigit() and int(action) >= left else action
         for code, action in actions.items()

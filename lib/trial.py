@@ -4,7 +4,7 @@ import shutil
 
 import common
 import replacing
-import services
+import rewriting
 
 # The most that is copied.
 MOST_FILES, MOST_BYTES = 4096, 64 << 20
@@ -14,9 +14,9 @@ class TooLarge(Exception):
     """A tree has too many files, or too many bytes."""
 
 
-def copy_of(root, made, choices):
-    """Copies a tree; the copy's path, and the modules that were chosen and are there. A choice is for a module, or for
-    a module and a type."""
+def copy_of(run, root, service, made, choices):
+    """Copies a tree; the copy's path, and the modules that were chosen and that the service has. A choice is for a
+    module, or for a module and a type. `run` is the program `ways`."""
     files = size = 0
     for at, _, names in os.walk(root):
         files += len(names)
@@ -26,15 +26,8 @@ def copy_of(root, made, choices):
     shutil.copytree(
         root, made, symlinks=True, ignore=lambda at, names: [name for name in names if not is_copied(f"{at}/{name}")]
     )
-    below, used = common.Below(made), set()
-    paths = [f"/etc/pam.d/{name}" for name in below.names("/etc/pam.d")]
-    for path in [*paths, "/etc/pam.conf"]:
-        if below.is_file(path):
-            text = with_choices(below.text(path), choices, path == "/etc/pam.conf", used)
-            # (a link would lead to a file of its own, which may be outside)
-            os.remove(made + path)
-            with open(made + path, "wb") as file:
-                file.write(os.fsencode(text))
+    below = common.Below(made)
+    used = choose(run, below, service, choices) if choices else set()
     os.close(below.fd)
     return made, used
 
@@ -43,20 +36,23 @@ def is_copied(path):
     return os.path.isfile(path) or os.path.isdir(path) or os.path.islink(path)
 
 
-def with_choices(text, choices, has_service, used):
-    """A file of rules with the modules that were chosen."""
-    made, at = [], 0
-    for _, tokens in services.rules(text):
-        tokens = tokens[has_service:]
-        words = [services.plain(token) for token in tokens]
-        kind = words[0].lower().lstrip("-") if words else ""
-        if kind not in common.TYPES or len(words) < 3 or words[1].lower() in ("include", "substack"):
-            continue
-        old, number = replacing.original(words[2], words[3:]) or (words[2], -1)
-        module = services.module_of(old)
-        code = choices.get((module, kind)) or choices.get(module)
+def choose(run, below, service, choices):
+    """Writes the rules of a service again whose modules were chosen, and names these modules."""
+    is_conf = not below.is_directory("etc/pam.d")
+    found, _ = rewriting.rules_below(run, below.root, {service.lower(), "other"} if is_conf else {service.lower()})
+    changed, used = {}, set()
+    for (path, number), (of, rule) in found.items():
+        module = replacing.module_before(rule)
+        code = choices.get((module, rule.kind)) or choices.get(module)
         if code:
             used.add(module)
-            made += [text[at : tokens[2].begin], f"{replacing.debug(kind, code)} {tokens[3 + number]}"]
-            at = tokens[3 + number].end
-    return "".join(made) + text[at:]
+            line = rewriting.written(of, rule, *replacing.with_code(rule, code))
+            changed.setdefault(path, {})[number] = (of, line)
+    for path, lines in changed.items():
+        text = rewriting.with_rules(run, path, below.read(path), lines)
+        # (its path below the copy without links, of which one may lead out of it)
+        at = below.root + below.status(path)[1]
+        os.remove(at)
+        with open(at, "wb") as file:
+            file.write(os.fsencode(text))
+    return used

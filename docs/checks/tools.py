@@ -11,8 +11,6 @@ from sources import TOP
 WIDTH = 120
 # Programs in Rattle, test cases, mutants and what is built have no scripts.
 WITHOUT = {"crates", "mutants", "out", ".git", "__pycache__"}
-# (it goes when the program that replaces it is proved)
-WIDE = ("lib/stacks.py",)
 
 
 def kind_of(path):
@@ -39,7 +37,7 @@ def scripts_below(top=""):
 def narrow():
     """Lines of Python have at most 120 columns."""
     for path, kind in scripts_below():
-        if kind == "python" and path not in WIDE:
+        if kind == "python":
             with open(os.path.join(TOP, path), encoding="utf-8") as file:
                 for number, line in enumerate(file, 1):
                     if len(line.rstrip("\n")) > WIDTH:
