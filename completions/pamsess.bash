@@ -72,20 +72,30 @@ _pamsess_kind() {
                 COMPREPLY+=("$each")
             done < <(compgen -d -- "$word")
             ;;
+        file)
+            compopt -o filenames 2>/dev/null
+            while IFS= read -r each; do
+                COMPREPLY+=("$each")
+            done < <(compgen -f -- "$word")
+            ;;
         service) _pamsess_services "$root" "$word" ;;
         user) _pamsess_users "$root" "$word" ;;
     esac
 }
 
 _pamsess() {
-    local word=${COMP_WORDS[COMP_CWORD]} command=${COMP_WORDS[0]##*/} first=${COMP_WORDS[1]-} number=$COMP_CWORD root
+    local word=${COMP_WORDS[COMP_CWORD]} command=${COMP_WORDS[0]##*/} first=${COMP_WORDS[1]-} number=$COMP_CWORD at=0
     local -a kinds
     case $command in
         pamsess-check-all) kinds=(directory) ;;
         pamsess-explain)
-            kinds=(directory service)
-            # (an option before ROOT)
-            [ "$first" != --html ] && [ "$first" != --json ] || kinds=(option directory service)
+            kinds=(directory service user)
+            # (options before ROOT)
+            case $first,${COMP_WORDS[2]-} in
+                --html,--script | --json,--script) kinds=(option option file "${kinds[@]}") ;;
+                --html,* | --json,*) kinds=(option "${kinds[@]}") ;;
+                --script,*) kinds=(option file "${kinds[@]}") ;;
+            esac
             ;;
         pamsess-ways)
             kinds=(directory service)
@@ -108,12 +118,9 @@ _pamsess() {
             esac
             ;;
     esac
-    root=${COMP_WORDS[1]-}
-    case ${kinds[0]},${kinds[1]-} in
-        option,option) root=${COMP_WORDS[3]-} ;;
-        command,* | option,*) root=${COMP_WORDS[2]-} ;;
-    esac
-    _pamsess_kind "$word" "${kinds[number - 1]-}" "$root"
+    # The root is the first directory.
+    while [ "${kinds[at]-directory}" != directory ]; do at=$((at + 1)); done
+    _pamsess_kind "$word" "${kinds[number - 1]-}" "${COMP_WORDS[at + 1]-}"
 }
 
 complete -F _pamsess pamsess pamsess-check-all pamsess-explain pamsess-stand-in pamsess-try pamsess-ways pamsess-what-if

@@ -21,6 +21,22 @@ function __pamsess_compares_at
     test (count $words) -eq $argv[1]; and test "$words[1]" = --compare
 end
 
+# The words of pamsess-explain after its options, whether there are so many, and which of all words the first of them is.
+function __pamsess_explained
+    set -l words (__pamsess_words)
+    contains -- "$words[1]" --html --json; and set -e words[1]
+    test "$words[1]" = --script; and set words $words[3..-1]
+    test (count $words) -eq 0; or printf '%s\n' $words
+end
+
+function __pamsess_explains_at
+    test (count (__pamsess_explained)) -eq $argv[1]
+end
+
+function __pamsess_explained_root
+    math (count (__pamsess_words)) - (count (__pamsess_explained)) + 1
+end
+
 # The root is the word with this number.
 function __pamsess_services
     set -l words (__pamsess_words)
@@ -58,9 +74,11 @@ for name in try what-if
 end
 complete -c pamsess-what-if -n '__pamsess_at 2' -a '(__pamsess_users 1)'
 complete -c pamsess-explain -n '__pamsess_at 0' -l html -d 'write a page'
-complete -c pamsess-explain -n '__pamsess_at 1 --html' -a '(__fish_complete_directories)'
-complete -c pamsess-explain -n '__pamsess_at 2 --html' -a '(__pamsess_services 2)'
-complete -c pamsess-explain -n '__pamsess_at 1; and not __pamsess_at 1 --html' -a '(__pamsess_services 1)'
+complete -c pamsess-explain -n '__pamsess_at 0' -l json -d 'print an object'
+complete -c pamsess-explain -n '__pamsess_at 0; or __pamsess_at 1 --html --json' -l script -r -F -d 'the script that was run'
+complete -c pamsess-explain -n '__pamsess_explains_at 0; and not __pamsess_at 0' -a '(__fish_complete_directories)'
+complete -c pamsess-explain -n '__pamsess_explains_at 1' -a '(__pamsess_services (__pamsess_explained_root))'
+complete -c pamsess-explain -n '__pamsess_explains_at 2' -a '(__pamsess_users (__pamsess_explained_root))'
 complete -c pamsess-ways -n '__pamsess_at 0' -l json -d 'print an object'
 complete -c pamsess-ways -n '__pamsess_at 0; or __pamsess_at 1 --json' -l compare -d 'compare two directories'
 complete -c pamsess-ways -n '__pamsess_at 1 --json; or __pamsess_compares_at 1; or __pamsess_compares_at 2' -a '(__fish_complete_directories)'

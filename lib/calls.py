@@ -13,7 +13,7 @@ class Call:
 
     def __init__(self, head):
         self.number, self.call, self.what = head
-        self.rules, self.result, self.why, self.said = [], "", "", []
+        self.rules, self.result, self.why, self.said, self.user = [], "", "", [], None
 
     def decider(self):
         found = re.fullmatch(r"decided by rule (\d+)", self.why)
@@ -55,6 +55,7 @@ class Call:
             "result": self.result,
             "why": self.why,
             "said": self.said,
+            "user": self.user and common.shown(self.user),
         }
 
     def heading(self):
