@@ -16,7 +16,7 @@ esac
 cd "$(dirname "$0")/.."
 turns=${1:-10}
 cache=${CLIENTS_CACHE:-${XDG_CACHE_HOME:-$HOME/.cache}/pamsess-clients}
-server=${PAM_SERVICE:-crates/pam_service/out/pam_service}
+server=${PAM_SERVICE:-$(lib/program pam_service)}
 if [ ! -e "$cache/complete" ] || [ ! -x "$server" ]; then
     echo "bench/clients.sh: run tests/clients/check first, with $server built" >&2
     exit 1

@@ -8,7 +8,7 @@ case ${1-} in
     -h | --help) sed -n '2,/^[^#]/s/^# \{0,1\}//p' "$0" && exit ;;
 esac
 cd "$(dirname "$0")/.."
-program=${PAMSESS:-$PWD/crates/pam_session_cli/out/pam_session_cli}
+program=${PAMSESS:-$PWD/$(lib/program pam_session_cli)}
 [ -x "$program" ] || { echo "crypt.sh: no program is built: ./build builds it" >&2; exit 1; }
 room=$(mktemp -d)
 trap 'rm -rf "$room"' EXIT

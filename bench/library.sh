@@ -7,7 +7,7 @@ case ${1-} in
     -h | --help) sed -n '2,/^[^#]/s/^# \{0,1\}//p' "$0" && exit ;;
 esac
 cd "$(dirname "$0")/.."
-program=${LIBRARY_BENCH-$PWD/crates/library_bench/out/library_bench}
+program=${LIBRARY_BENCH-$PWD/$(lib/program library_bench)}
 command -v valgrind >/dev/null || { echo "library.sh: there is no valgrind" >&2; exit 1; }
 [ -x "$program" ] || { echo "library.sh: no program is built: (cd crates/library_bench && rt run -- 1 1 1) builds it" >&2; exit 1; }
 

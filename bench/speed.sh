@@ -8,7 +8,7 @@ case ${1-} in
     -h | --help) sed -n '2,/^[^#]/s/^# \{0,1\}//p' "$0" && exit ;;
 esac
 cd "$(dirname "$0")/.."
-program=$PWD/crates/pam_session_cli/out/pam_session_cli
+program=$PWD/$(lib/program pam_session_cli)
 earlier=${1-}
 [ -x "$program" ] || { echo "speed.sh: no program is built: ./build builds it" >&2; exit 1; }
 
