@@ -1,0 +1,9 @@
+mod Beside
+mod Alongside
+mod Again
+mod Changing
+mod Calling
+mod Telling
+mod Tracing
+mod Rows
+mod Resuming
