@@ -4,9 +4,9 @@
 
 usage: bench/access.py [ROUNDS]    the least of so many rounds in turns, 10 if left out
 
-The reads are those of pam_listfile, of a file that stays open and of one that doesn't, at 3, 5 and 9 directories. What a
-run without them takes is subtracted. Over `/` the program runs in a chroot, so it is linked without shared libraries. It
-wants root, strace and libc6-dev, and the program that ./build has built or PAMSESS names.
+The reads are those of pam_listfile, of a file that stays open and of one that doesn't, at 3, 5 and 9 directories.
+What a run without them takes is subtracted. Over `/` the program runs in a chroot, so it is linked without shared
+libraries. It wants root, strace and libc6-dev, and the program that ./build has built or PAMSESS names.
 """
 import os
 import re
@@ -90,9 +90,8 @@ def main():
                 system_calls(words, script(name, CALLS), CALLS) - system_calls(words, script("none", CALLS), CALLS)
                 for words in sides.values()
             ]
-            print(
-                f"| {list(MODES)[int(number)]} | {depth} | {told[0]:.1f} | {told[1]:.1f} | {counts[0]:.0f} | {counts[1]:.0f} |"
-            )
+            cells = [list(MODES)[int(number)], depth, *(f"{it:.1f}" for it in told), *(f"{it:.0f}" for it in counts)]
+            print(f"| {' | '.join(cells)} |")
 
 
 if "-h" in sys.argv or "--help" in sys.argv:
