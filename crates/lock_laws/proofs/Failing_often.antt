@@ -9,7 +9,7 @@ use Rattle.mod_tally.specs.Faillock.{tally_name}
 use Rattle.mod_tally.specs.Recorded.{Deed, Follow, IsWith, Served, cleared, deeds_of, failures_on_file, is_written, left, recorded, recorded_by, stands_by}
 use Rattle.mod_tally.specs.Settings.{PlainSettings, settings_of}
 use Rattle.mod_tally.specs.Tally.{counting, counts, failures_of, is_locked, is_soon, latest}
-use Rattle.lock_laws.specs.Failed.{AreEnough, WrongPasswordsLock, recent}
+use Rattle.lock_laws.specs.Failed.{AreEnough, EnoughFailuresLock, WrongPasswordsLock, recent}
 use Rattle.lock_laws.specs.Locked.{LockedIsRefused}
 
 -- ---- the latest of those that count is the latest of all
@@ -125,19 +125,17 @@ module _ (s : PlainSettings) where
 
 -- ---- the next call
 
-pub wrong_passwords_lock : LockedIsRefused
-    → ((path : List ℕ) (interval : ℕ) (calls : List Served) (before after : Option (List ℕ)) (failures : List Failure) → Follow path before calls after
-    → AllByRecursion (IsWith interval) (deeds_of calls) → failures_on_file before ≡ Some failures
+pub enough_failures_lock : ((path : List ℕ) (interval : ℕ) (calls : List Served) (before after : Option (List ℕ)) (failures : List Failure)
+    → Follow path before calls after → AllByRecursion (IsWith interval) (deeds_of calls) → failures_on_file before ≡ Some failures
     → failures_on_file after ≡ Some (stands_by interval (deeds_of calls) failures))
-    → WrongPasswordsLock
-wrong_passwords_lock refuses all calls before after failures call room held sight user follow one stood enough func mode set counted at fits =
-    let s = settings_of call.args in
+    → EnoughFailuresLock
+enough_failures_lock all calls before after failures s sight user follow one stood enough counted at fits =
     let now = sight.clock.moment in
     let path = path_of sight.root (tally_name s.folder user) in
     let still = stands_by s.interval (deeds_of calls) failures in
     let are = standing_enough s now (is_written (deeds_of calls)) (deeds_of calls) failures refl enough in
     let h = holds s now after still (all path s.interval calls before after failures follow one stood) are in
-    refuses call room held sight user func mode set (record {
+    record {
       named = counted.named;
       passwd = counted.passwd;
       passwd_is = counted.passwd_is;
@@ -155,4 +153,9 @@ wrong_passwords_lock refuses all calls before after failures call room held sigh
       failures_are = h.failures_are;
       locked = enough_lock s now still are;
       none_fails = counted.none_fails;
-    })
+    }
+
+pub wrong_passwords_lock : LockedIsRefused → EnoughFailuresLock → WrongPasswordsLock
+wrong_passwords_lock refuses lock calls before after failures call room held sight user follow one stood enough func mode set counted at fits =
+    refuses call room held sight user func mode set
+    (lock calls before after failures (settings_of call.args) sight user follow one stood enough counted at fits)

@@ -15,7 +15,7 @@ use Rattle.mod_tally.specs.Faillock.{faillock_plays, is_no_file, tally_limit, ta
 use Rattle.mod_tally.specs.Recorded.{Follow, IsWith, Served, deeds_of, failures_on_file, recorded_by}
 use Rattle.mod_tally.specs.Settings.{PlainSettings, settings_of, task_among, task_word}
 use Rattle.mod_tally.specs.Tally.{counts, is_soon, latest}
-use Rattle.lock_laws.specs.Locked.{refused}
+use Rattle.lock_laws.specs.Locked.{IsLocked, refused}
 
 -- how many of these failures are less than `fail_interval` seconds before the latest of them
 abbrev pub recent : PlainSettings → List Failure → ℕ
@@ -50,8 +50,21 @@ FitsTally found = (text : List ℕ) → found ≡ Some text → length text ≤ 
 
 -- These calls of pam_faillock, which may be from many transactions, were made one after another,
 -- with one `fail_interval`, and nothing else changed the user's file. If enough of the failures
--- that they recorded, since they were last cleared, count, the next authenticate with `preauth`,
--- which finds the file as they left it, returns AUTH_ERR, takes no lock and does nothing else.
+-- that they recorded, since they were last cleared, count, the user is locked wherever the file is
+-- as they left it.
+abbrev pub EnoughFailuresLock : Type 0
+EnoughFailuresLock =
+    (calls : List Served) (before after : Option (List ℕ)) (failures : List Failure)
+    (s : PlainSettings) (sight : Sight) (user : List ℕ) →
+    let path = path_of sight.root (tally_name s.folder user) in
+    Follow path before calls after → AllByRecursion (IsWith s.interval) (deeds_of calls) →
+    failures_on_file before ≡ Some failures →
+    AreEnough s sight.clock.moment (recorded_by (deeds_of calls) failures) →
+    IsCounted s sight user → file_at path sight.files ≡ after → FitsTally after →
+    IsLocked s sight user
+
+-- Then the next authenticate with `preauth`, which finds the file as they left it, returns
+-- AUTH_ERR, takes no lock and does nothing else.
 abbrev pub WrongPasswordsLock : Type 0
 WrongPasswordsLock =
     (calls : List Served) (before after : Option (List ℕ)) (failures : List Failure)
