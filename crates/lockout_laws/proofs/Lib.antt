@@ -1,0 +1,4 @@
+mod Keeping
+mod Within
+mod Leading
+mod Denying

@@ -1,0 +1,4 @@
+//! Only a law on wrong passwords: who gave too many of them, in whatever transactions, is denied.
+#![tactic(auto)]
+
+pub mod laws;
