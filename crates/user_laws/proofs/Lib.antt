@@ -1,1 +1,7 @@
 mod Looking
+mod Asking
+mod Owning
+mod Walking
+mod Lining
+mod Calling
+mod Sparing

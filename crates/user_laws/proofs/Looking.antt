@@ -17,7 +17,7 @@ use Rattle.module_laws.specs.Tallies.{OtherFilesStay, OtherTalliesDontMatter}
 use Rattle.denial_laws.specs.Leaving.{LeavesUserAndFiles}
 use Rattle.user_laws.specs.Users.{LookSame, SameFor, UsersDontMatterToEachOther}
 
-user_there : (found : Option (List ℕ)) (user : List ℕ) (room : SeenRoom) → found ≡ Some user → room.items.user ≡ Some user
+pub user_there : (found : Option (List ℕ)) (user : List ℕ) (room : SeenRoom) → found ≡ Some user → room.items.user ≡ Some user
     → (user_or_ask found room).room.items.user ≡ Some user
 user_there None user room there is = absurd cc
 user_there (Some name) user room there is = is
@@ -39,7 +39,7 @@ same_at set at files others later laters false is same stays still before =
     let differs : set ≢ at = λ e. true≢false (sym ((bytes_eq-Decides set at).1 e) ∙ is) in
     stays differs ∙ before ∙ sym (still differs)
 
-abbrev call_at : ℕ → List (List ℕ) → PlainCall
+abbrev pub call_at : ℕ → List (List ℕ) → PlainCall
 call_at flags args = record { func = Authenticate; flags = flags; args = args }
 
 module _ (folder : List ℕ) (flags : ℕ) (args : List (List ℕ)) (room : SeenRoom) (held : List NamedData) (sight : Sight) (others : List File) (user : List ℕ)

@@ -1,6 +1,7 @@
+ghost use Rattle.user_laws.specs.Calls.{CallsWriteOwn, OthersDontMatterToCalls, TheseKeepToOwn};
 ghost use Rattle.user_laws.specs.Users.{UsersDontMatterToEachOther};
 
-// This is a law about the definitions: its contract states it.
+// Each of these is a law about the definitions: its contract states it.
 
 /// What other users have in shadow and in their tallies doesn't matter to a user whom pam_unix and
 /// pam_faillock authenticate: with other files that look the same to the user, each of these calls
@@ -13,3 +14,23 @@ pub fn users_dont_matter_to_each_other()
     module_laws::laws::other_tallies_dont_matter();
     denial_laws::laws::other_modules_leave_user_and_files();
 }
+
+/// Of all files, authenticate of pam_unix, pam_faillock, pam_permit, pam_deny, pam_debug,
+/// pam_rootok and pam_probe looks only at passwd and at the user's own entries, and changes only the
+/// user's own tally.
+pub fn these_modules_keep_to_own_entries()
+    ensures { TheseKeepToOwn }
+{
+    users_dont_matter_to_each_other();
+    module_laws::laws::other_tallies_dont_matter();
+    denial_laws::laws::other_modules_leave_user_and_files();
+}
+
+/// What other users have in shadow and in their tallies doesn't matter to `pam_authenticate(3)`
+/// over a stack of such modules: with other files that look the same to the user, it returns the
+/// same code, asks the same, leaves the same transaction, and files that look the same to the user.
+/// And it changes no file but the user's own tally.
+pub fn users_dont_matter_to_authentications()
+    ensures same { OthersDontMatterToCalls }
+    ensures others { CallsWriteOwn }
+{}
