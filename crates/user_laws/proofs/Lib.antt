@@ -5,3 +5,4 @@ mod Walking
 mod Lining
 mod Calling
 mod Sparing
+mod Interfering

@@ -24,7 +24,7 @@ user_there (Some name) user room there is = is
 
 -- ---- files that didn't change, or not where it matters
 
-same_shadow : (root : List ℕ) (files later : List File) (entries : List Shadow)
+pub same_shadow : (root : List ℕ) (files later : List File) (entries : List Shadow)
     → file_at (path_of root (codes "/etc/shadow")) later ≡ file_at (path_of root (codes "/etc/shadow")) files
     → IsShadow root files entries → IsShadow root later entries
 same_shadow root files later entries still s = record { text = s.text; text_is = still ∙ s.text_is; entries_are = s.entries_are; fits = s.fits }

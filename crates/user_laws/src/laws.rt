@@ -1,4 +1,5 @@
 ghost use Rattle.user_laws.specs.Calls.{CallsWriteOwn, OthersDontMatterToCalls, TheseKeepToOwn};
+ghost use Rattle.user_laws.specs.Logins.{LoginsDontMatter};
 ghost use Rattle.user_laws.specs.Users.{UsersDontMatterToEachOther};
 
 // Each of these is a law about the definitions: its contract states it.
@@ -34,3 +35,12 @@ pub fn users_dont_matter_to_authentications()
     ensures same { OthersDontMatterToCalls }
     ensures others { CallsWriteOwn }
 {}
+
+/// So other users don't matter who authenticate meanwhile, in whatever processes, whether they get
+/// in or fail: a user's `pam_authenticate(3)` returns the same code, asks the same, and leaves the
+/// same transaction and files that look the same to the user.
+pub fn other_logins_dont_matter()
+    ensures { LoginsDontMatter }
+{
+    users_dont_matter_to_authentications();
+}
