@@ -11,7 +11,8 @@ mod saying;
 
 use crate::program::ways_to;
 use command_line::{arguments, exit_status};
-use std::io;
+use pam_base::NoMemory;
+use std::io::{self, ErrorKind};
 use std::process::ExitCode;
 use system_objects::{FolderVault, ReaderSource, WriterSink};
 
@@ -26,6 +27,18 @@ fn run(rt: HostRuntime) -> io::Result<u8> {
     let words = arguments(&rt)?.unwrap_or(Vec::new(alloc));
     let mut source = ReaderSource::new(rt.reader());
     let mut out = WriterSink::new(io::writer(&rt));
-    let mut vault = FolderVault::new(rt);
+    let mut vault = FolderVault::below(rt, root_in(&words)).map_err(out_of_memory)?;
     Ok(ways_to(alloc, &words, &mut source, &mut out, &mut vault))
+}
+
+// The root, as pamsess takes it: links below it lead below it.
+fn root_in(words: &[String]) -> &[u8] {
+    match words {
+        [root, ..] => root.as_bytes(),
+        _ => b"/",
+    }
+}
+
+fn out_of_memory(_: NoMemory) -> io::Error {
+    ErrorKind::OutOfMemory.into()
 }
