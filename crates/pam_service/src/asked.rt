@@ -1,15 +1,14 @@
 ghost use Rattle.std.specs.Prelude.{◌≡◌, IfOk};
 ghost use Rattle.session_program.specs.Command.{command_of};
 ghost use Rattle.who_calls.specs.Request.{service_request};
-ghost use Rattle.pam_service.specs.Service.{IsOfFrames, asked_command, caller_in, wires_under};
+ghost use Rattle.frame_service.specs.Service.{IsOfFrames};
+ghost use Rattle.pam_service.specs.Service.{asked_command, caller_in};
 
+use frame_service::{NOBODY, no_words, wire_words};
 use pam_base::Text;
 use std::alloc::Global;
 use std::io;
 use who_calls::request_in;
-
-/// The caller if nothing is served: nobody.
-const NOBODY: u32 = 65_534;
 
 /// What the program is called with.
 #[derive(Drop)]
@@ -44,19 +43,8 @@ pub fn asked_of(alloc: Global, words: &[String], status: &Text) -> io::Result<As
             caller: request.caller,
         }),
         None => Ok(Asked {
-            words: Vec::new(alloc),
+            words: no_words(alloc),
             caller: NOBODY,
         }),
     }
-}
-
-// `wire ROOT`.
-fn wire_words(alloc: Global, root: &str) -> io::Result<Vec<String>>
-    ensures command { IfOk result (λ words. command_of words.items ≡ wires_under root.now) }
-    ensures frames { IfOk result (λ words. IsOfFrames (command_of words.items)) }
-{
-    let mut words = Vec::new(alloc);
-    words.push(String::from_str(alloc, "wire")?)?;
-    words.push(String::from_str(alloc, root)?)?;
-    Ok(words)
 }

@@ -2,10 +2,10 @@ use Rattle.std.proofs.Common.{◌≡◌, refl}
 use denote.Param.Object.{read_made}
 use Rattle.pam_room.specs.Module.{Player}
 use Rattle.shipped_modules.specs.Shipped.{shipped_players}
-use Rattle.pam_service.proofs.Boxes.{cons}
-use Rattle.pam_service.proofs.Waiting.{served_as}
-use Rattle.pam_service.proofs.serve.OwnLists.{own-6, at-6-1, at-6-2, at-6-3, at-6-4, at-6-5, at-6-6, at-6-7, at-6-8, at-6-9, at-6-10, at-6-11, at-6-12, at-6-13, at-6-14, at-6-15}
-use Rattle.pam_service.proofs.serve.Goals as goal
+use Rattle.frame_service.proofs.Boxes.{cons}
+use Rattle.frame_service.proofs.Waiting.{served_as}
+use Rattle.frame_service.proofs.serve.serve_frames.OwnLists.{own-6, at-6-1, at-6-2, at-6-3, at-6-4, at-6-5, at-6-6, at-6-7, at-6-8, at-6-9, at-6-10, at-6-11, at-6-12, at-6-13, at-6-14, at-6-15}
+use Rattle.frame_service.proofs.serve.serve_frames.Goals as goal
 
 pub returns-31-clause-served : goal.returns-31-clause-served
 returns-31-clause-served g c = served_as _ _ _ _ _ _ _ _ _ shipped_players c.answer_frames.ensures.served c.returns_served_wait.ensures

@@ -7,8 +7,8 @@ use Rattle.pam_room.specs.Module.{Player}
 use Rattle.session_check.specs.pam_library.specs.Slots.{PlainSlot}
 use Rattle.session_program.specs.ByCommand.{Around, Object, WiresSo, setup_of}
 use Rattle.session_program.specs.Command.{Command}
-use Rattle.pam_service.specs.Service.{served_wait}
-use Rattle.pam_service.specs.Serving.{ServesFrames}
+use Rattle.frame_service.specs.Service.{served_wait}
+use Rattle.frame_service.specs.Serving.{ServesFrames}
 
 waits : (Post : Code → ℕ → ℕ → Type 0) → IsNumberGiven Post served_wait → (number : Code → ℕ → ℕ) → number ≡ served_wait → IsNumberGiven Post number
 waits Post given number same = subst (IsNumberGiven Post) (sym same) given

@@ -1,0 +1,11 @@
+//! The frames of docs/wire.md, served: what `pam_service` and `pam_service_user` share. Begin at `serve.rt`.
+#![tactic(auto)]
+
+mod conversations;
+mod serve;
+mod wait;
+mod words;
+
+pub use conversations::{Conversations, ConversationsTold, TRANSACTIONS};
+pub use serve::serve_frames;
+pub use words::{NOBODY, no_words, system_text, wire_words, words_of};

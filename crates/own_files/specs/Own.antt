@@ -1,0 +1,51 @@
+-- What a store shows of the files of another one to one user (this project's own).
+use Rattle.std.specs.Prelude.{◌≡◌, ◌⊎◌, ℕ, ◌<◌, Bool, true, false, List, length, None, Result, Ok, Err, IsSomeAnd}
+use Rattle.pam_outside.specs.declared.vault.VaultFault.{VaultFault}
+use Rattle.pam_outside.specs.declared.vault.VaultFault.TheVariants as read_faults
+use Rattle.pam_outside.specs.Files.{VaultState, ReadsFile, file_at, is_failing}
+use Rattle.own_files.specs.Lines.{own_lines}
+use Rattle.own_files.specs.Paths.{is_of_shadow, is_shadow}
+
+-- a store, the user that it is for, and how often it has failed
+pub record OwnStore (V : Type 0) : Type 0 where
+  pub inner : V
+  pub user : List ℕ
+  pub faults : ℕ
+
+-- nothing but lines of this user
+pub record IsOwn (user text : List ℕ) : Type 0 where
+  pub whole : List ℕ
+  pub is : text ≡ own_lines user whole
+
+-- what was read at a path, by whether it is the shadow file's, and whether shadow stands in it
+abbrev pub ShownBy : Bool → Bool → List ℕ → List ℕ → Type 0
+ShownBy true of_shadow user text = IsOwn user text
+ShownBy false true user text = ⊥
+ShownBy false false user text = Unit {0}
+
+-- of the shadow file there is nothing but lines of this user, and no other file of the kind was read
+abbrev pub IsShown : List ℕ → List ℕ → List ℕ → Type 0
+IsShown user path text = ShownBy (is_shadow path) (is_of_shadow path) user text
+
+-- the result of reading the shadow file, if the files are known: the user's lines of it
+abbrev pub ReadsOwn : Result (List ℕ) VaultFault → List ℕ → List ℕ → ℕ → VaultState → Type 0
+ReadsOwn (Ok text) user path limit s = (is_failing s ≡ false)
+    × IsSomeAnd (file_at path s.files) (λ whole. text ≡ own_lines user whole)
+ReadsOwn (Err read_faults.Absent) user path limit s = (is_failing s ≡ false)
+    × (file_at path s.files ≡ None)
+ReadsOwn (Err read_faults.TooLong) user path limit s = (is_failing s ≡ false)
+    × IsSomeAnd (file_at path s.files) (λ whole.
+    (limit < length whole) ⊎ (limit < length (own_lines user whole)))
+ReadsOwn (Err read_faults.Failed) user path limit s = is_failing s ≡ true
+ReadsOwn (Err read_faults.NoMemory) user path limit s = is_failing s ≡ false
+
+abbrev pub ReadsBy : Bool → Bool → Result (List ℕ) VaultFault → List ℕ → List ℕ → ℕ → VaultState
+    → Type 0
+ReadsBy true of_shadow result user path limit s = ReadsOwn result user path limit s
+ReadsBy false true result user path limit s = result ≡ Err read_faults.Failed
+ReadsBy false false result user path limit s = ReadsFile result path limit s
+
+-- the result of any reading, if the files are known
+abbrev pub ReadsShown : Result (List ℕ) VaultFault → List ℕ → List ℕ → ℕ → VaultState → Type 0
+ReadsShown result user path limit s =
+    ReadsBy (is_shadow path) (is_of_shadow path) result user path limit s

@@ -1,0 +1,227 @@
+ghost use Rattle.std.specs.Prelude.{◌≡◌, ◌≢◌, ◌≤◌, ℕ, List, [], Some, false, true, length, IsTrue, IfOk, OnOk, Err};
+ghost use Rattle.pam_outside.specs.Counts.{Rose, next_count};
+ghost use Rattle.pam_outside.specs.Files.{ReadsFile, TellsFolder, Replaces, TakesLock, counted, file_at, no_locks, unlocked};
+ghost use Rattle.own_files.specs.Own.{IsOwn, IsShown, ReadsOwn, ReadsShown};
+
+use crate::lines::own_lines;
+use crate::paths::{is_of_shadow, is_shadow};
+use pam_base::{NoMemory, Text};
+use pam_outside::{Held, LockKind, ReplaceFault, Vault, VaultFault};
+use std::alloc::Global;
+use std::marker::Model;
+
+/// The files of another store, as far as a user may see them who has a password in `/etc/shadow`: of that file only his own
+/// lines, and no other file whose path has `shadow` in it. Nothing is ever replaced or locked. Only its failures are
+/// modelled; `read` says what it shows of a modelled store below it.
+#[derive(Drop)]
+pub struct OwnFiles<V: Vault> {
+    inner: V,
+    /// The user; if it is empty, no line is his.
+    user: Text,
+    faults: u64,
+}
+
+impl<V: Vault> Model for OwnFiles<V> {
+    ghost use Rattle.own_files.specs.Own.{OwnStore};
+
+    ghost Value = { OwnStore V };
+
+    ghost view = { λ o. record { inner = o.inner; user = o.user; faults = o.faults } };
+}
+
+impl<V: Vault> OwnFiles<V> {
+    /// The files of `inner` for a user. It hasn't failed yet.
+    pub fn new(inner: V, user: Text) -> Self
+        ensures { result ≡ record { inner = inner; user = user; faults = 0 } }
+    {
+        OwnFiles {
+            inner,
+            user,
+            faults: 0,
+        }
+    }
+
+    // Reads the file, and shows of it what the user may see.
+    fn shown(&mut self, alloc: Global, path: &[u8], limit: u32) -> Result<Text, VaultFault>
+        ensures bound { IfOk result (λ text. length text ≤ limit) }
+        ensures user { self.new.user ≡ self.old.user }
+        ensures faults { self.new.faults ≡ self.old.faults }
+        ensures shown { IfOk result (λ text. IsShown self.old.user path.now text) }
+        ensures shows { IsTrue (V.vault_tells self.old.inner) →
+            ReadsShown result self.old.user path.now limit (V.vault_holds self.old.inner) }
+        ensures files { IsTrue (V.vault_tells self.old.inner) →
+            (V.vault_holds self.new.inner).files ≡ (V.vault_holds self.old.inner).files }
+    {
+        if is_shadow(path) {
+            return own_part(alloc, &mut self.inner, self.user.bytes(), path, limit);
+        }
+        if is_of_shadow(path) {
+            return Err(VaultFault::Failed);
+        }
+        self.inner.read(alloc, path, limit)
+    }
+}
+
+// The lines of this user in the shadow file at this path.
+fn own_part<V: Vault>(
+    alloc: Global,
+    inner: &mut V,
+    user: &[u8],
+    path: &[u8],
+    limit: u32,
+) -> Result<Text, VaultFault>
+    ensures bound { IfOk result (λ text. length text ≤ limit) }
+    ensures own { IfOk result (λ text. IsOwn user.now text) }
+    ensures told { IsTrue (V.vault_tells inner.old) →
+        ReadsOwn result user.now path.now limit (V.vault_holds inner.old) }
+    ensures tells { V.vault_tells inner.new ≡ V.vault_tells inner.old }
+    ensures counts { IsTrue (V.vault_tells inner.old) →
+        V.vault_holds inner.new ≡ counted (V.vault_holds inner.old) }
+{
+    let whole = inner.read(alloc, path, limit)?;
+    let own = match own_lines(alloc, user, whole.bytes()) {
+        Ok(own) => own,
+        Err(NoMemory) => return Err(VaultFault::NoMemory),
+    };
+    if own.len() > limit as usize {
+        return Err(VaultFault::TooLong);
+    }
+    Ok(own)
+}
+
+impl<V: Vault> Vault for OwnFiles<V> {
+    ghost vault_tells = { λ o. false };
+
+    // never modelled
+    ghost vault_holds = { λ o. record { files = []; locks = no_locks; calls = 0; fails = [] } };
+
+    ghost vault_faults = { λ o. o.faults };
+
+    /// The shadow file's lines of the user, if that file has at most `limit` bytes. Failed is returned for every other
+    /// file of the group `shadow`, and as the store below returns it.
+    fn read(&mut self, alloc: Global, path: &[u8], limit: u32) -> Result<Text, VaultFault>
+        ensures bound { IfOk result (λ text. length text ≤ limit) }
+        ensures tells { ⟦<OwnFiles<V> as Vault>⟧.vault_tells self.new ≡
+            ⟦<OwnFiles<V> as Vault>⟧.vault_tells self.old }
+        ensures told { IsTrue (⟦<OwnFiles<V> as Vault>⟧.vault_tells self.old) →
+            ReadsFile result path.now limit (⟦<OwnFiles<V> as Vault>⟧.vault_holds self.old) }
+        ensures counts { IsTrue (⟦<OwnFiles<V> as Vault>⟧.vault_tells self.old) →
+            ⟦<OwnFiles<V> as Vault>⟧.vault_holds self.new ≡ counted
+            (⟦<OwnFiles<V> as Vault>⟧.vault_holds self.old) }
+        ensures faults { ⟦<OwnFiles<V> as Vault>⟧.vault_faults self.old ≤
+            ⟦<OwnFiles<V> as Vault>⟧.vault_faults self.new }
+        ensures failed { result ≡ Err VaultFault.Failed →
+            Rose (⟦<OwnFiles<V> as Vault>⟧.vault_faults self.old)
+            (⟦<OwnFiles<V> as Vault>⟧.vault_faults self.new) }
+        ensures no_fault { result ≢ Err VaultFault.Failed →
+            ⟦<OwnFiles<V> as Vault>⟧.vault_faults self.new ≡
+            ⟦<OwnFiles<V> as Vault>⟧.vault_faults self.old }
+        ensures user { self.new.user ≡ self.old.user }
+        ensures shown { IfOk result (λ text. IsShown self.old.user path.now text) }
+        ensures shows { IsTrue (V.vault_tells self.old.inner) →
+            ReadsShown result self.old.user path.now limit (V.vault_holds self.old.inner) }
+        ensures files { IsTrue (V.vault_tells self.old.inner) →
+            (V.vault_holds self.new.inner).files ≡ (V.vault_holds self.old.inner).files }
+    {
+        let result = self.shown(alloc, path, limit);
+        if let Err(VaultFault::Failed) = result {
+            self.faults = self.faults.saturating_add(1);
+        }
+        result
+    }
+
+    /// As the store below says.
+    fn folder(&mut self, alloc: Global, path: &[u8]) -> Result<bool, ReplaceFault>
+        ensures tells { ⟦<OwnFiles<V> as Vault>⟧.vault_tells self.new ≡
+            ⟦<OwnFiles<V> as Vault>⟧.vault_tells self.old }
+        ensures told { IsTrue (⟦<OwnFiles<V> as Vault>⟧.vault_tells self.old) →
+            TellsFolder result path.now (⟦<OwnFiles<V> as Vault>⟧.vault_holds self.old) }
+        ensures counts { IsTrue (⟦<OwnFiles<V> as Vault>⟧.vault_tells self.old) →
+            ⟦<OwnFiles<V> as Vault>⟧.vault_holds self.new ≡ counted
+            (⟦<OwnFiles<V> as Vault>⟧.vault_holds self.old) }
+        ensures faults { ⟦<OwnFiles<V> as Vault>⟧.vault_faults self.old ≤
+            ⟦<OwnFiles<V> as Vault>⟧.vault_faults self.new }
+        ensures failed { result ≡ Err ReplaceFault.Failed →
+            Rose (⟦<OwnFiles<V> as Vault>⟧.vault_faults self.old)
+            (⟦<OwnFiles<V> as Vault>⟧.vault_faults self.new) }
+        ensures no_fault { result ≢ Err ReplaceFault.Failed →
+            ⟦<OwnFiles<V> as Vault>⟧.vault_faults self.new ≡
+            ⟦<OwnFiles<V> as Vault>⟧.vault_faults self.old }
+        ensures user { self.new.user ≡ self.old.user }
+        ensures shows { IsTrue (V.vault_tells self.old.inner) →
+            TellsFolder result path.now (V.vault_holds self.old.inner) }
+        ensures files { IsTrue (V.vault_tells self.old.inner) →
+            (V.vault_holds self.new.inner).files ≡ (V.vault_holds self.old.inner).files }
+    {
+        let result = self.inner.folder(alloc, path);
+        if let Err(ReplaceFault::Failed) = result {
+            self.faults = self.faults.saturating_add(1);
+        }
+        result
+    }
+
+    /// Failed is returned, and the store below isn't called.
+    fn replace(&mut self, _alloc: Global, _path: &[u8], _bytes: &[u8]) -> Result<(), ReplaceFault>
+        ensures tells { ⟦<OwnFiles<V> as Vault>⟧.vault_tells self.new ≡
+            ⟦<OwnFiles<V> as Vault>⟧.vault_tells self.old }
+        ensures told { IsTrue (⟦<OwnFiles<V> as Vault>⟧.vault_tells self.old) →
+            Replaces result _path.now _bytes.now (⟦<OwnFiles<V> as Vault>⟧.vault_holds self.old)
+            (⟦<OwnFiles<V> as Vault>⟧.vault_holds self.new) }
+        ensures found { IsTrue (⟦<OwnFiles<V> as Vault>⟧.vault_tells self.old) →
+            OnOk result
+            (file_at _path.now
+            (⟦<OwnFiles<V> as Vault>⟧.vault_holds self.new).files ≡ Some _bytes.now) }
+        ensures others { IsTrue (⟦<OwnFiles<V> as Vault>⟧.vault_tells self.old) →
+            (other : List ℕ) → other ≢ _path.now →
+            file_at other (⟦<OwnFiles<V> as Vault>⟧.vault_holds self.new).files ≡ file_at other
+            (⟦<OwnFiles<V> as Vault>⟧.vault_holds self.old).files }
+        ensures faults { ⟦<OwnFiles<V> as Vault>⟧.vault_faults self.old ≤
+            ⟦<OwnFiles<V> as Vault>⟧.vault_faults self.new }
+        ensures failed { result ≡ Err ReplaceFault.Failed →
+            Rose (⟦<OwnFiles<V> as Vault>⟧.vault_faults self.old)
+            (⟦<OwnFiles<V> as Vault>⟧.vault_faults self.new) }
+        ensures no_fault { result ≢ Err ReplaceFault.Failed →
+            ⟦<OwnFiles<V> as Vault>⟧.vault_faults self.new ≡
+            ⟦<OwnFiles<V> as Vault>⟧.vault_faults self.old }
+        ensures refused { result ≡ Err ReplaceFault.Failed }
+        ensures untouched { self.new ≡ record self.old { faults = next_count self.old.faults } }
+    {
+        self.faults = self.faults.saturating_add(1);
+        Err(ReplaceFault::Failed)
+    }
+
+    /// Failed is returned, and the store below isn't called: a lock would be a file that is made, and would keep others out.
+    fn hold(&mut self, _alloc: Global, _path: &[u8], _kind: LockKind) -> Result<Held, ReplaceFault>
+        ensures held { IfOk result (λ held. held ≡ true) }
+        ensures tells { ⟦<OwnFiles<V> as Vault>⟧.vault_tells self.new ≡
+            ⟦<OwnFiles<V> as Vault>⟧.vault_tells self.old }
+        ensures told { IsTrue (⟦<OwnFiles<V> as Vault>⟧.vault_tells self.old) →
+            TakesLock result _path.now _kind (⟦<OwnFiles<V> as Vault>⟧.vault_holds self.old)
+            (⟦<OwnFiles<V> as Vault>⟧.vault_holds self.new) }
+        ensures faults { ⟦<OwnFiles<V> as Vault>⟧.vault_faults self.old ≤
+            ⟦<OwnFiles<V> as Vault>⟧.vault_faults self.new }
+        ensures failed { result ≡ Err ReplaceFault.Failed →
+            Rose (⟦<OwnFiles<V> as Vault>⟧.vault_faults self.old)
+            (⟦<OwnFiles<V> as Vault>⟧.vault_faults self.new) }
+        ensures no_fault { result ≢ Err ReplaceFault.Failed →
+            ⟦<OwnFiles<V> as Vault>⟧.vault_faults self.new ≡
+            ⟦<OwnFiles<V> as Vault>⟧.vault_faults self.old }
+        ensures refused { result ≡ Err ReplaceFault.Failed }
+        ensures untouched { self.new ≡ record self.old { faults = next_count self.old.faults } }
+    {
+        self.faults = self.faults.saturating_add(1);
+        Err(ReplaceFault::Failed)
+    }
+
+    /// Nothing happens, since no lock was taken here.
+    fn let_go(&mut self, _held: Held)
+        ensures tells { ⟦<OwnFiles<V> as Vault>⟧.vault_tells self.new ≡
+            ⟦<OwnFiles<V> as Vault>⟧.vault_tells self.old }
+        ensures told { IsTrue (⟦<OwnFiles<V> as Vault>⟧.vault_tells self.old) →
+            ⟦<OwnFiles<V> as Vault>⟧.vault_holds self.new ≡
+            unlocked _held (⟦<OwnFiles<V> as Vault>⟧.vault_holds self.old) }
+        ensures faults { ⟦<OwnFiles<V> as Vault>⟧.vault_faults self.new ≡
+            ⟦<OwnFiles<V> as Vault>⟧.vault_faults self.old }
+        ensures untouched { self.new ≡ self.old }
+    {}
+}

@@ -1,0 +1,142 @@
+//! `pam_service_user`: `pam_service` for an ordinary user's programs, such as screen lockers. The C library of libpam starts
+//! it if its caller isn't root. It is installed with the setgid bit, for the group `shadow`, so whoever starts it has no
+//! choice: it takes no arguments, its files are those of `/`, its calls are made for its real user, and of `/etc/shadow` it
+//! sees that user's lines alone, and writes nothing.
+//!
+//! Begin at `run`; `serve_user` has the contract, and that of `own_files::OwnFiles` says what it sees of files.
+#![tactic(auto)]
+
+mod asked;
+
+ghost use Rattle.std.specs.Prelude.{◌≡◌, [], false, true, IfOk, codes, length};
+ghost use Rattle.session_login.specs.session_run.specs.pam_handle.specs.Plain.{in_box};
+ghost use Rattle.session_program.specs.ByCommand.{object_of, setup_of};
+ghost use Rattle.session_program.specs.Command.{command_of};
+ghost use Rattle.shipped_modules.specs.Shipped.{shipped_players};
+ghost use Rattle.who_calls.specs.Request.{real_user};
+ghost use Rattle.who_calls.specs.Status.{ids_in};
+ghost use Rattle.frame_service.specs.Service.{IsOfFrames, StatusOf, served_wait};
+ghost use Rattle.frame_service.specs.Serving.{ServesFrames};
+ghost use Rattle.pam_service_user.specs.Own.{own_command};
+
+use crate::asked::{Asked, asked_of};
+use command_line::{NO_STREAMS, exit_status, reserve_streams};
+use frame_service::{
+    Conversations, ConversationsTold, TRANSACTIONS, serve_frames, system_text, words_of,
+};
+use front_conv::FrontConv;
+use own_files::OwnFiles;
+use pam_base::Text;
+use pam_outside::{Clock, MAX_FILE, Nap, NapSum, Sink, Source, Vault};
+use pam_room::conv_port::{Conv, TermConv, WireConv};
+use pam_room::{Process, World};
+use session_program::{Outside, OutsideTold, TimeOfDay};
+use shipped_modules::SystemTime;
+use std::alloc::Global;
+use std::io;
+use std::process::ExitCode;
+use system_objects::{FolderVault, ReaderSource, RealClock, WriterSink};
+
+/// The file that has a process's own user and group IDs.
+const STATUS: &str = "/proc/self/status";
+
+/// The maximum number of bytes of that file that are read.
+const MAX_STATUS: u32 = 65_536;
+
+/// The file that has the users' names.
+const PASSWD: &str = "/etc/passwd";
+
+fn main(rt: HostRuntime) -> ExitCode {
+    ExitCode::from(exit_status(run(rt)))
+}
+
+// Reads what the system says about the process and its user, makes the streams, the conversation with the front end for
+// transaction 1, and the world, with the user's own files alone, and serves the user.
+fn run(rt: HostRuntime) -> io::Result<u8> {
+    let alloc = rt.alloc();
+    let _streams = match reserve_streams(&rt) {
+        Ok(streams) => streams,
+        Err(_) => return Ok(NO_STREAMS),
+    };
+    let words = words_of(&rt)?;
+    let status = system_text(rt, STATUS, MAX_STATUS);
+    let passwd = system_text(rt, PASSWD, MAX_FILE);
+    let Asked {
+        words: command,
+        caller,
+        user,
+    } = asked_of(alloc, &words, &status, passwd)?;
+    let mut script = ReaderSource::new(rt.reader());
+    let mut out = WriterSink::new(io::writer(&rt));
+    let term: Box<dyn Conv> = Box::new(alloc, TermConv::new(rt.stdin(), rt.stderr()))?;
+    let mut convs: Vec<Box<dyn Conv>> = Vec::new(alloc);
+    for _ in 0..TRANSACTIONS {
+        let conv: Box<dyn Conv> = Box::new(alloc, WireConv::new(alloc))?;
+        convs.push(conv)?;
+    }
+    convs[0] = Box::new(alloc, FrontConv::new(rt.stdin(), rt.stdout()))?;
+    let vault: Box<dyn Vault> = Box::new(alloc, files_of(rt, user))?;
+    let clock: Box<dyn Clock> = Box::new(alloc, RealClock::new(rt))?;
+    let nap: Box<dyn Nap> = Box::new(alloc, NapSum::new())?;
+    let mut world = World {
+        vault,
+        clock,
+        nap,
+        process: Process::new(alloc, Text::new(alloc), caller),
+    };
+    let time: Box<dyn TimeOfDay> = Box::new(alloc, SystemTime::new(rt))?;
+    let talks = Conversations {
+        convs,
+        term,
+        time: Some(time),
+    };
+    serve_user(
+        alloc,
+        &words,
+        &status,
+        &command,
+        talks,
+        &mut script,
+        &mut out,
+        &mut world,
+    )
+}
+
+// The files of the system, as far as this user may see them.
+fn files_of(rt: HostRuntime, user: Text) -> OwnFiles<FolderVault>
+    ensures user { result.user ≡ user }
+{
+    OwnFiles::new(FolderVault::new(rt), user)
+}
+
+// Serves the calls of a front end for the real user that this text of /proc/self/status gives, over the files and the
+// clock of the system.
+fn serve_user<S: Source, K: Sink>(
+    alloc: Global,
+    words: &[String],
+    said: &Text,
+    command: &[String],
+    talks: Conversations,
+    script: &mut S,
+    out: &mut K,
+    world: &mut World,
+) -> io::Result<u8>
+    requires command { command_of command.now ≡ own_command words.now }
+    requires caller { world.old.process.caller ≡ real_user (ids_in said.now (codes "Uid:")) }
+    requires files { vault_tells (in_box world.old.vault) ≡ false }
+    requires clock { clock_tells (in_box world.old.clock) ≡ false }
+    requires time { ⟦<Conversations as ConversationsTold>⟧.has_time talks ≡ true }
+    requires frames { IsOfFrames (command_of command.now) }
+    requires sixteen { length talks.convs.items ≡ 16 }
+    requires no_births { world.old.process.ledger.births ≡ [] }
+    requires no_receipts { world.old.process.ledger.filed ≡ [] }
+    ensures status { IfOk result (λ status. StatusOf (own_command words.now) status) }
+    ensures served { IfOk result (λ status. ServesFrames (own_command words.now) status
+        (setup_of shipped_players (⟦<Conversations as ConversationsTold>⟧.slots talks)
+        (λ number. number ≡ served_wait) (⟦<Conversations as ConversationsTold>⟧.tells talks))
+        (⟦<Outside as OutsideTold>⟧.around world.old world.new)
+        (object_of S.source_tells S.source_holds S.source_faults script.old script.new)
+        (object_of K.sink_tells K.sink_holds K.sink_faults out.old out.new)) }
+{
+    serve_frames(alloc, command, talks, script, out, world)
+}
