@@ -1,15 +1,15 @@
 #!/bin/sh
 # What a start and a pass cost by themselves, in instructions for a line: calls of the library without a script and a report, over a
-# service in memory, counted by callgrind (valgrind). The program is that of the crate library_bench, or the one that the variable
+# service in memory, counted by callgrind (valgrind). The program is that of the crate bench_library, or the one that the variable
 # LIBRARY_BENCH names. What a run without that repetition takes is taken off.
 set -eu
 case ${1-} in
     -h | --help) sed -n '2,/^[^#]/s/^# \{0,1\}//p' "$0" && exit ;;
 esac
 cd "$(dirname "$0")/.."
-program=${LIBRARY_BENCH-$PWD/$(lib/program library_bench)}
+program=${LIBRARY_BENCH-$PWD/$(lib/program bench_library)}
 command -v valgrind >/dev/null || { echo "library.sh: there is no valgrind" >&2; exit 1; }
-[ -x "$program" ] || { echo "library.sh: no program is built: (cd crates/library_bench && rt run -- 1 1 1) builds it" >&2; exit 1; }
+[ -x "$program" ] || { echo "library.sh: no program is built: (cd crates/bench_library && rt run -- 1 1 1) builds it" >&2; exit 1; }
 
 # The instructions of a run with these words: lines, starts, passes.
 instructions() {

@@ -30,8 +30,8 @@ sys.path.insert(1, __file__.rpartition("/")[0] + "/../docs")
 from sources import files_below, stands_on, text_of
 
 NINE = (
-    "dispatch_core pam_handle pam_library session_report session_run session_login session_check session_generate "
-    "session_program"
+    "dispatch_core pam_handle pam_library report_step cmd_run cmd_login cmd_check cmd_generate "
+    "cmd_all"
 ).split()
 CALLS = ("Authenticate", "SetCred", "AcctMgmt", "OpenSession", "CloseSession", "ChAuthTok")
 WAY = (

@@ -27,11 +27,11 @@ def modules(all_pages, all_crates):
 
 
 def returned(all_pages, all_crates):
-    """modules.table has each code that a module may return by the laws of code_laws, or `any`."""
+    """modules.table has each code that a module may return by the laws of laws_code, or `any`."""
     words = dict(re.findall(r'^name_of (\w+) = codes "(\w+)"', text_of("crates/pam_base/specs/Code.antt"), re.M))
     words.update(re.findall(r'^code_word (\w+) = codes "(\w+)"', text_of("crates/pam_base/specs/Code.antt"), re.M))
     equations = {}
-    for line in re.sub(r"\n +", " ", text_of("crates/code_laws/specs/Codes.antt")).splitlines():
+    for line in re.sub(r"\n +", " ", text_of("crates/laws_code/specs/Codes.antt")).splitlines():
         if found := re.fullmatch(r"(\w+)((?: \w+)*) = (.*)", line):
             equations.setdefault(found[1], []).append((found[2].split(), found[3]))
     functions = {"auth": "Authenticate", "account": "AcctMgmt", "password": "ChAuthTok", "session": "OpenSession"}
@@ -48,7 +48,7 @@ def returned(all_pages, all_crates):
         codes = re.findall(r"returns\.(\w+)", said)
         return {words[one].lower() for one in codes} if codes else listed(chosen(said, function), function)
 
-    laws, rows = text_of("crates/code_laws/src/laws.rt"), {}
+    laws, rows = text_of("crates/laws_code/src/laws.rt"), {}
     for line in text_of("modules.table").splitlines():
         if line and not line.startswith("#"):
             name, rule_type, _, codes, _ = line.split(" ")
@@ -63,7 +63,7 @@ def returned(all_pages, all_crates):
             row, has = rows[name, one], listed(codes, function)
             named = set(row.removeprefix("!").split(","))
             lacks = set() if row == "any" else has & named if row.startswith("!") else has - named
-            yield from (f"modules.table: {name} {one} lacks {code}, see code_laws" for code in sorted(lacks))
+            yield from (f"modules.table: {name} {one} lacks {code}, see laws_code" for code in sorted(lacks))
 
 
 def module_names():

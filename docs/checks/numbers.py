@@ -116,7 +116,7 @@ def limits(page):
 def usage_forms():
     """The forms of the program's usage line, as words in lower case."""
     said = re.search(
-        r'"usage: pamsess (.*)\\n"', "".join(text_of(path) for path in files_below("crates/session_program/src", ".rt"))
+        r'"usage: pamsess (.*)\\n"', "".join(text_of(path) for path in files_below("crates/cmd_all/src", ".rt"))
     )
     return [form.lower().split() for form in said[1].split(" | ")] if said else []
 

@@ -15,10 +15,10 @@ use Rattle.session_audit.specs.service_load.specs.Tree.{tree}
 use Rattle.explain_origins.specs.Placed.{sources_at}
 use Rattle.explain_report.specs.explain_lines.specs.Origins.{Sources}
 use Rattle.explain.specs.declared.explaining.Output.{Output}
-use Rattle.transcript_audit.specs.declared.transcript.Transcript.{Transcript}
-use Rattle.transcript_audit.specs.declared.transcript.Transcript.TheVariants.{Whole, TooLong, Unread}
+use Rattle.cmd_audit.specs.declared.transcript.Transcript.{Transcript}
+use Rattle.cmd_audit.specs.declared.transcript.Transcript.TheVariants.{Whole, TooLong, Unread}
 use Rattle.explain.specs.Explained.{Explains, ExplainsBy, IsExplained, OrUnread, Written, explained_of, refused_explained, unread_explained}
-use Rattle.transcript_audit.specs.Transcript.{IsRead, IsShort, is_unread}
+use Rattle.cmd_audit.specs.Transcript.{IsRead, IsShort, is_unread}
 use Rattle.explain.specs.Program.{Answers, Asked, Ends, Exits, ExplainsIf, ExplainsInput, ExplainsRead, IsOutputOfInput, IsOutputOfRead, too_long_written, usage_written}
 
 -- ---- what was read

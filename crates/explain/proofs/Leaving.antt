@@ -10,10 +10,10 @@ use Rattle.session_audit.specs.Fits.{all_shut}
 use Rattle.session_audit.specs.Whole.{lines_read}
 use Rattle.explain_report.specs.Report.{explained_from}
 use Rattle.explain.specs.declared.explaining.Output.{Output}
-use Rattle.transcript_audit.specs.declared.transcript.Transcript.{Transcript}
-use Rattle.transcript_audit.specs.declared.transcript.Transcript.TheVariants.{Whole, TooLong, Unread}
+use Rattle.cmd_audit.specs.declared.transcript.Transcript.{Transcript}
+use Rattle.cmd_audit.specs.declared.transcript.Transcript.TheVariants.{Whole, TooLong, Unread}
 use Rattle.explain.specs.Explained.{IsExplained, IsOutputOf, IsOutputBy, explained_by}
-use Rattle.transcript_audit.specs.Transcript.{is_unread}
+use Rattle.cmd_audit.specs.Transcript.{is_unread}
 use Rattle.explain.specs.Program.{Asked, Causes, Leaves, IsOutputOfInput, IsOutputOfRead, usage_written}
 
 module _ (input_before input_now before now : ℕ) where

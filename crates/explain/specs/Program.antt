@@ -5,11 +5,11 @@ use Rattle.pam_outside.specs.Counts.{Rose, RisesIf}
 use Rattle.pam_outside.specs.Files.{VaultState}
 use Rattle.pam_outside.specs.Streams.{SinkState}
 use Rattle.explain.specs.declared.explaining.Output.{Output}
-use Rattle.transcript_audit.specs.declared.transcript.Transcript.{Transcript}
-use Rattle.transcript_audit.specs.declared.transcript.Transcript.TheVariants.{Whole, TooLong, Unread}
+use Rattle.cmd_audit.specs.declared.transcript.Transcript.{Transcript}
+use Rattle.cmd_audit.specs.declared.transcript.Transcript.TheVariants.{Whole, TooLong, Unread}
 use Rattle.explain.specs.declared.program.Target.{Target}
 use Rattle.explain.specs.Explained.{Written, written, IsExplained, Explains, IsOutputOf, unread_explained}
-use Rattle.transcript_audit.specs.Transcript.{is_unread}
+use Rattle.cmd_audit.specs.Transcript.{is_unread}
 
 -- ---- the arguments
 

@@ -1,15 +1,15 @@
 ghost use Rattle.std.specs.Prelude.{◌≡◌, ◌≢◌, ◌⊎◌, None, Some, IsTrue, IfOk};
 ghost use Rattle.pam_outside.specs.Counts.{Rose};
 ghost use Rattle.session_audit.specs.service_load.specs.Loading.{OnlyCalls};
-ghost use Rattle.transcript_audit.specs.Transcript.{IsShort};
+ghost use Rattle.cmd_audit.specs.Transcript.{IsShort};
 ghost use Rattle.explain.specs.Explained.{IsExplained, Written};
 ghost use Rattle.explain.specs.Program.{Answers, Causes, Ends, Exits, ExplainsInput, ExplainsRead, Leaves, IsOutputOfInput, IsOutputOfRead, asked, asked_of};
 
 use crate::explaining::{Output, explanation, line_by, unread};
+use cmd_audit::{Transcript, read_transcript};
 use pam_base::{Failed, NoMemory};
 use pam_outside::{Sink, Source, Vault, write_all};
 use std::alloc::Global;
-use transcript_audit::{Transcript, read_transcript};
 
 const USAGE: u8 = 2;
 

@@ -4,9 +4,9 @@ use Rattle.pam_base.specs.declared.code.Code.{Code}
 use Rattle.fail_delay.specs.DelayFn.{IsNumberGiven}
 use Rattle.pam_outside.specs.Streams.{SourceState, SinkState}
 use Rattle.pam_room.specs.Module.{Player}
-use Rattle.session_check.specs.pam_library.specs.Slots.{PlainSlot}
-use Rattle.session_program.specs.ByCommand.{Around, Object, WiresSo, setup_of}
-use Rattle.session_program.specs.Command.{Command}
+use Rattle.cmd_check.specs.pam_library.specs.Slots.{PlainSlot}
+use Rattle.cmd_all.specs.ByCommand.{Around, Object, WiresSo, setup_of}
+use Rattle.cmd_all.specs.Command.{Command}
 use Rattle.frame_service.specs.Service.{served_wait}
 use Rattle.frame_service.specs.Serving.{ServesFrames}
 

@@ -2,8 +2,8 @@
 use Rattle.std.specs.Prelude.{◌≡◌, ◌⊎◌, ℕ, min, if◌then◌else◌, List, Option, Some, None}
 use Rattle.pam_base.specs.declared.code.Code.{Code}
 use Rattle.pam_base.specs.declared.code.Code.TheVariants as results
-use Rattle.session_program.specs.Command.{Command, runs, checks, logs_in, generates, tallies, audits, wires, is_operand}
-use Rattle.session_program.specs.Wire.{IsWireStatus}
+use Rattle.cmd_all.specs.Command.{Command, runs, checks, logs_in, generates, tallies, audits, wires, is_operand}
+use Rattle.cmd_all.specs.Wire.{IsWireStatus}
 
 -- frames under a root; none if it can't be one
 abbrev pub wires_under : List ℕ → Option Command

@@ -2,9 +2,9 @@
 use Rattle.std.specs.Prelude.{◌≡◌, ℕ, List, Option, Some}
 use Rattle.pam_outside.specs.Streams.{SourceState, SinkState}
 use Rattle.pam_room.specs.Module.{notes_of}
-use Rattle.session_program.specs.ByCommand.{Around, GoesBy, Object, ReadCauses, Setup, WiresSo, WriteCauses}
-use Rattle.session_program.specs.CleanedUp.{IsCleanedUp, MayEnd}
-use Rattle.session_program.specs.Command.{Command, wires}
+use Rattle.cmd_all.specs.ByCommand.{Around, GoesBy, Object, ReadCauses, Setup, WiresSo, WriteCauses}
+use Rattle.cmd_all.specs.CleanedUp.{IsCleanedUp, MayEnd}
+use Rattle.cmd_all.specs.Command.{Command, wires}
 
 -- a run with this setup, by its exit status
 pub record ServesFrames (asked : Option Command) (status : ℕ) (setup : Setup) (world : Around)

@@ -1,5 +1,5 @@
+use cmd_all::TimeOfDay;
 use pam_room::conv_port::Conv;
-use session_program::TimeOfDay;
 
 /// How many transactions may be open at a time, each with a conversation.
 pub const TRANSACTIONS: usize = 16;
@@ -15,7 +15,7 @@ pub struct Conversations {
 /// What contracts see of `Conversations`.
 pub trait ConversationsTold {
     ghost use Rattle.std.specs.Prelude.{Bool, List};
-    ghost use Rattle.session_check.specs.pam_library.specs.Slots.{PlainSlot};
+    ghost use Rattle.cmd_check.specs.pam_library.specs.Slots.{PlainSlot};
 
     /// Whether all conversations of the transactions are modelled, and the time is a script's.
     ghost tells: { Self → Bool };
@@ -30,7 +30,7 @@ pub trait ConversationsTold {
 impl ConversationsTold for Conversations {
     ghost use Rattle.std.specs.Prelude.{◌&&◌, is_none, is_some, map};
     ghost use Rattle.std.specs.List.{list_all};
-    ghost use Rattle.session_check.specs.pam_library.specs.Slots.{closed};
+    ghost use Rattle.cmd_check.specs.pam_library.specs.Slots.{closed};
 
     ghost tells = { λ c. is_none c.time
         && list_all (λ b. (Conv-box b).conv_tells b.value) c.convs.items };

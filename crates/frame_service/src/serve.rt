@@ -1,19 +1,19 @@
 ghost use Rattle.std.specs.Prelude.{◌≡◌, ◌≤◌, ◌<◌, ◌^◌, ℕ, [], IfOk, length};
 ghost use Rattle.pam_base.specs.declared.code.Code.{Code};
 ghost use Rattle.fail_delay.specs.DelayFn.{GivesOneNumber};
-ghost use Rattle.session_program.specs.ByCommand.{object_of, setup_of};
-ghost use Rattle.session_program.specs.Command.{command_of};
+ghost use Rattle.cmd_all.specs.ByCommand.{object_of, setup_of};
+ghost use Rattle.cmd_all.specs.Command.{command_of};
 ghost use Rattle.shipped_modules.specs.Shipped.{shipped_players};
 ghost use Rattle.frame_service.specs.Service.{IsOfFrames, StatusOf, served_wait};
 ghost use Rattle.frame_service.specs.Serving.{ServesFrames};
 
 use crate::conversations::{Conversations, ConversationsTold};
 use crate::wait::{returns_served_wait, served_wait};
+use cmd_all::{Desk, DeskTold, Outside, OutsideTold, pamsess};
 use fail_delay::{DelayRule, LONGEST_ASKED};
 use pam_base::Code;
 use pam_outside::{Sink, Source};
 use pam_room::World;
-use session_program::{Desk, DeskTold, Outside, OutsideTold, pamsess};
 use shipped_modules::shipped_modules;
 use std::alloc::Global;
 use std::io;

@@ -1,5 +1,5 @@
 ghost use Rattle.std.specs.Prelude.{◌≡◌, ◌≤◌, IfOk, None, length};
-ghost use Rattle.session_program.specs.Command.{command_of};
+ghost use Rattle.cmd_all.specs.Command.{command_of};
 ghost use Rattle.frame_service.specs.Service.{IsOfFrames, wires_under};
 
 use command_line::arguments;

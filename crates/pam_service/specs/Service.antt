@@ -1,6 +1,6 @@
 -- What `pam_service` is asked for (this project's own).
 use Rattle.std.specs.Prelude.{ℕ, Option, Some, None}
-use Rattle.session_program.specs.Command.{Command}
+use Rattle.cmd_all.specs.Command.{Command}
 use Rattle.frame_service.specs.Service.{wires_under}
 use Rattle.who_calls.specs.Request.{Asked}
 

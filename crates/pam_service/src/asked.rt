@@ -1,5 +1,5 @@
 ghost use Rattle.std.specs.Prelude.{◌≡◌, IfOk};
-ghost use Rattle.session_program.specs.Command.{command_of};
+ghost use Rattle.cmd_all.specs.Command.{command_of};
 ghost use Rattle.who_calls.specs.Request.{service_request};
 ghost use Rattle.frame_service.specs.Service.{IsOfFrames};
 ghost use Rattle.pam_service.specs.Service.{asked_command, caller_in};

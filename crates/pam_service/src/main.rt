@@ -9,9 +9,9 @@
 mod asked;
 
 ghost use Rattle.std.specs.Prelude.{◌≡◌, [], false, true, IfOk, length};
-ghost use Rattle.session_login.specs.session_run.specs.pam_handle.specs.Plain.{in_box};
-ghost use Rattle.session_program.specs.ByCommand.{object_of, setup_of};
-ghost use Rattle.session_program.specs.Command.{command_of};
+ghost use Rattle.cmd_login.specs.cmd_run.specs.pam_handle.specs.Plain.{in_box};
+ghost use Rattle.cmd_all.specs.ByCommand.{object_of, setup_of};
+ghost use Rattle.cmd_all.specs.Command.{command_of};
 ghost use Rattle.shipped_modules.specs.Shipped.{shipped_players};
 ghost use Rattle.who_calls.specs.Request.{service_request};
 ghost use Rattle.frame_service.specs.Service.{IsOfFrames, StatusOf, served_wait};
@@ -19,6 +19,7 @@ ghost use Rattle.frame_service.specs.Serving.{ServesFrames};
 ghost use Rattle.pam_service.specs.Service.{asked_command, caller_in};
 
 use crate::asked::{Asked, asked_of};
+use cmd_all::{Outside, OutsideTold, TimeOfDay};
 use command_line::{NO_STREAMS, exit_status, reserve_streams};
 use frame_service::{
     Conversations, ConversationsTold, TRANSACTIONS, serve_frames, system_text, words_of,
@@ -28,7 +29,6 @@ use pam_base::Text;
 use pam_outside::{Clock, Nap, NapSum, Sink, Source, Vault};
 use pam_room::conv_port::{Conv, TermConv, WireConv};
 use pam_room::{Process, World};
-use session_program::{Outside, OutsideTold, TimeOfDay};
 use shipped_modules::SystemTime;
 use std::alloc::Global;
 use std::io::{self, ErrorKind};

@@ -4,7 +4,7 @@ use Rattle.std.specs.declared.alloc.Global.{Global}
 use Rattle.account_db.specs.declared.fault.DbFault.{DbFault}
 use Rattle.account_db.specs.declared.passwd.Passwd.{Passwd}
 use Rattle.account_db.specs.Passwd.{entry_of_uid, passwds_of}
-use Rattle.session_program.specs.Command.{Command}
+use Rattle.cmd_all.specs.Command.{Command}
 use Rattle.frame_service.specs.Service.{wires_under}
 use Rattle.who_calls.specs.declared.ids.Ids.{Ids}
 

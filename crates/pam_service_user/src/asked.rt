@@ -1,6 +1,6 @@
 ghost use Rattle.std.specs.Prelude.{◌≡◌, ◌≤◌, IfOk, codes, length};
 ghost use Rattle.account_db.specs.Passwd.{passwds_of};
-ghost use Rattle.session_program.specs.Command.{command_of};
+ghost use Rattle.cmd_all.specs.Command.{command_of};
 ghost use Rattle.who_calls.specs.Request.{real_user};
 ghost use Rattle.who_calls.specs.Status.{ids_in};
 ghost use Rattle.frame_service.specs.Service.{IsOfFrames};

@@ -9,9 +9,9 @@
 mod asked;
 
 ghost use Rattle.std.specs.Prelude.{◌≡◌, [], false, true, IfOk, codes, length};
-ghost use Rattle.session_login.specs.session_run.specs.pam_handle.specs.Plain.{in_box};
-ghost use Rattle.session_program.specs.ByCommand.{object_of, setup_of};
-ghost use Rattle.session_program.specs.Command.{command_of};
+ghost use Rattle.cmd_login.specs.cmd_run.specs.pam_handle.specs.Plain.{in_box};
+ghost use Rattle.cmd_all.specs.ByCommand.{object_of, setup_of};
+ghost use Rattle.cmd_all.specs.Command.{command_of};
 ghost use Rattle.shipped_modules.specs.Shipped.{shipped_players};
 ghost use Rattle.who_calls.specs.Request.{real_user};
 ghost use Rattle.who_calls.specs.Status.{ids_in};
@@ -20,6 +20,7 @@ ghost use Rattle.frame_service.specs.Serving.{ServesFrames};
 ghost use Rattle.pam_service_user.specs.Own.{own_command};
 
 use crate::asked::{Asked, asked_of};
+use cmd_all::{Outside, OutsideTold, TimeOfDay};
 use command_line::{NO_STREAMS, exit_status, reserve_streams};
 use frame_service::{
     Conversations, ConversationsTold, TRANSACTIONS, serve_frames, system_text, words_of,
@@ -30,7 +31,6 @@ use pam_base::Text;
 use pam_outside::{Clock, MAX_FILE, Nap, NapSum, Sink, Source, Vault};
 use pam_room::conv_port::{Conv, TermConv, WireConv};
 use pam_room::{Process, World};
-use session_program::{Outside, OutsideTold, TimeOfDay};
 use shipped_modules::SystemTime;
 use std::alloc::Global;
 use std::io;

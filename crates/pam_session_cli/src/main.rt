@@ -2,7 +2,7 @@
 //! returns, logs a user in, audits a report, or prints a configuration or a tally.
 //!
 //! Begin at `main`: `run` makes the modules, and the objects that objects.rt names for a command, and calls
-//! `session_program::pamsess` with them.
+//! `cmd_all::pamsess` with them.
 #![tactic(auto)]
 
 mod objects;
@@ -10,13 +10,13 @@ mod objects;
 ghost use Rattle.fail_delay.specs.DelayFn.{GivesOneNumber};
 
 use crate::objects::{Files, Replies, Time, objects_of};
+use cmd_all::{Desk, TimeOfDay, pamsess};
 use command_line::{NO_STREAMS, arguments, exit_status, reserve_streams};
 use fail_delay::DelayRule;
 use pam_base::{Code, NoMemory, Numbers, Text};
 use pam_outside::{Clock, FixedClock, MemVault, Nap, NapSum, Vault};
 use pam_room::conv_port::{Conv, QueueConv, TermConv, WireConv};
 use pam_room::{Process, World};
-use session_program::{Desk, TimeOfDay, pamsess};
 use shipped_modules::{SystemTime, shipped_modules};
 use std::io::{self, ErrorKind};
 use std::process::ExitCode;

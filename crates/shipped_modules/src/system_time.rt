@@ -1,4 +1,4 @@
-use session_program::TimeOfDay;
+use cmd_all::TimeOfDay;
 use std::rt::Clock as SystemClock;
 use system_objects::system_moment;
 

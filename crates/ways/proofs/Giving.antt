@@ -15,10 +15,10 @@ use Rattle.service_load.specs.Tree.{tree}
 use Rattle.explain_origins.specs.Placed.{sources_at}
 use Rattle.explain_lines.specs.Origins.{Sources}
 use Rattle.ways.specs.declared.saying.Output.{Output}
-use Rattle.transcript_audit.specs.declared.transcript.Transcript.{Transcript}
-use Rattle.transcript_audit.specs.declared.transcript.Transcript.TheVariants.{Whole, TooLong, Unread}
+use Rattle.cmd_audit.specs.declared.transcript.Transcript.{Transcript}
+use Rattle.cmd_audit.specs.declared.transcript.Transcript.TheVariants.{Whole, TooLong, Unread}
 use Rattle.ways.specs.Said.{IsWritten, One, OrUnread, Says, SaysBy, Written, Tells, refused_written, unread_written}
-use Rattle.transcript_audit.specs.Transcript.{IsRead, IsShort, is_unread}
+use Rattle.cmd_audit.specs.Transcript.{IsRead, IsShort, is_unread}
 use Rattle.ways.specs.Program.{Answers, Asked, Ends, Exits, SaysIf, SaysInput, SaysRead, IsOutputOfInput, IsOutputOfRead, too_long_written, usage_written}
 
 -- ---- what was read

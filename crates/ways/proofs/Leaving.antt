@@ -7,10 +7,10 @@ use Rattle.explain_lines.specs.Origins.{Sources}
 use Rattle.module_table.specs.declared.entry.Entry.{Entry}
 use Rattle.module_table.specs.Entries.{table_of}
 use Rattle.ways.specs.declared.saying.Output.{Output}
-use Rattle.transcript_audit.specs.declared.transcript.Transcript.{Transcript}
-use Rattle.transcript_audit.specs.declared.transcript.Transcript.TheVariants.{Whole, TooLong, Unread}
+use Rattle.cmd_audit.specs.declared.transcript.Transcript.{Transcript}
+use Rattle.cmd_audit.specs.declared.transcript.Transcript.TheVariants.{Whole, TooLong, Unread}
 use Rattle.ways.specs.Said.{IsOutputBy, IsOutputOf, IsWritten, One, Tells, TellsBy, Written}
-use Rattle.transcript_audit.specs.Transcript.{is_unread}
+use Rattle.cmd_audit.specs.Transcript.{is_unread}
 use Rattle.ways.specs.Program.{Asked, Causes, Leaves, IsOutputOfInput, IsOutputOfRead, usage_written}
 
 module _ (input_before input_now before now : ℕ) where

@@ -6,12 +6,12 @@ use Rattle.pam_outside.specs.Counts.{Rose, RisesIf}
 use Rattle.pam_outside.specs.Files.{VaultState}
 use Rattle.pam_outside.specs.Streams.{SinkState}
 use Rattle.ways.specs.declared.saying.Output.{Output}
-use Rattle.transcript_audit.specs.declared.transcript.Transcript.{Transcript}
-use Rattle.transcript_audit.specs.declared.transcript.Transcript.TheVariants.{Whole, TooLong}
-use Rattle.transcript_audit.specs.declared.transcript.Transcript.TheVariants.{Unread}
+use Rattle.cmd_audit.specs.declared.transcript.Transcript.{Transcript}
+use Rattle.cmd_audit.specs.declared.transcript.Transcript.TheVariants.{Whole, TooLong}
+use Rattle.cmd_audit.specs.declared.transcript.Transcript.TheVariants.{Unread}
 use Rattle.ways.specs.declared.program.Target.{Target}
 use Rattle.ways.specs.Said.{Written, written, IsWritten, Says, IsOutputOf, unread_written}
-use Rattle.transcript_audit.specs.Transcript.{is_unread}
+use Rattle.cmd_audit.specs.Transcript.{is_unread}
 
 -- ---- the arguments
 

@@ -1,16 +1,16 @@
 ghost use Rattle.std.specs.Prelude.{◌≡◌, ◌≢◌, ◌⊎◌, None, Some, IsTrue, IfOk};
 ghost use Rattle.pam_outside.specs.Counts.{Rose};
 ghost use Rattle.service_load.specs.Loading.{OnlyCalls};
-ghost use Rattle.transcript_audit.specs.Transcript.{IsShort};
+ghost use Rattle.cmd_audit.specs.Transcript.{IsShort};
 ghost use Rattle.ways.specs.Said.{IsWritten, Written};
 ghost use Rattle.ways.specs.Program.{Answers, Causes, Ends, Exits, SaysInput, SaysRead, Leaves};
 ghost use Rattle.ways.specs.Program.{IsOutputOfInput, IsOutputOfRead, asked, asked_of};
 
 use crate::saying::{Output, line_by, said, unread};
+use cmd_audit::{Transcript, read_transcript};
 use pam_base::{Failed, NoMemory};
 use pam_outside::{Sink, Source, Vault, write_all};
 use std::alloc::Global;
-use transcript_audit::{Transcript, read_transcript};
 
 const USAGE: u8 = 2;
 

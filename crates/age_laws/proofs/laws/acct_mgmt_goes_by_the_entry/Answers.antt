@@ -1,5 +1,0 @@
-use Rattle.age_laws.proofs.Calling.{goes_by_the_entry}
-use Rattle.age_laws.proofs.laws.acct_mgmt_goes_by_the_entry.Goals as goal
-
-pub returns : goal.returns
-returns c = goes_by_the_entry

@@ -1,5 +1,0 @@
-use Rattle.age_laws.proofs.Aging.{new_is_not_too_old}
-use Rattle.age_laws.proofs.laws.new_password_is_not_too_old.Goals as goal
-
-pub returns : goal.returns
-returns c = new_is_not_too_old

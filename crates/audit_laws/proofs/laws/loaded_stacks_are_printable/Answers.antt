@@ -1,5 +1,0 @@
-use Rattle.audit_laws.proofs.Loading.{loaded_printable}
-use Rattle.audit_laws.proofs.laws.loaded_stacks_are_printable.Goals as goal
-
-pub returns : goal.returns
-returns c = loaded_printable c.one_reading.ensures.reading

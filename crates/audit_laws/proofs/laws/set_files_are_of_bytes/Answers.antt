@@ -1,5 +1,0 @@
-use Rattle.audit_laws.proofs.Naming.{put_of_bytes}
-use Rattle.audit_laws.proofs.laws.set_files_are_of_bytes.Goals as goal
-
-pub returns : goal.returns
-returns c = put_of_bytes

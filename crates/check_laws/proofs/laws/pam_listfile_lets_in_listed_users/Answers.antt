@@ -1,5 +1,0 @@
-use Rattle.check_laws.proofs.Listfile.{allowed_are_named}
-use Rattle.check_laws.proofs.laws.pam_listfile_lets_in_listed_users.Goals as goal
-
-pub returns : goal.returns
-returns c = allowed_are_named

@@ -1,5 +1,0 @@
-use Rattle.check_laws.proofs.Securetty.{root_is_there}
-use Rattle.check_laws.proofs.laws.pam_securetty_lets_root_in_at_secure_terminals.Goals as goal
-
-pub returns : goal.returns
-returns c = root_is_there

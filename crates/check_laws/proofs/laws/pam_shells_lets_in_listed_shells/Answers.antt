@@ -1,5 +1,0 @@
-use Rattle.check_laws.proofs.Shells.{shell_is_listed}
-use Rattle.check_laws.proofs.laws.pam_shells_lets_in_listed_shells.Goals as goal
-
-pub returns : goal.returns
-returns c = shell_is_listed

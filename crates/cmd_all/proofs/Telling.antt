@@ -1,0 +1,143 @@
+-- What the status of a run says, whether it was begun or not.
+use Rattle.std.proofs.Common.{◌≡◌, inl, inr, ℕ, suc, Bool, true, false, ◌&&◌, IsTrue, List, [], ◌∷◌, length, map, Option, Some, None, Result, Ok, Err, refl, sym, ap, ap₂, ◌∙◌, subst, subst₂, arith}
+use Rattle.pam_room.specs.conv_port.specs.Conv.{ConvState}
+use Rattle.data_cleanup.specs.Cleanup.{Notes}
+use Rattle.data_cleanup.specs.Ledger.{PlainLedger}
+use Rattle.data_cleanup.specs.Stands.{StandFor}
+use Rattle.pam_outside.specs.Streams.{SourceState, SinkState}
+use Rattle.pam_base.specs.declared.code.Code.{Code}
+use Rattle.pam_room.specs.Module.{Player, notes_of}
+use Rattle.pam_room.specs.State.{PlainWorld}
+use Rattle.cmd_check.specs.pam_library.specs.Slots.{NoneIsOpen, PlainSlot, closed, lists_of}
+use Rattle.cmd_check.specs.pam_library.specs.Sound.{IsSound}
+use Rattle.record_reader.specs.LineTurns.{Ending}
+use Rattle.record_reader.specs.declared.ending.Ending.{Ending as StreamEnding}
+use Rattle.record_reader.specs.declared.ending.Ending.TheVariants.{Done, ReadFault, Refused}
+use Rattle.record_reader.specs.declared.ending.Stop.{Stop}
+use Rattle.record_reader.specs.declared.ending.Stop.TheVariants.{NoMemory, WriteFault}
+use Rattle.cmd_login.specs.cmd_run.specs.Made.{ReportsRun}
+use Rattle.cmd_login.specs.cmd_run.specs.Run.{RunTold}
+use Rattle.cmd_login.specs.cmd_run.specs.State.{Setting, RunState, setting_of, state_of}
+use Rattle.cmd_login.specs.cmd_run.specs.Whole.{RunsScript}
+use Rattle.cmd_login.specs.cmd_run.specs.Seen.{Seen}
+use Rattle.cmd_all.specs.ByCommand.{Setup}
+use Rattle.cmd_all.specs.Login.{at_root}
+use Rattle.cmd_all.specs.Opened.{IsOpened}
+use Rattle.cmd_all.specs.Under.{IsBegunSo}
+use Rattle.cmd_all.specs.Run.{IsDone, IsRefused, IsReset, IsUnread, Runs, opening, status_of, under_root}
+use Rattle.cmd_all.proofs.Statuses.{done_whole, refused_whole, unread_whole}
+
+pub both_left : (a b : Bool) → IsTrue (a && b) → IsTrue a
+both_left true b both = refl
+both_left false b both = both
+
+pub both_right : (a b : Bool) → IsTrue (a && b) → IsTrue b
+both_right true b both = both
+both_right false b both = absurd (cc)
+
+-- the reports of a run, with other names for its modules and slots
+pub reports_as : {Kind : Type 0} (wrapped : List ℕ → List ℕ) (last_text : StreamEnding Kind → ℕ → Option (List ℕ)) (result : Result (StreamEnding Kind) Stop) (p q : SinkState)
+    → (players others : List Player) → players ≡ others → (slots places : List PlainSlot) → slots ≡ places
+    → ReportsRun wrapped last_text players result slots p q → ReportsRun wrapped last_text others result places p q
+reports_as wrapped last_text result p q players others same slots places alike reports =
+    subst₂ (λ (ps : List Player) (ss : List PlainSlot). ReportsRun wrapped last_text ps result ss p q) same alike reports
+
+pub both_true : (a b : Bool) → IsTrue a → IsTrue b → IsTrue (a && b)
+both_true true b left right = right
+both_true false b left right = left
+
+-- ---- before the first line
+
+map-closed : {B : Type 0} (holds : B → ConvState) (convs : List B) → map closed (map holds convs) ≡ map (λ b. closed (holds b)) convs
+map-closed holds [] = refl
+map-closed holds (b ∷ convs) = ap (λ (t : List PlainSlot). closed (holds b) ∷ t) (map-closed holds convs)
+
+length-map : {B C : Type 0} (f : B → C) (bs : List B) → length (map f bs) ≡ length bs
+length-map f [] = refl
+length-map f (b ∷ bs) = ap (λ (n : ℕ). suc n) (length-map f bs)
+
+no_entries : (ledger : PlainLedger) → ledger.births ≡ [] → ledger.filed ≡ [] → record { births = []; filed = [] } ≡ ledger
+no_entries ledger births filed = ap₂ (λ b f. record { births = b; filed = f }) (sym births) (sym filed)
+
+pub sound_at_first : {B : Type 0} (holds : B → ConvState) (convs : List B) (names : List (List ℕ)) (modules : ℕ) (slots : List PlainSlot) (ledger : PlainLedger)
+    → ((states : List ConvState) → length states ≡ 16 → IsSound names modules (map closed states) (record { births = []; filed = [] }))
+    → length convs ≡ 16 → slots ≡ map (λ b. closed (holds b)) convs → ledger.births ≡ [] → ledger.filed ≡ []
+    → IsSound names modules slots ledger
+sound_at_first holds convs names modules slots ledger law sixteen are births filed =
+    subst₂ (IsSound names modules) (map-closed holds convs ∙ sym are) (no_entries ledger births filed) (law (map holds convs) (length-map holds convs ∙ sixteen))
+
+pub stand_at_first : {B : Type 0} (note : Notes) (holds : B → ConvState) (convs : List B) (slots : List PlainSlot) (ledger : PlainLedger)
+    → ((states : List ConvState) → StandFor note 17 (record { births = []; filed = [] }) (lists_of (map closed states)) [])
+    → slots ≡ map (λ b. closed (holds b)) convs → ledger.births ≡ [] → ledger.filed ≡ []
+    → StandFor note 17 ledger (lists_of slots) []
+stand_at_first note holds convs slots ledger law are births filed =
+    subst₂ (λ (s : List PlainSlot) (l : PlainLedger). StandFor note 17 l (lists_of s) []) (map-closed holds convs ∙ sym are) (no_entries ledger births filed) (law (map holds convs))
+
+none_open : {B : Type 0} (holds : B → ConvState) (convs : List B) → NoneIsOpen (map (λ b. closed (holds b)) convs)
+none_open holds [] = tt
+none_open holds (b ∷ convs) = (refl, none_open holds convs)
+
+pub none_open_at_first : {B : Type 0} (holds : B → ConvState) (convs : List B) (slots : List PlainSlot) → slots ≡ map (λ b. closed (holds b)) convs → NoneIsOpen slots
+none_open_at_first holds convs slots are = subst NoneIsOpen (sym are) (none_open holds convs)
+
+-- the world after the clock was set
+pub under_now : (root : List ℕ) (old at now : PlainWorld) → at ≡ at_root root old → IsReset at now → now ≡ under_root root old
+under_now root old at now is reset = reset.world_is ∙ ap (λ (w : PlainWorld). record w { clock = record w.clock { moment = 0; word = 0 } }) is
+
+module _ {Kind : Type 0} (runs_so : RunTold Kind) where
+  begun_at : (setting : Setting) (slots ends : List PlainSlot) (root : List ℕ) (old now new : PlainWorld) (x y : SourceState) (p q : SinkState) (result : Result (StreamEnding Kind) Stop) → now ≡ under_root root old
+      → StandFor (notes_of setting.players) 17 old.process.ledger (lists_of slots) []
+      → runs_so setting result (state_of slots now) (state_of ends new) x y p q → IsBegunSo runs_so setting result (opening slots root old) new x y p q
+  begun_at setting slots ends root old now new x y p q result under none_yet ran = record {
+    end = state_of ends new;
+    world_is = refl;
+    runs = subst (λ (w : PlainWorld). runs_so setting result (state_of slots w) (state_of ends new) x y p q) under ran;
+    none_yet = none_yet;
+  }
+
+  pub begun : (root : List ℕ) (setup : Setup) (old : PlainWorld) (s : Seen) (now new : PlainWorld) (ends : List PlainSlot) (x y : SourceState) (p q : SinkState) (number : Code → ℕ → ℕ) (result : Result (StreamEnding Kind) Stop)
+      → IsOpened root setup old s → IsReset s.world now → runs_so (setting_of s.players number) result (state_of s.slots now) (state_of ends new) x y p q
+      → IsBegunSo runs_so (setting_of setup.players number) result (opening setup.slots root old) new x y p q
+  begun root setup old s now new ends x y p q number result opened reset ran =
+      subst₂ (λ (players : List Player) (slots : List PlainSlot). IsBegunSo runs_so (setting_of players number) result (opening slots root old) new x y p q) opened.players opened.slots
+      (begun_at (setting_of s.players number) s.slots ends root old now new x y p q result (under_now root old s.world now opened.world_is reset) opened.none_yet ran)
+
+-- ---- by the status
+
+module _ (setting : Setting) (start end : RunState) (x y : SourceState) (p q : SinkState) where
+  abbrev NoneYet : Type 0
+  NoneYet = StandFor (notes_of setting.players) 17 start.world.process.ledger (lists_of start.slots) []
+
+  done_by : (result : Result Ending Stop) → NoneYet → RunsScript setting result start end x y p q → status_of result ≡ 0 → IsDone setting start end.world x y p q
+  done_by (Ok Done) none_yet ran is = done_whole setting start end x y p q none_yet ran
+  done_by (Ok ReadFault) none_yet ran is = absurd (omega (arith, is))
+  done_by (Ok (Refused kind)) none_yet ran is = absurd (omega (arith, is))
+  done_by (Err NoMemory) none_yet ran is = absurd (omega (arith, is))
+  done_by (Err WriteFault) none_yet ran is = absurd (omega (arith, is))
+
+  refused_by : (result : Result Ending Stop) → NoneYet → RunsScript setting result start end x y p q → status_of result ≡ 7 → IsRefused setting start end.world x y p q
+  refused_by (Ok Done) none_yet ran is = absurd (omega (arith, is))
+  refused_by (Ok ReadFault) none_yet ran is = absurd (omega (arith, is))
+  refused_by (Ok (Refused kind)) none_yet ran is = refused_whole setting start end x y p q kind none_yet ran
+  refused_by (Err NoMemory) none_yet ran is = absurd (omega (arith, is))
+  refused_by (Err WriteFault) none_yet ran is = absurd (omega (arith, is))
+
+  unread_by : (result : Result Ending Stop) → NoneYet → RunsScript setting result start end x y p q → status_of result ≡ 5 → IsUnread setting start end.world x y p q
+  unread_by (Ok Done) none_yet ran is = absurd (omega (arith, is))
+  unread_by (Ok ReadFault) none_yet ran is = unread_whole setting start end x y p q none_yet ran
+  unread_by (Ok (Refused kind)) none_yet ran is = absurd (omega (arith, is))
+  unread_by (Err NoMemory) none_yet ran is = absurd (omega (arith, is))
+  unread_by (Err WriteFault) none_yet ran is = absurd (omega (arith, is))
+
+module _ (setting : Setting) (status : ℕ) (slots : List PlainSlot) (root : List ℕ) (old new : PlainWorld) (x y : SourceState) (p q : SinkState) where
+  pub done_of : Runs setting status slots root old new x y p q → status ≡ 0 → IsDone setting (opening slots root old) new x y p q
+  done_of (inl b) is = subst (λ (w : PlainWorld). IsDone setting (opening slots root old) w x y p q) (sym b.world_is) (done_by setting (opening slots root old) b.end x y p q b.result b.none_yet b.runs (sym b.is ∙ is))
+  done_of (inr n) is = absurd (omega (arith, n.0, is))
+
+  pub refused_of : Runs setting status slots root old new x y p q → status ≡ 7 → IsRefused setting (opening slots root old) new x y p q
+  refused_of (inl b) is = subst (λ (w : PlainWorld). IsRefused setting (opening slots root old) w x y p q) (sym b.world_is) (refused_by setting (opening slots root old) b.end x y p q b.result b.none_yet b.runs (sym b.is ∙ is))
+  refused_of (inr n) is = absurd (omega (arith, n.0, is))
+
+  pub unread_of : Runs setting status slots root old new x y p q → status ≡ 5 → IsUnread setting (opening slots root old) new x y p q
+  unread_of (inl b) is = subst (λ (w : PlainWorld). IsUnread setting (opening slots root old) w x y p q) (sym b.world_is) (unread_by setting (opening slots root old) b.end x y p q b.result b.none_yet b.runs (sym b.is ∙ is))
+  unread_of (inr n) is = absurd (omega (arith, n.0, is))

@@ -1,0 +1,3 @@
+pub use Rattle.report_step.specs.pam_handle
+pub use Rattle.report_step.specs.pam_library
+pub mod Check

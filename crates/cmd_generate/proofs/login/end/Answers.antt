@@ -1,0 +1,19 @@
+use Rattle.std.proofs.Common.{refl}
+use Rattle.cmd_generate.proofs.Closing.{end_is_free, end_stays_inside, ended_is_closed, state_is}
+use Rattle.cmd_run.proofs.Going.{went_once}
+use Rattle.cmd_generate.proofs.Proceeding.{end_ends}
+use Rattle.cmd_generate.proofs.login.end.Goals as goal
+
+pub unwrap-outcome-requires : goal.unwrap-outcome-requires
+unwrap-outcome-requires g c = c.apply.ensures.succeeds (end_is_free c.args.status _)
+
+pub returns-clause-ended : goal.returns-clause-ended
+returns-clause-ended g c = λ delay. state_is _ _ _ _ _ _ (rw c.unwrap-outcome.ensures at (c.apply.ensures.inside delay (end_stays_inside c.args.status _)))
+
+pub returns-clause-closed : goal.returns-clause-closed
+returns-clause-closed g c = ended_is_closed _ _ _ _ (returns-clause-ended g c (λ code asked. 0))
+
+pub returns-clause-went : goal.returns-clause-went
+returns-clause-went g c =
+    went_once _ _ _ (rw c.apply.ensures.gear refl) c.apply.ensures.keeps.tells c.apply.ensures.keeps.world_tells (λ number gives. rw c.apply.ensures.gear gives) (λ number gives. rw c.apply.ensures.gear at gives)
+    _ c.apply.ensures.keeps.moves (end_ends c.args.status _) c.apply.ensures.keeps.sound

@@ -1,0 +1,341 @@
+ghost use Rattle.std.specs.Prelude.{◌≡◌, ℕ, Ok, Some, IfOk, IsTrue, is_none, string_bytes};
+ghost use Rattle.std.specs.Option.{option_copied};
+ghost use Rattle.pam_base.specs.ServiceName.{is_service_name};
+ghost use Rattle.pam_base.specs.declared.code.Code.{Code};
+ghost use Rattle.pam_outside.specs.Counts.{RisesIf};
+ghost use Rattle.cmd_run.specs.pam_library.specs.AnyWorld.{is_refused};
+ghost use Rattle.cmd_run.specs.pam_library.specs.Slots.{slot_at};
+ghost use Rattle.record_reader.specs.Turns.{has_write_fault};
+ghost use Rattle.cmd_run.specs.Seen.{AllTell, IsSoundIn, NoneIsOpenIn, Went, setting_in, state};
+ghost use Rattle.cmd_login.specs.Ends.{IsDenial, IsEndOfLogin, IsEndWith, closing_code};
+ghost use Rattle.cmd_login.specs.Login.{denied_line, end_call, end_code, logging_in, login_end, login_of, make, verdict_by};
+ghost use Rattle.cmd_login.specs.Reported.{Reports, SaysCalls, SaysDenial, SaysLastLines, SaysLogin};
+ghost use Rattle.cmd_login.specs.Told.{LogsInThen, LogsIn, SaysEnd, SaysVerdict, WritesLines, WritesDenial, as_it_is};
+
+use crate::calls::LOGIN_CALLS;
+use crate::course::go_through;
+use crate::making::make;
+use cmd_run::pam_library::{Answer, Library, Session, Told};
+use cmd_run::pam_room::World;
+use cmd_run::{TimeOfDay, stop_status};
+use pam_base::{AppCall, Code, Failed, NoMemory, Step, Text, code_name, code_number};
+use pam_outside::{Sink, write_all};
+use record_reader::Stop;
+use std::alloc::Global;
+
+/// The result of a login.
+#[derive(Clone, Copy, Debug, PartialEq, Eq)]
+pub enum Verdict {
+    /// The login was granted, and the session was closed again.
+    Passed,
+    /// A call denied it with this code, which isn't SUCCESS.
+    Denied(Code),
+    /// The configuration of the service is refused.
+    Refused,
+}
+
+/// Logs a user in with a service, in the first of the transactions, of which none is open. The conversation of that
+/// transaction asks the user for whatever the modules need, including the name if it isn't given.
+///
+/// The calls are those of an application that grants a login:
+///
+/// - `pam_start(3)`, `pam_authenticate(3)`, `pam_acct_mgmt(3)`;
+/// - if that returns NEW_AUTHTOK_REQD, `pam_chauthtok(3)` with PAM_CHANGE_EXPIRED_AUTHTOK;
+/// - `pam_setcred(3)` with PAM_ESTABLISH_CRED, `pam_open_session(3)`;
+/// - and then at once `pam_close_session(3)`, `pam_setcred(3)` with PAM_DELETE_CRED and `pam_end(3)`.
+///
+/// The result line of each call is written before the next call, and no other line of its report. Before each call the
+/// world's clock is set to the time of day, if that is known; without one it stands still.
+///
+/// The login is denied if a call before the last three returns another code than SUCCESS (after `pam_acct_mgmt(3)`
+/// also NEW_AUTHTOK_REQD goes on): the transaction is ended with that code, and `denied NAME NUMBER` is written last.
+/// If the configuration refuses the start, its line `refused FILE LINE NAME NUMBER` is written, and nothing follows.
+///
+/// If an allocation fails, the transaction is ended with BUF_ERR, and if a write fails, with SYSTEM_ERR, unless it
+/// has been ended before; nothing more is written. So no transaction is open afterwards, whatever is returned.
+pub fn login<K: Sink>(
+    alloc: Global,
+    library: &mut Library,
+    service: &[u8],
+    user: Option<&[u8]>,
+    time: &Option<Box<dyn TimeOfDay>>,
+    out: &mut K,
+    world: &mut World,
+) -> Result<Verdict, Stop>
+    requires service { IsTrue (is_service_name service.now) }
+    requires none_open { NoneIsOpenIn (⟦<Session as Told>⟧.seen library.old world.old) }
+    requires sound { IsSoundIn (⟦<Session as Told>⟧.seen library.old world.old) }
+
+    // If all objects are modelled and the clock stands still: the verdict, what is written, and the library and world afterwards.
+    ensures told { let seen = ⟦<Session as Told>⟧.seen in IsTrue (is_none time.now) →
+        (delay : Code → ℕ → ℕ) → (seen library.old world.old).gives delay →
+        AllTell (seen library.old world.old) → IsTrue (K.sink_tells out.old) →
+        (let setting = setting_in (seen library.old world.old) delay in
+        LogsIn setting (login_of setting service.now (option_copied user.entry)
+        (state (seen library.old world.old))) result (state (seen library.old world.old))
+        (state (seen library.new world.new)) (K.sink_holds out.old) (K.sink_holds out.new)) }
+
+    // If only the sink is modelled: how often it was written, and how the verdict is written.
+    ensures shows { IsTrue (K.sink_tells out.old) →
+        WritesLines SaysVerdict result (K.sink_holds out.old) (K.sink_holds out.new) }
+
+    // If only the sink is modelled: what is written is a line for each call with its result, and the verdict is the one
+    // that these results lead to; after an Err it is a prefix of that.
+    ensures reports { IsTrue (K.sink_tells out.old) →
+        Reports (SaysLogin service.now (option_copied user.entry)) result (K.sink_holds out.old)
+        (K.sink_holds out.new) }
+
+    // With real objects too: SUCCESS denies nobody; no transaction is open; and the cleanup log and the module data
+    // are what calls of the library, with these statuses of pam_end, made of them.
+    ensures denies { (code : Code) → result ≡ Ok (Verdict.Denied code) → IsDenial code }
+    ensures none_open { NoneIsOpenIn (⟦<Session as Told>⟧.seen library.new world.new) }
+    ensures went { let seen = ⟦<Session as Told>⟧.seen in Went (IsEndOfLogin result)
+        (seen library.old world.old) (seen library.new world.new) }
+
+    // The causes, with real objects too.
+    ensures faults { RisesIf (has_write_fault result) (K.sink_faults out.old)
+        (K.sink_faults out.new) }
+
+    // What is modelled before the login is modelled after it.
+    ensures sink_tells { K.sink_tells out.new ≡ K.sink_tells out.old }
+{
+    let result = try_login(alloc, library, service, user, time, out, world);
+    end_silently(alloc, library, closing_code(result), world);
+    result
+}
+
+// The whole login, except that after an Err the transaction may still be open.
+fn try_login<K: Sink>(
+    alloc: Global,
+    library: &mut Library,
+    service: &[u8],
+    user: Option<&[u8]>,
+    time: &Option<Box<dyn TimeOfDay>>,
+    out: &mut K,
+    world: &mut World,
+) -> Result<Verdict, Stop>
+    requires service { IsTrue (is_service_name service.now) }
+    requires sound { IsSoundIn (⟦<Session as Told>⟧.seen library.old world.old) }
+    ensures sink_tells { K.sink_tells out.new ≡ K.sink_tells out.old }
+    ensures told { let seen = ⟦<Session as Told>⟧.seen in IsTrue (is_none time.now) →
+        (delay : Code → ℕ → ℕ) → (seen library.old world.old).gives delay →
+        AllTell (seen library.old world.old) → IsTrue (K.sink_tells out.old) →
+        (let setting = setting_in (seen library.old world.old) delay in
+        LogsInThen setting as_it_is (login_of setting service.now (option_copied user.entry)
+        (state (seen library.old world.old))) result (state (seen library.old world.old))
+        (state (seen library.new world.new)) (K.sink_holds out.old) (K.sink_holds out.new)) }
+    ensures denies { (code : Code) → result ≡ Ok (Verdict.Denied code) → IsDenial code }
+    ensures others { let seen = ⟦<Session as Told>⟧.seen in (number : ℕ) → (number ≡ 1 → ⊥) →
+        slot_at (seen library.new world.new).slots number
+        ≡ slot_at (seen library.old world.old).slots number }
+    ensures went { let seen = ⟦<Session as Told>⟧.seen in Went (IsEndOfLogin result)
+        (seen library.old world.old) (seen library.new world.new) }
+    ensures shows { IsTrue (K.sink_tells out.old) →
+        WritesLines SaysVerdict result (K.sink_holds out.old) (K.sink_holds out.new) }
+    ensures reports { IsTrue (K.sink_tells out.old) →
+        Reports (SaysLogin service.now (option_copied user.entry)) result (K.sink_holds out.old)
+        (K.sink_holds out.new) }
+    ensures faults { RisesIf (has_write_fault result) (K.sink_faults out.old)
+        (K.sink_faults out.new) }
+{
+    let start = match start_of(alloc, service, user) {
+        Ok(start) => start,
+        Err(NoMemory) => return Err(Stop::NoMemory),
+    };
+    match make(alloc, library, start, time, out, world) {
+        Err(stop) => Err(stop),
+        Ok(answer) => {
+            if is_refused(&answer) {
+                Ok(Verdict::Refused)
+            } else {
+                log_in(alloc, library, time, out, world)
+            }
+        }
+    }
+}
+
+fn is_refused(answer: &Answer) -> bool
+    ensures { result ≡ is_refused answer.now }
+{
+    matches!(answer, Answer::Refused(_))
+}
+
+fn start_of(alloc: Global, service: &[u8], user: Option<&[u8]>) -> Result<AppCall, NoMemory>
+    ensures { IfOk result (λ call. call
+        ≡ AppCall.Start service.now (option_copied user.entry)) }
+{
+    let service = Text::from_bytes(alloc, service)?;
+    let user = match user {
+        Some(name) => Some(Text::from_bytes(alloc, name)?),
+        None => None,
+    };
+    Ok(AppCall::Start { service, user })
+}
+
+// The login after the start.
+fn log_in<K: Sink>(
+    alloc: Global,
+    library: &mut Library,
+    time: &Option<Box<dyn TimeOfDay>>,
+    out: &mut K,
+    world: &mut World,
+) -> Result<Verdict, Stop>
+    requires { IsSoundIn (⟦<Session as Told>⟧.seen library.old world.old) }
+    ensures sink_tells { K.sink_tells out.new ≡ K.sink_tells out.old }
+    ensures told { let seen = ⟦<Session as Told>⟧.seen in IsTrue (is_none time.now) →
+        (delay : Code → ℕ → ℕ) → (seen library.old world.old).gives delay →
+        AllTell (seen library.old world.old) → IsTrue (K.sink_tells out.old) →
+        (let setting = setting_in (seen library.old world.old) delay in
+        LogsInThen setting as_it_is (logging_in setting (state (seen library.old world.old))) result
+        (state (seen library.old world.old)) (state (seen library.new world.new))
+        (K.sink_holds out.old) (K.sink_holds out.new)) }
+    ensures denies { (code : Code) → result ≡ Ok (Verdict.Denied code) → IsDenial code }
+    ensures others { let seen = ⟦<Session as Told>⟧.seen in (number : ℕ) → (number ≡ 1 → ⊥) →
+        slot_at (seen library.new world.new).slots number
+        ≡ slot_at (seen library.old world.old).slots number }
+    ensures went { let seen = ⟦<Session as Told>⟧.seen in Went (IsEndOfLogin result)
+        (seen library.old world.old) (seen library.new world.new) }
+    ensures shows { IsTrue (K.sink_tells out.old) →
+        WritesLines SaysEnd result (K.sink_holds out.old) (K.sink_holds out.new) }
+    ensures reports { IsTrue (K.sink_tells out.old) →
+        Reports SaysCalls result (K.sink_holds out.old) (K.sink_holds out.new) }
+    ensures faults { RisesIf (has_write_fault result) (K.sink_faults out.old)
+        (K.sink_faults out.new) }
+{
+    match go_through(
+        alloc,
+        library,
+        &LOGIN_CALLS,
+        Code::Success,
+        time,
+        out,
+        world,
+    ) {
+        Err(stop) => Err(stop),
+        Ok(denied) => final_verdict(alloc, library, denied, time, out, world),
+    }
+}
+
+// Ends the transaction with SUCCESS or with the code that denied the login, and writes its result
+// line.
+fn final_verdict<K: Sink>(
+    alloc: Global,
+    library: &mut Library,
+    denied: Option<Code>,
+    time: &Option<Box<dyn TimeOfDay>>,
+    out: &mut K,
+    world: &mut World,
+) -> Result<Verdict, Stop>
+    requires { IsSoundIn (⟦<Session as Told>⟧.seen library.old world.old) }
+    ensures sink_tells { K.sink_tells out.new ≡ K.sink_tells out.old }
+    ensures told { let seen = ⟦<Session as Told>⟧.seen in IsTrue (is_none time.now) →
+        (delay : Code → ℕ → ℕ) → (seen library.old world.old).gives delay →
+        AllTell (seen library.old world.old) → IsTrue (K.sink_tells out.old) →
+        (let setting = setting_in (seen library.old world.old) delay in
+        LogsInThen setting as_it_is
+        (login_end setting denied (state (seen library.old world.old))) result
+        (state (seen library.old world.old)) (state (seen library.new world.new))
+        (K.sink_holds out.old) (K.sink_holds out.new)) }
+    ensures verdict { IfOk result (λ verdict. verdict ≡ verdict_by denied) }
+    ensures others { let seen = ⟦<Session as Told>⟧.seen in (number : ℕ) → (number ≡ 1 → ⊥) →
+        slot_at (seen library.new world.new).slots number
+        ≡ slot_at (seen library.old world.old).slots number }
+    ensures went { let seen = ⟦<Session as Told>⟧.seen in Went (IsEndWith (end_code denied))
+        (seen library.old world.old) (seen library.new world.new) }
+    ensures shows { IsTrue (K.sink_tells out.old) →
+        WritesLines SaysEnd result (K.sink_holds out.old) (K.sink_holds out.new) }
+    ensures reports { IsTrue (K.sink_tells out.old) →
+        Reports (SaysLastLines denied) result (K.sink_holds out.old) (K.sink_holds out.new) }
+    ensures faults { RisesIf (has_write_fault result) (K.sink_faults out.old)
+        (K.sink_faults out.new) }
+{
+    match make(alloc, library, end_call(end_code(denied)), time, out, world) {
+        Err(stop) => Err(stop),
+        Ok(_) => match denied {
+            None => Ok(Verdict::Passed),
+            Some(code) => deny(alloc, code, out),
+        },
+    }
+}
+
+// Writes the last line of a denied login.
+fn deny<K: Sink>(alloc: Global, code: Code, out: &mut K) -> Result<Verdict, Stop>
+    ensures sink_tells { K.sink_tells out.new ≡ K.sink_tells out.old }
+    ensures told { IsTrue (K.sink_tells out.old) →
+        WritesDenial code result (K.sink_holds out.old) (K.sink_holds out.new) }
+    ensures verdict { IfOk result (λ verdict. verdict ≡ Verdict.Denied code) }
+    ensures shows { IsTrue (K.sink_tells out.old) →
+        WritesLines SaysEnd result (K.sink_holds out.old) (K.sink_holds out.new) }
+    ensures reports { IsTrue (K.sink_tells out.old) →
+        Reports (SaysDenial code) result (K.sink_holds out.old) (K.sink_holds out.new) }
+    ensures faults { RisesIf (has_write_fault result) (K.sink_faults out.old)
+        (K.sink_faults out.new) }
+{
+    let line = match denied_line(alloc, code) {
+        Ok(line) => line,
+        Err(NoMemory) => return Err(Stop::NoMemory),
+    };
+    match write_all(out, line.as_bytes()) {
+        Ok(()) => Ok(Verdict::Denied(code)),
+        Err(Failed) => Err(Stop::WriteFault),
+    }
+}
+
+fn denied_line(alloc: Global, code: Code) -> Result<String, NoMemory>
+    ensures { IfOk result (λ line. string_bytes line ≡ denied_line code) }
+{
+    let name = code_name(code);
+    let number = code_number(code);
+    Ok(format!(in alloc; "denied {name} {number}\n")?)
+}
+
+fn end_code(denied: Option<Code>) -> Code
+    ensures { result ≡ end_code denied }
+{
+    match denied {
+        None => Code::Success,
+        Some(code) => code,
+    }
+}
+
+fn end_call(code: Code) -> AppCall
+    ensures { result ≡ end_call code }
+{
+    AppCall::End {
+        status: code_number(code),
+    }
+}
+
+// The status with which the transaction is ended if it is still open.
+fn closing_code(outcome: Result<Verdict, Stop>) -> Code
+    ensures { result ≡ closing_code outcome }
+{
+    match outcome {
+        Ok(Verdict::Passed | Verdict::Refused) => Code::Success,
+        Ok(Verdict::Denied(code)) => code,
+        Err(stop) => stop_status(stop),
+    }
+}
+
+// Ends the first transaction, if it is open, and writes nothing. It allocates nothing.
+fn end_silently(alloc: Global, library: &mut Library, code: Code, world: &mut World)
+    requires { IsSoundIn (⟦<Session as Told>⟧.seen library.old world.old) }
+    ensures ended { let seen = ⟦<Session as Told>⟧.seen in (delay : Code → ℕ → ℕ) →
+        (let setting = setting_in (seen library.old world.old) delay in
+        state (seen library.new world.new) ≡ (make setting (end_call code)
+        (state (seen library.old world.old))).state) }
+    ensures others { let seen = ⟦<Session as Told>⟧.seen in (number : ℕ) → (number ≡ 1 → ⊥) →
+        slot_at (seen library.new world.new).slots number
+        ≡ slot_at (seen library.old world.old).slots number }
+    ensures went { let seen = ⟦<Session as Told>⟧.seen in Went (IsEndWith code)
+        (seen library.old world.old) (seen library.new world.new) }
+{
+    let step = Step {
+        number: 1,
+        call: end_call(code),
+    };
+    match library.apply(alloc, world, &step) {
+        Ok(_) => {}
+        Err(NoMemory) => unreachable!(),
+    }
+}

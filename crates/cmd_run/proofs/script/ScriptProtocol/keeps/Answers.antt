@@ -1,0 +1,4 @@
+use Rattle.cmd_run.proofs.script.ScriptProtocol.keeps.Goals as goal
+
+pub returns-clause-reads : goal.returns-clause-reads
+returns-clause-reads c = c.keeps-2.ensures tt

@@ -1,0 +1,41 @@
+ghost use Rattle.std.specs.Prelude.{◌≡◌, ◌≤◌, IsTrue};
+ghost use Rattle.cmd_run.specs.Step.{at_moment, with_word, with_caller};
+
+use pam_outside::{MAX_MOMENT, set_moment, set_word};
+use report_step::pam_room::{World, WorldTold};
+
+/// Sets the time of the world's clock, if that clock can be set.
+pub(crate) fn set_world_moment(world: &mut World, moment: u64)
+    requires { moment ≤ MAX_MOMENT }
+    ensures tells { ⟦<World as WorldTold>⟧.tells world.new
+        ≡ ⟦<World as WorldTold>⟧.tells world.old }
+    ensures told { IsTrue (⟦<World as WorldTold>⟧.tells world.old) →
+        ⟦<World as WorldTold>⟧.plain world.new
+        ≡ at_moment moment (⟦<World as WorldTold>⟧.plain world.old) }
+    ensures process { world.new.process ≡ world.old.process }
+{
+    set_moment(&mut world.clock, moment);
+}
+
+/// Sets the random word of the world's clock, if that clock can be set.
+pub(crate) fn set_world_word(world: &mut World, word: u64)
+    ensures tells { ⟦<World as WorldTold>⟧.tells world.new
+        ≡ ⟦<World as WorldTold>⟧.tells world.old }
+    ensures told { IsTrue (⟦<World as WorldTold>⟧.tells world.old) →
+        ⟦<World as WorldTold>⟧.plain world.new
+        ≡ with_word word (⟦<World as WorldTold>⟧.plain world.old) }
+    ensures process { world.new.process ≡ world.old.process }
+{
+    set_word(&mut world.clock, word);
+}
+
+/// Sets the user ID of the calling process.
+pub(crate) fn set_caller(world: &mut World, caller: u32)
+    ensures tells { ⟦<World as WorldTold>⟧.tells world.new
+        ≡ ⟦<World as WorldTold>⟧.tells world.old }
+    ensures plain { ⟦<World as WorldTold>⟧.plain world.new
+        ≡ with_caller caller (⟦<World as WorldTold>⟧.plain world.old) }
+    ensures ledger { world.new.process.ledger ≡ world.old.process.ledger }
+{
+    world.process.caller = caller;
+}

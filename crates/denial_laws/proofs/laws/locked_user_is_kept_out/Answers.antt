@@ -1,9 +1,0 @@
-use Rattle.denial_laws.proofs.Authenticating.{not_authenticated}
-use Rattle.denial_laws.proofs.Keeping_out.{kept_out}
-use Rattle.denial_laws.proofs.laws.locked_user_is_kept_out.Goals as goal
-
-pub returns-clause-run : goal.returns-clause-run
-returns-clause-run c = kept_out
-
-pub returns-clause-call : goal.returns-clause-call
-returns-clause-call c = not_authenticated

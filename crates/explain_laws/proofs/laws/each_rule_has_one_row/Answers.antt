@@ -1,5 +1,0 @@
-use Rattle.explain_laws.proofs.Listing.{each_rule_has_one_row}
-use Rattle.explain_laws.proofs.laws.each_rule_has_one_row.Goals as goal
-
-pub returns : goal.returns
-returns c = each_rule_has_one_row

@@ -1,0 +1,5 @@
+use Rattle.laws_age.proofs.Calling.{goes_by_the_entry}
+use Rattle.laws_age.proofs.laws.acct_mgmt_goes_by_the_entry.Goals as goal
+
+pub returns : goal.returns
+returns c = goes_by_the_entry

@@ -1,0 +1,5 @@
+use Rattle.laws_code.proofs.Anything.{debugs}
+use Rattle.laws_code.proofs.laws.debug_returns_each.Goals as goal
+
+pub returns : goal.returns
+returns c = debugs

@@ -1,0 +1,5 @@
+use Rattle.laws_code.proofs.Listing.{lists}
+use Rattle.laws_code.proofs.laws.listfile_returns.Goals as goal
+
+pub returns : goal.returns
+returns c = lists

@@ -1,0 +1,5 @@
+use Rattle.laws_code.proofs.Checking.{nologins}
+use Rattle.laws_code.proofs.laws.nologin_returns.Goals as goal
+
+pub returns : goal.returns
+returns c = nologins

@@ -1,0 +1,5 @@
+use Rattle.laws_code.proofs.Anything.{probes}
+use Rattle.laws_code.proofs.laws.probe_returns_each.Goals as goal
+
+pub returns : goal.returns
+returns c = probes

@@ -1,0 +1,5 @@
+use Rattle.laws_code.proofs.Remembering.{histories}
+use Rattle.laws_code.proofs.laws.pwhistory_returns.Goals as goal
+
+pub returns : goal.returns
+returns c = histories

@@ -1,0 +1,5 @@
+use Rattle.laws_code.proofs.Checking.{terminals}
+use Rattle.laws_code.proofs.laws.securetty_returns.Goals as goal
+
+pub returns : goal.returns
+returns c = terminals

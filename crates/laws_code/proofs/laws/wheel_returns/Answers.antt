@@ -1,0 +1,5 @@
+use Rattle.laws_code.proofs.Checking.{wheels}
+use Rattle.laws_code.proofs.laws.wheel_returns.Goals as goal
+
+pub returns : goal.returns
+returns c = wheels

@@ -1,0 +1,28 @@
+ghost use Rattle.laws_module.specs.Others.{OthersDontMatter};
+ghost use Rattle.laws_module.specs.Password.{LetInHasPassword};
+ghost use Rattle.laws_module.specs.Tallies.{OtherFilesStay, OtherTalliesDontMatter};
+
+// Each of these is a law about the definitions: its contract states it.
+
+/// pam_unix's authenticate returns SUCCESS only if USER is set, that user has an entry in passwd,
+/// and AUTHTOK is that user's password: its hash under the user's hash is the user's hash. Only a
+/// user whose hash is empty needs none, if `nullok` is given and the application doesn't disallow
+/// it.
+pub fn who_pam_unix_lets_in_has_the_password()
+    ensures { LetInHasPassword }
+{}
+
+/// Other users' lines of shadow don't matter to pam_unix's authenticate: with other files that have
+/// the same passwd, and in shadow the same entry of the user or none, it returns the same code, and
+/// does the same to the transaction.
+pub fn other_users_dont_matter()
+    ensures { OthersDontMatter }
+{}
+
+/// Other users' tallies, and shadow, don't matter to pam_faillock: with other files that have the
+/// same passwd and the same tally of the user, each call returns the same code, does the same to
+/// the transaction, and leaves the same tally; and no call changes any other file.
+pub fn other_tallies_dont_matter()
+    ensures same { OtherTalliesDontMatter }
+    ensures others { OtherFilesStay }
+{}

@@ -1,0 +1,5 @@
+use Rattle.laws_stack.proofs.Granting.{success_needs_a_line}
+use Rattle.laws_stack.proofs.laws.success_needs_a_line.Goals as goal
+
+pub returns : goal.returns
+returns g c = success_needs_a_line _

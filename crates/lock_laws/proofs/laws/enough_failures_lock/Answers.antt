@@ -1,5 +1,0 @@
-use Rattle.lock_laws.proofs.Failing_often.{enough_failures_lock}
-use Rattle.lock_laws.proofs.laws.enough_failures_lock.Goals as goal
-
-pub returns : goal.returns
-returns c = enough_failures_lock c.recorded_failures_stand.ensures.all

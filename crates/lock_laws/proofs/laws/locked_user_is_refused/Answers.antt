@@ -1,5 +1,0 @@
-use Rattle.lock_laws.proofs.Refusing.{locked_is_refused}
-use Rattle.lock_laws.proofs.laws.locked_user_is_refused.Goals as goal
-
-pub returns : goal.returns
-returns c = locked_is_refused

@@ -1,7 +1,0 @@
-//! The command `check`: prints the configuration of a service in one form, or its first fault. Begin at finding.rt.
-#![tactic(auto)]
-
-mod finding;
-
-pub use finding::{Checked, check};
-pub use session_report::{pam_handle, pam_library};

@@ -1,5 +1,0 @@
-use Rattle.std.proofs.Common.{length}
-use Rattle.session_login.proofs.course.+go_through.Given as goal
-
-abbrev pub decreases-go_through : goal.decreases-go_through
-decreases-go_through g l = length l.calls.now

@@ -1,7 +1,0 @@
-pub use Rattle.record_reader
-pub use Rattle.session_run
-pub mod Calls
-pub mod Login
-pub mod Told
-pub mod Ends
-pub mod Reported

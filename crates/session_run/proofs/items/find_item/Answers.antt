@@ -1,4 +1,0 @@
-use Rattle.session_run.proofs.items.find_item.Goals as goal
-
-pub returns-clause-bytes : goal.returns-clause-bytes
-returns-clause-bytes g c = rw c.bytes.ensures at c.are_bytes.ensures

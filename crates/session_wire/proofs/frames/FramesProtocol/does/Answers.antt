@@ -1,5 +1,0 @@
-use Rattle.session_wire.proofs.Framing.{frames_do}
-use Rattle.session_wire.proofs.frames.FramesProtocol.does.Goals as goal
-
-pub returns : goal.returns
-returns c = frames_do

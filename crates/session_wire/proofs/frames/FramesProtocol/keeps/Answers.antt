@@ -1,4 +1,0 @@
-use Rattle.session_wire.proofs.frames.FramesProtocol.keeps.Goals as goal
-
-pub returns-clause-reads : goal.returns-clause-reads
-returns-clause-reads c = c.keeps-2.ensures tt

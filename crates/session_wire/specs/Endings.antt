@@ -1,2 +1,0 @@
--- The status with which open transactions are ended after the frames of a run (this project's own).
-pub use Rattle.session_run.specs.Endings.{ending_status, stop_status}

@@ -1,5 +1,0 @@
-use Rattle.stack_laws.proofs.Counting.{counted_failure_denies}
-use Rattle.stack_laws.proofs.laws.counted_failure_denies.Goals as goal
-
-pub returns : goal.returns
-returns g c = counted_failure_denies _

@@ -1,5 +1,0 @@
-use Rattle.token_laws.proofs.Clearing.{first_line}
-use Rattle.token_laws.proofs.laws.first_line_sees_no_earlier_token.Goals as goal
-
-pub returns : goal.returns
-returns c = first_line

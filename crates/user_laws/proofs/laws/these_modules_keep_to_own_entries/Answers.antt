@@ -1,5 +1,0 @@
-use Rattle.user_laws.proofs.Owning.{these_keep}
-use Rattle.user_laws.proofs.laws.these_modules_keep_to_own_entries.Goals as goal
-
-pub returns : goal.returns
-returns c = these_keep c.users_dont_matter_to_each_other.ensures c.other_modules_leave_user_and_files.ensures c.other_tallies_dont_matter.ensures.others

@@ -1,9 +1,0 @@
-use Rattle.user_laws.proofs.Calling.{calls_alike}
-use Rattle.user_laws.proofs.Sparing.{writes_own}
-use Rattle.user_laws.proofs.laws.users_dont_matter_to_authentications.Goals as goal
-
-pub returns-clause-same : goal.returns-clause-same
-returns-clause-same c = calls_alike
-
-pub returns-clause-others : goal.returns-clause-others
-returns-clause-others c = writes_own

@@ -1,5 +1,0 @@
-use Rattle.way_laws.proofs.Again.{cached_granted_by}
-use Rattle.way_laws.proofs.laws.cached_runs_succeed_by_listed_ways.Goals as goal
-
-pub returns : goal.returns
-returns g c = cached_granted_by _
