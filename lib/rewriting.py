@@ -12,13 +12,13 @@ CONF = "etc/pam.conf"
 MARK = "pam_next.so"
 
 
-def rules_of(stacks_of, services):
+def rules_below(run, root, services):
     """The rules of services by file and line, each with its service, and the services that are refused. In pam.conf a
     rule is of the first service that has it, so that `other` comes first."""
     found, refused = {}, {}
     for service in sorted(services, key=lambda name: name != "other"):
         try:
-            stacks = stacks_of(service)
+            stacks = ways.of_service(run, root, service)
         except Refusal as refusal:
             refused[service] = refusal
             continue

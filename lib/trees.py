@@ -30,16 +30,6 @@ class Tree:
         """The file that has a service's rules."""
         return f"etc/pam.d/{service}" if self.has_directory else "etc/pam.conf"
 
-    @functools.cached_property
-    def copy(self):
-        return Copy(self.below)
-
-    def stacks(self, service, table=None):
-        """The stacks of a service."""
-        if os.path.samefile(self.below.root, "/"):
-            return ways.of_service(self.run, "/", service, table)
-        return self.copy.ask(lambda root: ways.of_service(self.run, root, service, table))
-
     def services(self):
         """The services that have a file (or lines of pam.conf), and names that are no service's or that an editor or
         dpkg left."""
@@ -77,72 +67,46 @@ class Tree:
     def stacks_without_other(self, service):
         """The stacks of a service in a tree in which `other` has no file, or in pam.conf marks the end of its stacks.
         There are none if the service includes the file of `other`."""
-        try:
-            return self.without_other.ask(lambda root: ways.of_service(self.run, root, service))
-        except Refusal:
-            if not self.has_directory:
-                raise
-            return {}
+        while True:
+            try:
+                return ways.of_service(self.run, self.copy.root, service)
+            except Refusal as refusal:
+                names = missing_includes(refusal, self.copy.text)
+                if not any([self.copies(name) for name in sorted(names)]):
+                    if not self.has_directory:
+                        raise
+                    return {}
+
+    def copies(self, name):
+        """Copies a file that is included by a path. Whether there is one that isn't copied yet."""
+        path = "/" + "/".join(part for part in name.split("/") if part not in ("", "."))
+        is_other = "/" not in name or ".." in name.split("/") or path == "/etc/pam.d/other"
+        if is_other or self.copy.status(path) or not self.below.is_file(path):
+            return False
+        put(self.copy, path, self.below.text(path, common.MOST_OF_RULES))
+        return True
 
     @functools.cached_property
-    def without_other(self):
-        made = Copy(self.below, ["other"])
-        if not self.has_directory:
+    def copy(self):
+        """A directory with a copy of the service files. What they include by a path is copied when it is missed."""
+        self.room = tempfile.TemporaryDirectory(prefix="pamsess-")
+        made = common.Below(self.room.name)
+        if self.has_directory:
+            os.makedirs(f"{made.root}/etc/pam.d")
+            for name in self.below.names("etc/pam.d"):
+                if name != "other" and self.below.is_file(f"etc/pam.d/{name}"):
+                    put(made, f"/etc/pam.d/{name}", self.below.text(f"etc/pam.d/{name}", common.MOST_OF_RULES))
+        else:
             marks = "".join(f"other {kind} required {MARK}\n" for kind in common.TYPES)
-            made.put("/etc/pam.conf", f"{self.below.text('etc/pam.conf')}\n\n{marks}")
+            put(made, "/etc/pam.conf", f"{self.below.text('etc/pam.conf')}\n\n{marks}")
         return made
 
 
-class Copy:
-    """A directory with a copy of a tree's service files, in which links are resolved as below the tree: a program that
-    reads one doesn't leave it. What they include by a path is copied when it is missed."""
-
-    def __init__(self, below, without=()):
-        self.room = tempfile.TemporaryDirectory(prefix="pamsess-")
-        self.below, self.made = below, common.Below(self.room.name)
-        self.without = [f"/etc/pam.d/{name}" for name in without]
-        if below.is_directory("etc/pam.d"):
-            os.makedirs(f"{self.made.root}/etc/pam.d")
-            for name in below.names("etc/pam.d"):
-                self.take(f"/etc/pam.d/{name}")
-        else:
-            self.take("/etc/pam.conf")
-
-    def put(self, path, text):
-        os.makedirs(os.path.dirname(self.made.root + path), exist_ok=True)
-        with open(self.made.root + path, "wb") as file:
-            file.write(os.fsencode(text))
-
-    def take(self, path):
-        """Copies a file. In place of one that can't be read there is a link to it, so that a program finds the same
-        fault."""
-        if path in self.without:
-            return
-        try:
-            self.put(path, self.below.read(path, common.MOST_OF_RULES))
-        except common.Unread:
-            os.makedirs(os.path.dirname(self.made.root + path), exist_ok=True)
-            os.symlink(os.path.abspath(self.below.root + path), self.made.root + path)
-
-    def ask(self, question):
-        """Asks a program about the copy."""
-        while True:
-            try:
-                return question(self.made.root)
-            except Refusal as refusal:
-                names = missing_includes(refusal, self.made.text)
-                if not any([self.include(name) for name in sorted(names)]):
-                    raise
-
-    def include(self, name):
-        """Copies a file that is included by a path. Whether there is one that isn't copied yet."""
-        path = "/" + "/".join(part for part in name.split("/") if part not in ("", "."))
-        if "/" not in name or ".." in name.split("/") or path in self.without or not self.below.status(path):
-            return False
-        is_new = not os.path.lexists(self.made.root + path)
-        if is_new:
-            self.take(path)
-        return is_new
+def put(made, path, text):
+    """Writes a file below a directory that only this process uses."""
+    os.makedirs(os.path.dirname(made.root + path), exist_ok=True)
+    with open(made.root + path, "wb") as file:
+        file.write(os.fsencode(text))
 
 
 def missing_includes(refusal, text_of):
@@ -156,5 +120,5 @@ def missing_includes(refusal, text_of):
 
 def located(run, root, service):
     """The rules of a service's stacks, and the types whose stack is that of `other`."""
-    tree = Tree(common.Below(root), run)
-    return {kind: stack.nodes for kind, stack in tree.stacks(service).items()}, tree.others(service.lower())
+    found = ways.of_service(run, root, service)
+    return {kind: stack.nodes for kind, stack in found.items()}, Tree(common.Below(root), run).others(service.lower())

@@ -5,7 +5,6 @@ import shutil
 import common
 import replacing
 import rewriting
-from trees import Tree
 
 # The most that is copied.
 MOST_FILES, MOST_BYTES = 4096, 64 << 20
@@ -39,8 +38,8 @@ def is_copied(path):
 
 def choose(run, below, service, choices):
     """Writes the rules of a service again whose modules were chosen, and names these modules."""
-    tree = Tree(below, run)
-    found, _ = rewriting.rules_of(tree.stacks, {service.lower(), *([] if tree.has_directory else ["other"])})
+    is_conf = not below.is_directory("etc/pam.d")
+    found, _ = rewriting.rules_below(run, below.root, {service.lower(), "other"} if is_conf else {service.lower()})
     changed, used = {}, set()
     for (path, number), (of, rule) in found.items():
         module = replacing.module_before(rule)
