@@ -13,7 +13,10 @@ sys.path.insert(0, os.path.dirname(os.path.abspath(__file__)))
 import inside  # noqa: E402
 from raw import AUTHENTICATE, CHAUTHTOK, REPLY, START, drop, frame  # noqa: E402
 
+# As the room has it, or else the package.
 PROGRAM = "/usr/local/libexec/pamsess/pam_service_user"
+if not os.path.exists(PROGRAM):
+    PROGRAM = "/usr/libexec/pamsess/pam_service_user"
 ACCT_MGMT, JOE = 5, 1000
 # What a program with more rights than its user's mustn't listen to.
 HOSTILE = {
