@@ -10,15 +10,11 @@ import shlex
 import stat
 import sys
 
+import codes
+
+# The return codes, as service files and reports name them.
+CODES, NAMES = codes.CODES, codes.NAMES
 TYPES = ("auth", "account", "password", "session")
-CODES = """
-    success open_err symbol_err service_err system_err buf_err perm_denied auth_err cred_insufficient
-    authinfo_unavail user_unknown maxtries new_authtok_reqd acct_expired session_err cred_unavail cred_expired
-    cred_err no_module_data conv_err authtok_err authtok_recover_err authtok_lock_busy authtok_disable_aging
-    try_again ignore abort authtok_expired module_unknown bad_item conv_again incomplete
-""".split()
-# As the report names them.
-NAMES = [code.upper().replace("TOK_RECOVER_", "TOK_RECOVERY_") for code in CODES]
 CALLS = {
     "authenticate": "auth",
     "acct_mgmt": "account",
