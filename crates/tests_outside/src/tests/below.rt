@@ -11,7 +11,7 @@ use system_objects::FolderVault;
 const LIMIT: u32 = 100;
 
 /// Where links in the tree lead.
-static LINKS: [(&str, &str); 9] = [
+const LINKS: [(&str, &str); 9] = [
     ("var/run", "/run"),
     ("etc/login", "/etc/common"),
     ("etc/beside", "common"),
@@ -44,59 +44,11 @@ fn tree_in(rt: HostRuntime, folder: &PathBuf) -> Result<PathBuf, Fail> {
     ] {
         fs::write(&rt, folder.join(alloc, name)?.as_path(), text)?;
     }
-    for (name, target) in LINKS.iter() {
-        symlink(&rt, *target, tree.join(alloc, *name)?.as_path())?;
+    for (name, target) in LINKS {
+        symlink(&rt, target, tree.join(alloc, name)?.as_path())?;
     }
     Ok(tree)
 }
-
-// A path in the tree, what a read of it gives, and whether it is a directory.
-type Found = (
-    &'static str,
-    Result<&'static [u8], VaultFault>,
-    Result<bool, ReplaceFault>,
-);
-
-/// What is found below the root.
-static FOUND: [Found; 21] = [
-    ("/etc/common", Ok(b"common"), Ok(false)),
-    ("/var/run/faillock/joe", Ok(b"joe"), Ok(false)),
-    ("/var/run/faillock", Err(VaultFault::Failed), Ok(true)),
-    ("/var/run", Err(VaultFault::Failed), Ok(true)),
-    ("/etc/login", Ok(b"common"), Ok(false)),
-    ("/etc/beside", Ok(b"common"), Ok(false)),
-    ("/etc/up", Ok(b"inside"), Ok(false)),
-    ("/etc/out", Ok(b"inside"), Ok(false)),
-    ("/etc/there/joe", Ok(b"joe"), Ok(false)),
-    ("/../../outside", Ok(b"inside"), Ok(false)),
-    ("/etc/.././/../../../outside", Ok(b"inside"), Ok(false)),
-    ("/../tree/etc/common", Err(VaultFault::Absent), Ok(false)),
-    ("/absent/../etc/common", Err(VaultFault::Absent), Ok(false)),
-    ("/etc/hangs", Err(VaultFault::Absent), Ok(false)),
-    ("/..", Err(VaultFault::Failed), Ok(true)),
-    ("/", Err(VaultFault::Failed), Ok(true)),
-    ("", Err(VaultFault::Failed), Ok(true)),
-    (
-        "/etc/turn",
-        Err(VaultFault::Failed),
-        Err(ReplaceFault::Failed),
-    ),
-    (
-        "/etc/common/../common",
-        Err(VaultFault::Failed),
-        Err(ReplaceFault::Failed),
-    ),
-    (
-        "/etc/common/",
-        Err(VaultFault::Failed),
-        Err(ReplaceFault::Failed),
-    ),
-    (
-        "-more/outside",
-        Err(VaultFault::Failed),
-        Err(ReplaceFault::Failed),
-    ),
-];
 
 #[test]
 fn links_and_dots_stay_below_the_root(rt: HostRuntime) -> Result<(), Fail> {
@@ -105,38 +57,54 @@ fn links_and_dots_stay_below_the_root(rt: HostRuntime) -> Result<(), Fail> {
     let tree = tree_in(rt, &folder)?;
     let tree = tree.as_str();
     let mut vault = FolderVault::below(rt, tree.as_bytes())?;
-    for (name, want, is_folder) in FOUND.iter() {
+    for (name, want, is_folder) in [
+        ("/etc/common", Ok(b"common".as_slice()), Ok(false)),
+        ("/var/run/faillock/joe", Ok(b"joe"), Ok(false)),
+        ("/var/run/faillock", Err(VaultFault::Failed), Ok(true)),
+        ("/var/run", Err(VaultFault::Failed), Ok(true)),
+        ("/etc/login", Ok(b"common"), Ok(false)),
+        ("/etc/beside", Ok(b"common"), Ok(false)),
+        ("/etc/up", Ok(b"inside"), Ok(false)),
+        ("/etc/out", Ok(b"inside"), Ok(false)),
+        ("/etc/there/joe", Ok(b"joe"), Ok(false)),
+        ("/../../outside", Ok(b"inside"), Ok(false)),
+        ("/etc/.././/../../../outside", Ok(b"inside"), Ok(false)),
+        ("/../tree/etc/common", Err(VaultFault::Absent), Ok(false)),
+        ("/absent/../etc/common", Err(VaultFault::Absent), Ok(false)),
+        ("/etc/hangs", Err(VaultFault::Absent), Ok(false)),
+        ("/..", Err(VaultFault::Failed), Ok(true)),
+        ("/", Err(VaultFault::Failed), Ok(true)),
+        ("", Err(VaultFault::Failed), Ok(true)),
+        (
+            "/etc/turn",
+            Err(VaultFault::Failed),
+            Err(ReplaceFault::Failed),
+        ),
+        (
+            "/etc/common/../common",
+            Err(VaultFault::Failed),
+            Err(ReplaceFault::Failed),
+        ),
+        (
+            "/etc/common/",
+            Err(VaultFault::Failed),
+            Err(ReplaceFault::Failed),
+        ),
+        (
+            "-more/outside",
+            Err(VaultFault::Failed),
+            Err(ReplaceFault::Failed),
+        ),
+    ] {
         let path = format!(in alloc; "{tree}{name}")?;
         let read = vault.read(alloc, path.as_bytes(), LIMIT);
-        assert_eq!(rt; bytes_of(&read), *want, "at {name}");
+        assert_eq!(rt; bytes_of(&read), want, "at {name}");
         let found = vault.folder(alloc, path.as_bytes());
-        assert_eq!(rt; found, *is_folder, "at {name}");
+        assert_eq!(rt; found, is_folder, "at {name}");
     }
     fs::remove_dir_all(&rt, folder.as_path())?;
     Ok(())
 }
-
-// A path in the tree, what a replacement of it gives, and where the new file is then.
-type Put = (&'static str, Result<(), ReplaceFault>, &'static str);
-
-static PUT: [Put; 6] = [
-    ("/var/run/faillock/joe", Ok(()), "run/faillock/joe"),
-    ("/../../outside", Ok(()), "outside"),
-    ("/../new", Ok(()), "new"),
-    ("/etc/out", Ok(()), "etc/out"),
-    ("/absent/new", Err(ReplaceFault::Failed), ""),
-    ("/etc/there", Err(ReplaceFault::Failed), ""),
-];
-
-/// Paths of locks, and where their files are made.
-static LOCKS: [(&str, Option<&str>); 3] = [
-    (
-        "/var/run/faillock/.pamsess-lock",
-        Some("run/faillock/.pamsess-lock"),
-    ),
-    ("/../.pwd.lock", Some(".pwd.lock")),
-    ("/absent/lock", None),
-];
 
 #[test]
 fn nothing_is_changed_outside_the_root(rt: HostRuntime) -> Result<(), Fail> {
@@ -145,12 +113,19 @@ fn nothing_is_changed_outside_the_root(rt: HostRuntime) -> Result<(), Fail> {
     let tree = tree_in(rt, &folder)?;
     let text = tree.as_str();
     let mut vault = FolderVault::below(rt, text.as_bytes())?;
-    for (name, want, place) in PUT.iter() {
+    for (name, want, place) in [
+        ("/var/run/faillock/joe", Ok(()), "run/faillock/joe"),
+        ("/../../outside", Ok(()), "outside"),
+        ("/../new", Ok(()), "new"),
+        ("/etc/out", Ok(()), "etc/out"),
+        ("/absent/new", Err(ReplaceFault::Failed), ""),
+        ("/etc/there", Err(ReplaceFault::Failed), ""),
+    ] {
         let path = format!(in alloc; "{text}{name}")?;
         let done = vault.replace(alloc, path.as_bytes(), b"short");
-        assert_eq!(rt; done, *want, "at {name}");
+        assert_eq!(rt; done, want, "at {name}");
         if done.is_ok() {
-            let place = tree.join(alloc, *place)?;
+            let place = tree.join(alloc, place)?;
             assert_eq!(rt;
                 fs::read(&rt, place.as_path())?.as_slice(),
                 b"short".as_slice(),
@@ -159,7 +134,14 @@ fn nothing_is_changed_outside_the_root(rt: HostRuntime) -> Result<(), Fail> {
             assert!(rt; !fs::symlink_metadata(&rt, place.as_path())?.is_symlink());
         }
     }
-    for (name, place) in LOCKS.iter() {
+    for (name, place) in [
+        (
+            "/var/run/faillock/.pamsess-lock",
+            Some("run/faillock/.pamsess-lock"),
+        ),
+        ("/../.pwd.lock", Some(".pwd.lock")),
+        ("/absent/lock", None),
+    ] {
         let path = format!(in alloc; "{text}{name}")?;
         let held = vault.hold(alloc, path.as_bytes(), LockKind::Record);
         assert!(rt; held.is_ok(), "at {name}");
