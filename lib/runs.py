@@ -109,7 +109,7 @@ def text_of(rule):
 
 
 def never_run(nodes):
-    """The numbers of the rules that no run comes to, whatever the modules return."""
+    """The numbers of the rules that no run reaches, whatever the modules return."""
     code, copy = copied(nodes)
     if code is None:
         return []
