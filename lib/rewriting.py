@@ -1,15 +1,17 @@
-"""Rules that are written again with other modules, on the lines on which the program `ways` says that they begin. What
-a rule is, and which lines belong to it, is asked of the program; no text is read here."""
+"""Rules that are written again with other modules, on the lines on which the program `ways` says that they begin, and
+the files that they include. What a rule is, which lines belong to it, and which words it has, is asked of the program;
+no text is read here."""
 import os
 import re
 import tempfile
 
+import common
 import ways
 from stacks import Refusal
 
 CONF = "etc/pam.conf"
-# The module of a rule that is put behind others.
-MARK = "pam_next.so"
+# The module of a rule that is put before or behind others, and the service whose rules the program is asked for.
+MARK, PROBE = "pam_next.so", "pam-next"
 
 
 def rules_below(run, root, services):
@@ -77,3 +79,73 @@ def is_joined(run, path, lines, service):
             # (a bracket isn't closed on them)
             return True
     return all(rule.path != MARK for rule in rules)
+
+
+# Files that rules include
+
+
+def included_by(run, path, text, number, service):
+    """The file that the rule on a line includes, by its path below the root; None if it includes none, or by a path
+    with `..` in it. The program is asked about a service that has this rule alone, in trees in which one of its words
+    is a file: a rule that the service then has names it."""
+    lines, words = rule_at(run, text.split("\n"), number)
+    name, service = (CONF, service) if path == CONF else (f"etc/pam.d/{PROBE}", PROBE)
+    # (before the file's name there are a service, a type and `include`)
+    for word in words[:4]:
+        place = plain_path(word if word.startswith("/") else f"etc/pam.d/{word}")
+        # (a directory etc/pam.d would be read in place of pam.conf)
+        is_path = ".." not in place.split("/") and (name != CONF or not place.startswith("etc/pam.d/"))
+        if is_path and place != name and is_read(run, {name: "\n".join([*lines, ""])}, place, service):
+            return place
+    return None
+
+
+def is_read(run, files, path, service):
+    """Whether a service has rules of a further file, if there is one with this path."""
+    with tempfile.TemporaryDirectory(prefix="pamsess-") as root:
+        try:
+            for name, text in {**files, path: "".join(f"{kind} required {MARK}\n" for kind in common.TYPES)}.items():
+                put(root, name, text)
+            stacks = ways.of_service(run, root, service)
+        except (OSError, Refusal):
+            # (the word is no path, or not the one that is included)
+            return False
+    return any(plain_path(rule.file) == path for stack in stacks.values() for rule in stack.rules())
+
+
+def rule_at(run, lines, number):
+    """The lines of the rule that begins on a line, and its words. A rule before it is continued by it, so that the
+    program reads its words as arguments."""
+    for end in range(number, len(lines) + 1):
+        own = lines[number - 1 : end]
+        # (a backslash at the end of the text joins nothing)
+        after = [f"auth required {MARK}", ""] if end < len(lines) else []
+        try:
+            rules = asked(run, [f"auth required {MARK} \\", *own, *after])
+        except Refusal:
+            # (a bracket isn't closed on them)
+            rules = []
+        if [rule.path for rule in rules] == [MARK] * (2 if after else 1):
+            return own, rules[0].arguments
+        if not re.search(r"\\\r?$", own[-1]):
+            break
+    return [], []
+
+
+def asked(run, lines):
+    """The rules of a service that has these lines."""
+    with tempfile.TemporaryDirectory(prefix="pamsess-") as root:
+        put(root, f"etc/pam.d/{PROBE}", "\n".join(lines))
+        return ways.of_service(run, root, PROBE)["auth"].rules()
+
+
+def plain_path(path):
+    """A path below a root, without what leads nowhere."""
+    return "/".join(part for part in path.split("/") if part not in ("", "."))
+
+
+def put(root, path, text):
+    """Writes a new file below a directory that only this process uses."""
+    os.makedirs(os.path.dirname(f"{root}/{path}"), exist_ok=True)
+    with open(f"{root}/{path}", "xb") as file:
+        file.write(os.fsencode(text))

@@ -5,7 +5,9 @@ import re
 import tempfile
 
 import common
+import rewriting
 import ways
+from rewriting import put
 from stacks import UNPROVED, Refusal
 
 # Names that an editor or a package manager left.
@@ -71,20 +73,13 @@ class Tree:
             try:
                 return ways.of_service(self.run, self.copy.root, service)
             except Refusal as refusal:
-                names = missing_includes(refusal, self.copy.text)
-                if not any([self.copies(name) for name in sorted(names)]):
+                path = missing_include(self.run, refusal, self.copy, service)
+                is_other = path in (None, "etc/pam.d/other") or self.copy.status(path)
+                if is_other or not self.below.is_file(path):
                     if not self.has_directory:
                         raise
                     return {}
-
-    def copies(self, name):
-        """Copies a file that is included by a path. Whether there is one that isn't copied yet."""
-        path = "/" + "/".join(part for part in name.split("/") if part not in ("", "."))
-        is_other = "/" not in name or ".." in name.split("/") or path == "/etc/pam.d/other"
-        if is_other or self.copy.status(path) or not self.below.is_file(path):
-            return False
-        put(self.copy, path, self.below.text(path, common.MOST_OF_RULES))
-        return True
+                put(self.copy.root, path, self.below.text(path, common.MOST_OF_RULES))
 
     @functools.cached_property
     def copy(self):
@@ -95,27 +90,21 @@ class Tree:
             os.makedirs(f"{made.root}/etc/pam.d")
             for name in self.below.names("etc/pam.d"):
                 if name != "other" and self.below.is_file(f"etc/pam.d/{name}"):
-                    put(made, f"/etc/pam.d/{name}", self.below.text(f"etc/pam.d/{name}", common.MOST_OF_RULES))
+                    put(made.root, f"etc/pam.d/{name}", self.below.text(f"etc/pam.d/{name}", common.MOST_OF_RULES))
         else:
             marks = "".join(f"other {kind} required {MARK}\n" for kind in common.TYPES)
-            put(made, "/etc/pam.conf", f"{self.below.text('etc/pam.conf')}\n\n{marks}")
+            put(made.root, "etc/pam.conf", f"{self.below.text('etc/pam.conf')}\n\n{marks}")
         return made
 
 
-def put(made, path, text):
-    """Writes a file below a directory that only this process uses."""
-    os.makedirs(os.path.dirname(made.root + path), exist_ok=True)
-    with open(made.root + path, "wb") as file:
-        file.write(os.fsencode(text))
-
-
-def missing_includes(refusal, text_of):
-    """The words of the line at which an included file is missing, and of those that may be joined to it; none if a
-    service is refused for something else. `text_of` gives the text of a file."""
+def missing_include(run, refusal, below, service):
+    """The included file that is missing, by its path below the root; None if a service is refused for something else,
+    or the path isn't known (rewriting.included_by)."""
     found = re.fullmatch(r"refused (\S+) (\d+) IncludeAbsent \d+\n", refusal.args[0])
-    lines = text_of(common.unquoted(found[1])).split("\n")[int(found[2]) - 1 :] if found else []
-    end = next((at for at, line in enumerate(lines, 1) if not re.search(r"\\\r?$", line)), len(lines))
-    return set(re.findall(r"[^\s\[\]#\\]+", "\n".join(lines[:end])))
+    if not found:
+        return None
+    path = common.unquoted(found[1]).lstrip("/")
+    return rewriting.included_by(run, path, below.text(path), int(found[2]), service)
 
 
 def located(run, root, service):
