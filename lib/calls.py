@@ -63,7 +63,7 @@ class Call:
 
 
 def calls_in(text, written_at):
-    """The calls of what `explain` printed. `written_at` gives a rule as it is written, of its place and its module."""
+    """The calls of what `explain` printed. `written_at` gives a rule's text, of its place and its module."""
     calls = []
     for line in text.splitlines():
         head, rule, result = HEAD.fullmatch(line), RULE.fullmatch(line), RESULT.fullmatch(line)

@@ -3,6 +3,7 @@ import os
 import re
 import subprocess
 
+import harness
 from sources import TOP, files_below, text_of
 
 
@@ -125,5 +126,6 @@ def shown(all_pages):
 
 def pictures():
     """Each picture is what docs/pictures makes of the examples' stored runs."""
+    harness.need_program(harness.WAYS)
     ran = subprocess.run([os.path.join(TOP, "docs/pictures"), "--check"], capture_output=True, text=True)
     yield from (ran.stdout + ran.stderr).splitlines()
