@@ -1,22 +1,22 @@
 #!/usr/bin/python
-"""A module for Ansible: what `pamsess-ways` needs of a host. It only reads, with whatever rights it is run with.
+"""A module for Ansible: what `pamsess-ways` needs of a host. It only reads, with whatever rights it is run with, and
+doesn't look into what it reads.
 
-It returns `files`, the service files below `root` in Base64 by their paths, with those that they include by a path;
-`modules`, the paths of the modules that are installed; and `unread`, why a file or directory can't be read. Links are
-followed as the host follows them; below another root than / they have to stay below it. Paths are as Latin-1 has them,
-a character for each byte.
+It returns `files`, the service files below `root` in Base64 by their paths, and `modules`, the paths of the modules
+that are installed. `compare` names the files that these include by a path, and the modules that they name by one: as
+`more` they are read or looked for, too. `unread` says why a file or directory can't be read. Links are followed as the
+host follows them; below another root than / they have to stay below it. Paths are as Latin-1 has them, a character for
+each byte.
 """
 import base64
 import glob
+import json
 import os
-import re
 import stat
 
 from ansible.module_utils.basic import AnsibleModule
 
 MOST = 1048576
-INCLUDE = re.compile(rb"(?i)\b(?:include|substack)[\s\\]+(/[^\s\]#]+)")
-MODULE = re.compile(rb"[\s\[](/[^\s\]#]+\.so)")
 PLACES = (
     "lib/security", "lib/*-linux-*/security", "lib64/security", "usr/lib/security", "usr/lib/*-linux-*/security",
     "usr/lib64/security", "usr/local/lib/security",
@@ -52,25 +52,18 @@ class Host:
         return None
 
     def read(self, name):
-        """Reads a file, and those that it includes by a path."""
-        name = name.lstrip(b"/")
-        if name in self.files:
-            return
+        """Reads a file."""
         text = self.tried(name, text_of)
         if text is not None:
             self.files[name] = text
-            for included in INCLUDE.findall(text):
-                self.read(included)
 
-    def modules(self):
-        """The modules in the usual directories, and those that a file names by a path."""
+    def modules(self, named):
+        """The modules in the usual directories, and those of these paths that are there."""
         found = set()
         for place in PLACES:
             for directory in glob.glob(os.path.join(self.root, os.fsencode(place))):
                 place = os.path.relpath(directory, self.root)
                 found.update(os.path.join(place, it) for it in self.tried(place, os.listdir) or ())
-        named = {path for text in self.files.values() for path in MODULE.findall(text)}
-        named = {path.lstrip(b"/") for path in named}
         return found | {path for path in named if os.path.isfile(os.path.join(self.root, path))}
 
 
@@ -89,16 +82,22 @@ def text_of(path):
 
 
 def main():
-    module = AnsibleModule({"root": {"type": "path", "default": "/"}}, supports_check_mode=True)
+    arguments = {"root": {"type": "path", "default": "/"}, "more": {"type": "str", "default": ""}}
+    module = AnsibleModule(arguments, supports_check_mode=True)
+    more = module.params["more"]
+    more = json.loads(base64.b64decode(more)) if more else {"files": [], "modules": []}
     host = Host(module.params["root"])
     host.read(b"etc/pam.conf")
     for name in sorted(host.tried(b"etc/pam.d", os.listdir) or ()):
         host.read(b"etc/pam.d/" + name)
+    for name in more["files"]:
+        host.read(name.encode("latin-1"))
+    modules = host.modules([name.encode("latin-1") for name in more["modules"]])
     module.exit_json(
         changed=False,
         has_directory=bool(host.tried(b"etc/pam.d", os.path.isdir)),
         files={name.decode("latin-1"): base64.b64encode(text).decode() for name, text in host.files.items()},
-        modules=sorted(path.decode("latin-1") for path in host.modules()),
+        modules=sorted(path.decode("latin-1") for path in modules),
         unread=host.unread,
     )
 
