@@ -15,8 +15,8 @@ from harness import PROGRAM, TOP
 # What makes a directory a stored row or example, and all that one has beside its tree.
 RUNS = ("cases", "checked", "script", "words")
 PARTS = (
-    "README.md", "after", "cases", "checked", "client", "fails", "input", "input.hex", "output", "output.hex", "pads",
-    "runs", "script", "status", "words",
+    "README.md", "after", "cases", "checked", "client", "fails", "input", "input.hex", "links", "modes", "output",
+    "output.hex", "pads", "runs", "script", "status", "words",
 )
 
 # How long a run may take, and how long one of a case that is run hundreds of times, in seconds.
@@ -261,7 +261,8 @@ def rows_below(top):
 
 def is_usual(*folders):
     """Whether no front end is run, no input or output fails, and the files are stored whole."""
-    return not any(os.path.isfile(f"{folder}/{part}") for folder in folders for part in ("fails", "pads", "runs"))
+    parts = ("fails", "links", "modes", "pads", "runs")
+    return not any(os.path.isfile(f"{folder}/{part}") for folder in folders for part in parts)
 
 
 def stored_cases(top):
