@@ -10,14 +10,6 @@ TEST_CASES = "tests/cases/differs-from-libpam/"
 # What follows a row's subject: in, out or both, which is a link to the row's test case.
 MARK = r" \(\[\*\*(?:in|out|in, out)\*\*\]\(\.\./([^)\s]+)\)\)"
 UNLINKED = r"\(\*\*(?:in|out|in, out)\*\*\)"
-# Rows that can't be a test case, and the script that tests them. The first needs two processes, the others a mode
-# or a link, which a copy of a stored tree doesn't have.
-ELSEWHERE = {
-    "linux-pam.md: usermod -L during a change of password that had begun": "tests/scripts/read-anew",
-    "modules.md pam_listfile: file=: a link; a list that everyone can write": "tests/scripts/differences",
-    "modules.md pam_shells: a list that everyone can write": "tests/scripts/differences",
-    "modules.md pam_securetty: a list that everyone can write": "tests/scripts/differences",
-}
 
 
 def rows(page):
@@ -65,21 +57,15 @@ def differing(all_pages):
 def tested(all_pages):
     """Each row of linux-pam.md and modules.md by which somebody gets in or is kept out leads to a test case of
     tests/cases/differs-from-libpam, and each of these to a run; linux-pam.md has no row without a column."""
-    marked = set()
     for path, number, name, mark, cells in differences(all_pages):
-        wanted = ELSEWHERE.get(name)
         if re.search(UNLINKED, cells[0]):
             yield f"{path}:{number}: the mark leads to no test case"
         if mark:
-            marked.add(name)
             to = mark[1]
-            if wanted and to != wanted:
-                yield f"{path}:{number}: {wanted} tests this row"
-            if not wanted and not re.fullmatch(rf"{TEST_CASES}[^/]+", to):
+            if not re.fullmatch(rf"{TEST_CASES}[^/]+", to):
                 yield f"{path}:{number}: {to} is none of {TEST_CASES}"
-            if not wanted and not has_run(to):
+            if not has_run(to):
                 yield f"{path}:{number}: {to} has no run"
-    yield from (f"no page marks the row {name}" for name in ELSEWHERE if name not in marked)
     for number, _, cells, head in rows(all_pages["docs/linux-pam.md"]):
         if len(cells) != len(head) or head[:4] != ["Subject", "Here", "1.5.2", "1.6, 1.7"]:
             yield f"docs/linux-pam.md:{number}: {len(cells)} cells below {', '.join(head)}"

@@ -60,6 +60,17 @@ uid_t getuid(void) {
     return caller;
 }
 
+/* a reply is taken; a line `rename` before it comes first */
+static const char *next_reply(void) {
+    char from[300], to[300];
+    while (taken < given && sscanf(replies[taken], "\\rename %299s %299s", from, to) == 2) {
+        taken++;
+        if (rename(from, to))
+            perror(from);
+    }
+    return taken < given ? replies[taken++] : NULL;
+}
+
 static void no_delay(int code, unsigned micros, void *data) {
     (void)code, (void)micros, (void)data;
 }
@@ -71,11 +82,11 @@ static int converse(int count, const struct pam_message **messages, struct pam_r
         int style = messages[i]->msg_style;
         if (style != PAM_PROMPT_ECHO_OFF && style != PAM_PROMPT_ECHO_ON)
             continue;
-        if (taken == given) {
+        const char *reply = next_reply();
+        if (!reply) {
             free(made);
             return PAM_CONV_ERR;
         }
-        const char *reply = replies[taken++];
         if (!strcmp(reply, "\\later")) {
             free(made);
             return PAM_CONV_AGAIN;
@@ -122,6 +133,8 @@ int main(void) {
             caller = strtoul(rest, NULL, 10);
         else if (!strcmp(word, "reply"))
             snprintf(replies[given++], sizeof replies[0], "%s", strchr(rest, ' ') + 1);
+        else if (!strcmp(word, "rename"))
+            snprintf(replies[given++], sizeof replies[0], "\\%s", line);
         else if (!strcmp(word, "start")) {
             char service[64] = "", user[600] = "";
             sscanf(rest, "%*s %63s %599s", service, user);
