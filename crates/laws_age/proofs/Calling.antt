@@ -18,8 +18,8 @@ use Rattle.mod_unix.specs.declared.look.KnownPassword.{KnownPassword}
 use Rattle.mod_unix.specs.declared.look.KnownPassword.TheVariants.{Shadowed}
 use Rattle.mod_unix.specs.Account.{account_by, checks_account}
 use Rattle.mod_unix.specs.Aging.{aged, day_of}
-use Rattle.mod_unix.specs.Look.{by_field, by_x, field_among, field_in, field_or_missing, is_x, looks, shadow_among, shadow_in, shadowed}
-use Rattle.mod_unix.specs.Unix.{by_func}
+use Rattle.mod_unix.specs.Look.{after_passwd, shadow_if_x, field_among, field_in, field_or_missing, is_x, looks, shadow_among, shadow_in, shadowed}
+use Rattle.mod_unix.specs.Unix.{act_of_func}
 use Rattle.laws_age.specs.Call.{GoesByTheEntry, HasEntry}
 
 read_so : (failing : Bool) (found : Option (List ℕ)) (text : List ℕ) → failing ≡ false → found ≡ Some text → length text ≤ account_limit → content_of failing account_limit found ≡ content.Holds text
@@ -49,17 +49,17 @@ module _ (user : List ℕ) (entry : Shadow) (stage : Stage) (fine : (n : ℕ) �
       ∙ ap (λ (r : Result (List Shadow) DbFault). shadow_among user r) h.entries_are
       ∙ ap (λ (o : Option Shadow). shadowed o) h.entry_is
 
-  by_shadow : (by_x true user (codes "x") judges first).code ≡ aged (day_of stage.sight.clock.moment) entry
+  by_shadow : (shadow_if_x true user (codes "x") judges first).code ≡ aged (day_of stage.sight.clock.moment) entry
   unfolding reads_file
   by_shadow = ap (λ (k : KnownPassword). (judges k second).code) found_in_shadow ∙ entry_code entry second
 
-  by_passwd : (by_field user (field_in user (content_seen (codes "/etc/passwd") account_limit stage.sight)) judges first).code ≡ aged (day_of stage.sight.clock.moment) entry
+  by_passwd : (after_passwd user (field_in user (content_seen (codes "/etc/passwd") account_limit stage.sight)) judges first).code ≡ aged (day_of stage.sight.clock.moment) entry
   by_passwd =
-      ap (λ (c : Content). (by_field user (field_in user c) judges first).code)
+      ap (λ (c : Content). (after_passwd user (field_in user c) judges first).code)
       (read_so (stage.sight.failing 0) (file_at (path_of stage.sight.root (codes "/etc/passwd")) stage.sight.files) h.passwd (fine 0) h.passwd_is h.passwd_fits)
-      ∙ ap (λ (r : Result (List Passwd) DbFault). (by_field user (field_among user r) judges first).code) h.accounts_are
-      ∙ ap (λ (o : Option Passwd). (by_field user (field_or_missing o) judges first).code) h.account_is
-      ∙ ap (λ (f : List ℕ). (by_x (is_x f) user f judges first).code) h.in_shadow
+      ∙ ap (λ (r : Result (List Passwd) DbFault). (after_passwd user (field_among user r) judges first).code) h.accounts_are
+      ∙ ap (λ (o : Option Passwd). (after_passwd user (field_or_missing o) judges first).code) h.account_is
+      ∙ ap (λ (f : List ℕ). (shadow_if_x (is_x f) user f judges first).code) h.in_shadow
       ∙ by_shadow
 
   looked : (looks user judges stage).code ≡ aged (day_of stage.sight.clock.moment) entry
@@ -80,4 +80,4 @@ asked_first user entry stage is fine h =
 pub goes_by_the_entry : GoesByTheEntry
 goes_by_the_entry call room held sight user entry func is fine h =
     let stage : Stage = record { room = room; held = held; known = nothing_known; sight = sight } in
-    ap (λ (f : Func). (by_func f call stage).code) func ∙ asked_first user entry stage is fine h
+    ap (λ (f : Func). (act_of_func f call stage).code) func ∙ asked_first user entry stage is fine h

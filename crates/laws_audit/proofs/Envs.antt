@@ -12,7 +12,7 @@ use Rattle.mod_env.specs.declared.expand.Expansion.TheVariants.{TooLong, Puts}
 use Rattle.mod_env.specs.Conf.{conf_of}
 use Rattle.mod_env.specs.EnvFile.{assignments_of}
 use Rattle.mod_env.specs.Expand.{Sources, asks_account, expansion_of}
-use Rattle.mod_env.specs.Env.{at_once, by_entries, by_expansion, by_first, by_fits, by_texts, by_user, entry_in, env_act, env_limit, is_zero, looks_if, put_in, puts_all, puts_env, reads_first, reads_second, sees_env, sees_sources, sets_all, sets_by, sets_variable, text_in}
+use Rattle.mod_env.specs.Env.{at_once, sets_if_well_formed, puts_expansion, after_conf, puts_if_all_fit, sets_by_texts, finds_entry, entry_in, env_act, env_limit, is_zero, looks_if, put_in, puts_all, puts_env, reads_first, reads_second, sees_env, sees_sources, sets_all, sets_by, sets_variable, text_in}
 use Rattle.laws_audit.proofs.Steps.{Leaves, answering, finding, reading, seeing_items, unless}
 
 module _ (path : List ℕ) where
@@ -32,24 +32,24 @@ module _ (path : List ℕ) where
   put_all (text ∷ texts) act next = putting text (puts_all texts act) (put_all texts act next)
 
   module _ (act : Bool → Act) (next : (fits : Bool) → Still (act fits)) where
-    expanded : (e : Expansion) → Still (by_expansion e act)
+    expanded : (e : Expansion) → Still (puts_expansion e act)
     expanded (Puts text) = putting text (act true) (next true)
     expanded TooLong = next false
 
     set_by : (entry : EnvLine) (account : Option Passwd) → Still (sets_by entry account act)
     unfolding sets_by
     set_by entry account =
-        seeing_items path (λ items. sees_env (λ env. by_expansion (expansion_of entry (record { items = items; env = env; entry = account })) act))
-        (λ items. seeing_env (λ env. by_expansion (expansion_of entry (record { items = items; env = env; entry = account })) act)
+        seeing_items path (λ items. sees_env (λ env. puts_expansion (expansion_of entry (record { items = items; env = env; entry = account })) act))
+        (λ items. seeing_env (λ env. puts_expansion (expansion_of entry (record { items = items; env = env; entry = account })) act)
         (λ env. expanded (expansion_of entry (record { items = items; env = env; entry = account }))))
 
   module _ (act : Option Passwd → Act) (next : (account : Option Passwd) → Still (act account)) where
-    by_name : (user : Option (List ℕ)) → Still (by_user user act)
+    by_name : (user : Option (List ℕ)) → Still (finds_entry user act)
     by_name (Some user) = finding path user (λ account. act (entry_in account)) (λ account. next (entry_in account))
     by_name None = next None
 
     looked : (asks : Bool) → Still (looks_if asks act)
-    looked true = seeing_items path (λ items. by_user items.user act) (λ items. by_name items.user)
+    looked true = seeing_items path (λ items. finds_entry items.user act) (λ items. by_name items.user)
     looked false = next None
 
   set_one : (entry : EnvLine) (act : Bool → Act) → ((fits : Bool) → Still (act fits)) → Still (sets_variable entry act)
@@ -65,27 +65,27 @@ module _ (path : List ℕ) where
   set_all (entry ∷ entries) act next = set_one entry (λ fits. cond fits (sets_all entries act) (act false))
       (λ fits. picked fits (sets_all entries act) (act false) (set_all entries act next) (next false))
 
-  fitted : (assignments : List (List ℕ)) (fits : Bool) → Still (by_fits assignments fits)
+  fitted : (assignments : List (List ℕ)) (fits : Bool) → Still (puts_if_all_fit assignments fits)
   fitted assignments true = put_all assignments (answers returns.Success) (answering path returns.Success)
   fitted assignments false = answering path returns.BufErr
 
-  entered : (entries : Option (List EnvLine)) (assignments : List (List ℕ)) → Still (by_entries entries assignments)
-  entered (Some entries) assignments = set_all entries (by_fits assignments) (fitted assignments)
+  entered : (entries : Option (List EnvLine)) (assignments : List (List ℕ)) → Still (sets_if_well_formed entries assignments)
+  entered (Some entries) assignments = set_all entries (puts_if_all_fit assignments) (fitted assignments)
   entered None assignments = answering path returns.ServiceErr
 
-  texts_set : (conf : List ℕ) (env : Option (List ℕ)) → Still (by_texts conf env)
+  texts_set : (conf : List ℕ) (env : Option (List ℕ)) → Still (sets_by_texts conf env)
   texts_set conf (Some env) = entered (conf_of conf) (assignments_of env)
   texts_set conf None = answering path returns.ServiceErr
 
   second_read : (none : Bool) (args : List (List ℕ)) (conf : List ℕ) → Still (reads_second none args conf)
   second_read true args conf = texts_set conf (Some [])
   second_read false args conf =
-      reading path (unwrap_or (value_among (codes "envfile=") args) (codes "/etc/environment")) env_limit (λ content. by_texts conf (text_in content)) (λ content. texts_set conf (text_in content))
+      reading path (unwrap_or (value_among (codes "envfile=") args) (codes "/etc/environment")) env_limit (λ content. sets_by_texts conf (text_in content)) (λ content. texts_set conf (text_in content))
 
-  first_read : (args : List (List ℕ)) (conf : Option (List ℕ)) → Still (by_first args conf)
+  first_read : (args : List (List ℕ)) (conf : Option (List ℕ)) → Still (after_conf args conf)
   first_read args (Some conf) = second_read (is_zero (value_among (codes "readenv=") args)) args conf
   first_read args None = answering path returns.ServiceErr
 
   pub env_leaves : (call : PlainCall) → Still (env_act call)
   env_leaves call = unless path (at_once call.func) (reads_first call.args)
-      (reading path (unwrap_or (value_among (codes "conffile=") call.args) (codes "/etc/security/pam_env.conf")) env_limit (λ content. by_first call.args (text_in content)) (λ content. first_read call.args (text_in content)))
+      (reading path (unwrap_or (value_among (codes "conffile=") call.args) (codes "/etc/security/pam_env.conf")) env_limit (λ content. after_conf call.args (text_in content)) (λ content. first_read call.args (text_in content)))

@@ -22,8 +22,8 @@ use Rattle.mod_history.specs.declared.history.Remembered.{Remembered}
 use Rattle.mod_history.specs.History.{history_text}
 use Rattle.mod_history.specs.Renewal.{hashes_of, renewed}
 use Rattle.mod_history.specs.Wheel.{checks_wheel, code_by_groups, code_by_passwds, wheel_act}
-use Rattle.mod_history.specs.Securetty.{by_account, by_list, by_root, by_terminal, checks_terminal, securetty_act, terminal_name}
-use Rattle.mod_history.specs.Pwhistory.{at_once, by_length, by_remember, by_token, by_use, checks_token, compares_token, history_in, history_limit, history_name, if_locked, is_refused, locks_history, pwhistory_act, refuses_token, remember_in_history, remember_locked, remember_of, remembers, renew_if_known, renews, stores_text, unless_refused, unless_used, unsets_item}
+use Rattle.mod_history.specs.Securetty.{terminal_for_account, terminal_code, checks_if_root, looks_up_terminal, checks_terminal, securetty_act, terminal_name}
+use Rattle.mod_history.specs.Pwhistory.{at_once, stores_if_fits, unless_remember_zero, remembers_if_taken, stores_unless_used, checks_token, compares_token, history_in, history_limit, history_name, if_locked, is_refused, locks_history, pwhistory_act, refuses_token, remember_in_history, remember_locked, remember_of, remembers, renew_if_known, renews, stores_text, unless_refused, unless_used, unsets_item}
 use Rattle.laws_audit.proofs.Steps.{Leaves, answering, asking, finding, holding, letting_go, reading, reading_groups, reading_passwds, replacing, seeing_caller, seeing_items, showing, unless}
 use Rattle.laws_audit.proofs.Unixes.{looking, taking}
 
@@ -46,22 +46,22 @@ module _ (path : List ℕ) where
 
   -- ---- pam_securetty
 
-  terminal_checked : (tty : Option (List ℕ)) → Still (by_terminal tty)
+  terminal_checked : (tty : Option (List ℕ)) → Still (looks_up_terminal tty)
   terminal_checked None = answering path returns.ServiceErr
-  terminal_checked (Some tty) = reading path (codes "/etc/securetty") account_limit (λ content. answers (by_list (terminal_name tty) content)) (λ content. answering path (by_list (terminal_name tty) content))
+  terminal_checked (Some tty) = reading path (codes "/etc/securetty") account_limit (λ content. answers (terminal_code (terminal_name tty) content)) (λ content. answering path (terminal_code (terminal_name tty) content))
 
-  root_checked : (root : Bool) → Still (by_root root)
-  root_checked true = seeing_items path (λ items. by_terminal items.tty) (λ items. terminal_checked items.tty)
+  root_checked : (root : Bool) → Still (checks_if_root root)
+  root_checked true = seeing_items path (λ items. looks_up_terminal items.tty) (λ items. terminal_checked items.tty)
   root_checked false = answering path returns.Success
 
-  account_checked : (a : Account) → Still (by_account a)
+  account_checked : (a : Account) → Still (terminal_for_account a)
   account_checked unreadable = answering path returns.ServiceErr
   account_checked missing = answering path returns.UserUnknown
   account_checked (found entry) = root_checked (entry.uid == 0)
 
   pub securetty_leaves : (call : PlainCall) → Still (securetty_act call)
   securetty_leaves call = unless path (code_unchecked call.func returns.Success) checks_terminal
-      (asking path (λ user. finds_account user by_account) (λ user. finding path user by_account account_checked))
+      (asking path (λ user. finds_account user terminal_for_account) (λ user. finding path user terminal_for_account account_checked))
 
   -- ---- pam_pwhistory
 
@@ -87,7 +87,7 @@ module _ (path : List ℕ) where
     ended : (done : Option Code) → Still (ends done)
     ended done = letting_go path true (unless_refused act done) (unless_used_since done)
 
-    by_size : (short : Bool) (text : List ℕ) → Still (by_length short text (λ code. ends (Some code)))
+    by_size : (short : Bool) (text : List ℕ) → Still (stores_if_fits short text (λ code. ends (Some code)))
     by_size true text = replacing path history_name text (λ done. ends (Some (write_result done))) apart (λ done. ended (Some (write_result done)))
     by_size false text = ended (Some returns.AuthtokErr)
 
@@ -95,7 +95,7 @@ module _ (path : List ℕ) where
     unfolding stores_text
     storing text = by_size (nat_le (length text) history_limit) text
 
-    used : (refused : Bool) (remember : ℕ) (user hash : List ℕ) (history : List Remembered) → Still (by_use refused remember user hash history ends)
+    used : (refused : Bool) (remember : ℕ) (user hash : List ℕ) (history : List Remembered) → Still (stores_unless_used refused remember user hash history ends)
     used true remember user hash history = ended None
     used false remember user hash history = storing (history_text (renewed remember user hash history))
 
@@ -103,7 +103,7 @@ module _ (path : List ℕ) where
       history_read : (history : Option (List Remembered)) → Still (remember_in_history call remember user hash token history ends)
       history_read None = ended (Some returns.AuthtokErr)
       history_read (Some history) =
-          seeing_caller path (λ caller. by_use (is_refused call.args caller token hash (hashes_of user history)) remember user hash history ends)
+          seeing_caller path (λ caller. stores_unless_used (is_refused call.args caller token hash (hashes_of user history)) remember user hash history ends)
           (λ caller. used (is_refused call.args caller token hash (hashes_of user history)) remember user hash history)
 
       read_again : Still (remember_locked call remember user hash token ends)
@@ -128,12 +128,12 @@ module _ (path : List ℕ) where
           seeing_caller path (λ caller. unless_used (is_refused call.args caller token hash (hashes_of user history)) call remember user hash token act)
           (λ caller. unless_had (is_refused call.args caller token hash (hashes_of user history)))
 
-      unless_zero : (zero : Bool) → Still (by_remember zero call remember user hash token act)
+      unless_zero : (zero : Bool) → Still (unless_remember_zero zero call remember user hash token act)
       unless_zero true = next returns.Success
       unless_zero false = reading path history_name history_limit (λ content. compares_token call remember user hash token (history_in content) act) (λ content. compared (history_in content))
 
     module _ (call : PlainCall) (user : List ℕ) where
-      with_token : (hash : List ℕ) (token : Option (List ℕ)) → Still (by_token call user hash token act)
+      with_token : (hash : List ℕ) (token : Option (List ℕ)) → Still (remembers_if_taken call user hash token act)
       with_token hash None = next returns.AuthtokErr
       with_token hash (Some token) = unless_zero call (remember_of call.args) user hash token (remember_of call.args == 0)
 

@@ -23,13 +23,13 @@ use Rattle.pam_base.specs.Code.{number_of}
 use Rattle.mod_unix.specs.declared.look.KnownPassword.{KnownPassword}
 use Rattle.mod_unix.specs.declared.look.KnownPassword.TheVariants.{Unknown, Unavailable, Plain, Shadowed}
 use Rattle.mod_unix.specs.Aging.{aged, day_of}
-use Rattle.mod_unix.specs.Look.{by_field, by_x, field_among, field_in, field_or_missing, is_x, looks, shadow_in}
+use Rattle.mod_unix.specs.Look.{after_passwd, shadow_if_x, field_among, field_in, field_or_missing, is_x, looks, shadow_in}
 use Rattle.mod_unix.specs.Verify.{hash_verified, verified}
 use Rattle.mod_unix.specs.NewHash.{hashed_token}
 use Rattle.mod_unix.specs.Account.{account_by, checks_account}
-use Rattle.mod_unix.specs.Authenticate.{asks_password, authenticates, judge_account, by_open, by_pass as verified_by, delays, is_empty, is_open, is_success, keeps_for_setcred, setcred_return, try_first, unless_success, verifies_token, with_first}
-use Rattle.mod_unix.specs.Change.{asks_old, by_authtok, write_result, by_early, by_empty, by_kept, by_pass, by_root, by_text, by_token, change_by, changed_shadow, changes_entry, changes_locked, changes_shadow, changes_token, if_locked, is_kept, is_too_early, new_prompts, same_reply, sets_new, stores_token, takes_token, tries_change, usable}
-use Rattle.mod_unix.specs.Unix.{by_func, kept_code, unix_act}
+use Rattle.mod_unix.specs.Authenticate.{asks_password, authenticates, judge_account, unless_open, first_pass_or_asks as verified_by, delays, is_empty, is_open, is_success, keeps_for_setcred, setcred_return, try_first, unless_success, verifies_token, with_first}
+use Rattle.mod_unix.specs.Change.{asks_old, authtok_or_asks, write_result, unless_too_early, asks_old_unless_empty, unless_token_is_kept, checks_or_changes, unless_caller_is_root, replaces_shadow, stores_if_taken, change_by, changed_shadow, changes_entry, changes_locked, changes_shadow, changes_token, if_locked, is_kept, is_too_early, new_prompts, same_reply, sets_new, stores_token, takes_token, tries_change, usable}
+use Rattle.mod_unix.specs.Unix.{act_of_func, kept_code, unix_act}
 use Rattle.laws_audit.proofs.Steps.{Leaves, answering, asking, asking_token, delaying, drawing, exchanging, holding, keeping, letting_go, reading, replacing, seeing_caller, seeing_clock, seeing_data, seeing_items, setting_item}
 
 module _ (path : List ℕ) where
@@ -39,26 +39,26 @@ module _ (path : List ℕ) where
   -- ---- what is known of a user
 
   module _ (user : List ℕ) (act : KnownPassword → Act) (next : (look : KnownPassword) → Still (act look)) where
-    by_hash : (x : Bool) (hash : List ℕ) → Still (by_x x user hash act)
+    by_hash : (x : Bool) (hash : List ℕ) → Still (shadow_if_x x user hash act)
     by_hash true hash = reading path (codes "/etc/shadow") account_limit (λ c. act (shadow_in user c)) (λ c. next (shadow_in user c))
     by_hash false hash = next (Plain hash)
 
-    by_entry : (entry : Option Passwd) → Still (by_field user (field_or_missing entry) act)
+    by_entry : (entry : Option Passwd) → Still (after_passwd user (field_or_missing entry) act)
     by_entry (Some entry) = by_hash (is_x entry.password) entry.password
     by_entry None = next Unknown
 
-    by_entries : (entries : Result (List Passwd) DbFault) → Still (by_field user (field_among user entries) act)
+    by_entries : (entries : Result (List Passwd) DbFault) → Still (after_passwd user (field_among user entries) act)
     by_entries (Ok entries) = by_entry (entry_of user entries)
     by_entries (Err fault) = next Unavailable
 
-    by_content : (c : Content) → Still (by_field user (field_in user c) act)
+    by_content : (c : Content) → Still (after_passwd user (field_in user c) act)
     by_content content.Absent = next Unavailable
     by_content content.Unreadable = next Unavailable
     by_content (content.Holds text) = by_entries (passwds_of text)
 
     pub looking : Still (looks user act)
     unfolding looks
-    looking = reading path (codes "/etc/passwd") account_limit (λ c. by_field user (field_in user c) act) by_content
+    looking = reading path (codes "/etc/passwd") account_limit (λ c. after_passwd user (field_in user c) act) by_content
 
   -- ---- authenticate
 
@@ -102,7 +102,7 @@ module _ (path : List ℕ) where
       delayed true = verifying
       delayed false = delaying path 2000000 (verifies_token call look keeps_for_setcred) verifying
 
-      opened : (empty : Bool) → Still (by_open empty call look keeps_for_setcred)
+      opened : (empty : Bool) → Still (unless_open empty call look keeps_for_setcred)
       unfolding keeps_for_setcred
       opened true = kept returns.Success
       opened false = delayed (has_argument (codes "nodelay") call.args)
@@ -135,21 +135,21 @@ module _ (path : List ℕ) where
     unfolding asks_old
     old_asked entry = asking_token path true (codes "Password: ") (λ token. act (hash_verified entry.hash token)) (λ token. next (hash_verified entry.hash token))
 
-    unless_empty : (none : Bool) (entry : Shadow) → Still (by_empty none entry act)
+    unless_empty : (none : Bool) (entry : Shadow) → Still (asks_old_unless_empty none entry act)
     unless_empty true entry = next returns.Success
     unless_empty false entry = old_asked entry
 
-    unless_early : (early : Bool) (entry : Shadow) → Still (by_early early entry act)
+    unless_early : (early : Bool) (entry : Shadow) → Still (unless_too_early early entry act)
     unless_early true entry = next returns.AuthtokErr
     unless_early false entry = unless_empty (is_empty entry.hash) entry
 
-    unless_root : (root : Bool) (today : ℕ) (entry : Shadow) → Still (by_root root today entry act)
+    unless_root : (root : Bool) (today : ℕ) (entry : Shadow) → Still (unless_caller_is_root root today entry act)
     unless_root true today entry = next returns.Success
     unless_root false today entry = unless_early (is_too_early today entry.last_change entry.min) entry
 
     trying : (today : ℕ) (entry : Shadow) → Still (tries_change today entry act)
     unfolding tries_change
-    trying today entry = seeing_caller path (λ caller. by_root (caller == 0) today entry act) (λ caller. unless_root (caller == 0) today entry)
+    trying today entry = seeing_caller path (λ caller. unless_caller_is_root (caller == 0) today entry act) (λ caller. unless_root (caller == 0) today entry)
 
   -- ---- the new token
 
@@ -158,7 +158,7 @@ module _ (path : List ℕ) where
     new_set (Some token) = setting_item path AuthTok token (act (Some token)) (next (Some token))
     new_set None = next None
 
-    given_or_asked : (given : Bool) → Still (by_authtok given act)
+    given_or_asked : (given : Bool) → Still (authtok_or_asks given act)
     given_or_asked true = seeing_items path (λ items. act (usable items.auth_tok)) (λ items. next (usable items.auth_tok))
     given_or_asked false = exchanging path new_prompts (λ replies. sets_new (same_reply replies) act) (λ replies. new_set (same_reply replies))
 
@@ -173,14 +173,14 @@ module _ (path : List ℕ) where
     ended : (code : Code) → Still (lets_go true (act code))
     ended code = letting_go path true (act code) (next code)
 
-    text_set : (text : Option (List ℕ)) → Still (by_text text (λ code. lets_go true (act code)))
+    text_set : (text : Option (List ℕ)) → Still (replaces_shadow text (λ code. lets_go true (act code)))
     text_set (Some text) = replacing path (codes "/etc/shadow") text (λ done. lets_go true (act (write_result done))) apart (λ done. ended (write_result done))
     text_set None = ended returns.AuthtokErr
 
     locked : (user hash : List ℕ) (today : ℕ) → Still (changes_locked user hash today (λ code. lets_go true (act code)))
     unfolding changes_locked
     locked user hash today =
-        reading path (codes "/etc/shadow") account_limit (λ c. by_text (changed_shadow user hash today c) (λ code. lets_go true (act code))) (λ c. text_set (changed_shadow user hash today c))
+        reading path (codes "/etc/shadow") account_limit (λ c. replaces_shadow (changed_shadow user hash today c) (λ code. lets_go true (act code))) (λ c. text_set (changed_shadow user hash today c))
 
     by_held : (user hash : List ℕ) (today : ℕ) (held : Bool) → Still (if_locked user hash today act held)
     by_held user hash today true = locked user hash today
@@ -191,7 +191,7 @@ module _ (path : List ℕ) where
     changing user hash today = holding path (codes "/etc/.pwd.lock") Record (if_locked user hash today act) (by_held user hash today)
 
     module _ (call : PlainCall) (user : List ℕ) where
-      token_stored : (token : Option (List ℕ)) → Still (by_token call user token act)
+      token_stored : (token : Option (List ℕ)) → Still (stores_if_taken call user token act)
       token_stored (Some token) =
           seeing_clock path (λ clock. draws_word (λ word. changes_shadow user (hashed_token call.args word token) (day_of clock.moment) act))
           (λ clock. drawing path (λ word. changes_shadow user (hashed_token call.args word token) (day_of clock.moment) act)
@@ -202,18 +202,18 @@ module _ (path : List ℕ) where
       unfolding stores_token
       storing token = token_stored token
 
-      in_pass : (preliminary : Bool) (today : ℕ) (entry : Shadow) → Still (by_pass preliminary call user today entry act)
+      in_pass : (preliminary : Bool) (today : ℕ) (entry : Shadow) → Still (checks_or_changes preliminary call user today entry act)
       in_pass true today entry = trying act next today entry
       in_pass false today entry = taking (λ token. stores_token call user token act) storing call
 
-      unless_kept : (keeps : Bool) (today : ℕ) (entry : Shadow) → Still (by_kept keeps call user today entry act)
+      unless_kept : (keeps : Bool) (today : ℕ) (entry : Shadow) → Still (unless_token_is_kept keeps call user today entry act)
       unless_kept true today entry = next returns.Success
       unless_kept false today entry = in_pass (has_flag call.flags prelim_check) today entry
 
       entry_changed : (entry : Shadow) → Still (changes_entry call user entry act)
       unfolding changes_entry
       entry_changed entry =
-          seeing_clock path (λ clock. by_kept (is_kept call (day_of clock.moment) entry) call user (day_of clock.moment) entry act)
+          seeing_clock path (λ clock. unless_token_is_kept (is_kept call (day_of clock.moment) entry) call user (day_of clock.moment) entry act)
           (λ clock. unless_kept (is_kept call (day_of clock.moment) entry) (day_of clock.moment) entry)
 
       changed_by_look : (look : KnownPassword) → Still (change_by call user look act)
@@ -230,7 +230,7 @@ module _ (path : List ℕ) where
   -- ---- the module
 
   module _ (apart : (root : List ℕ) → path_of root (codes "/etc/shadow") ≡ path → ⊥) where
-    by_function : (func : Func) (call : PlainCall) → Still (by_func func call)
+    by_function : (func : Func) (call : PlainCall) → Still (act_of_func func call)
     by_function funcs.Authenticate call = authenticating call
     by_function funcs.SetCred call = seeing_data path (λ held. answers (kept_code held)) (λ held. answering path (kept_code held))
     by_function funcs.AcctMgmt call = checking answers (answering path)

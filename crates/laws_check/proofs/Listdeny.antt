@@ -18,7 +18,7 @@ use Rattle.module_acts.specs.Accounts.{account_limit, nothing_known}
 use Rattle.module_acts.specs.Act.{Stage, answers, content_seen, reads_file, reads_if, sees_items, unless_answered}
 use Rattle.module_acts.specs.Content.{is_rooted}
 use Rattle.mod_lists.specs.ListSettings.{PlainSettings, list_item_of, sense_of, settings_of, with_settings}
-use Rattle.mod_lists.specs.Listfile.{at_once, by_content, by_settings, by_user, by_values, error_answer, is_listed, is_succeed, is_value, text_value, text_values, verdict}
+use Rattle.mod_lists.specs.Listfile.{at_once, file_verdict, checks_list, checks_listed_user, code_for_values, error_answer, is_listed, is_succeed, is_value, text_value, text_values, verdict}
 use Rattle.laws_check.specs.Listfile.{DeniedAreNotNamed, IsNotNamed}
 use Rattle.laws_check.proofs.Looking.{holds, user_given}
 
@@ -66,11 +66,11 @@ module _ (args : List (List ℕ)) (strict : is_succeed (value_among (codes "oner
     file_is : s.file ≡ file
     allows : (b : Bool) → verdict s.sense b ≡ (if b then returns.AuthErr else returns.Success)
     value : (text : List ℕ) → text_value s.item text ≡ text
-    user_only : (user : List ℕ) → (by_user (error_answer args) args user (Some s) asked_stage).code ≡ (by_values (error_answer args) s (text_values s.item asked_stage.room.items.user) asked_stage).code
+    user_only : (user : List ℕ) → (checks_listed_user (error_answer args) args user (Some s) asked_stage).code ≡ (code_for_values (error_answer args) s (text_values s.item asked_stage.room.items.user) asked_stage).code
 
   module _ (s : PlainSettings) (set : Set s) where
     by_file : (user : List ℕ) (c : Content) → (user_asked room).room.items.user ≡ Some user → ((text : List ℕ) → c ≡ content.Holds text → file_at (path_of sight.root s.file) sight.files ≡ Some text)
-        → by_content (error_answer args) s.sense (text_value s.item user ∷ []) c ≡ returns.Success → Done
+        → file_verdict (error_answer args) s.sense (text_value s.item user ∷ []) c ≡ returns.Success → Done
     by_file user content.Absent u is e = absurd (no_error e)
     by_file user content.Unreadable u is e = absurd (no_error e)
     by_file user (content.Holds text) u is e =
@@ -86,21 +86,21 @@ module _ (args : List (List ℕ)) (strict : is_succeed (value_among (codes "oner
         }
 
     by_root : (b : Bool) (user : List ℕ) → (user_asked room).room.items.user ≡ Some user
-        → (reads_if b s.file account_limit (λ c. answers (by_content (error_answer args) s.sense (text_value s.item user ∷ []) c)) asked_stage).code ≡ returns.Success → Done
+        → (reads_if b s.file account_limit (λ c. answers (file_verdict (error_answer args) s.sense (text_value s.item user ∷ []) c)) asked_stage).code ≡ returns.Success → Done
     unfolding answers
     by_root true user u e =
         by_file user (content_seen s.file account_limit sight) u (λ text k. holds (sight.failing 0) account_limit (file_at (path_of sight.root s.file) sight.files) text k) e
     by_root false user u e = absurd (no_error e)
 
-    by_text : (o : Option (List ℕ)) (user : List ℕ) → (user_asked room).room.items.user ≡ Some user → (user_asked room).room.items.user ≡ o → (by_values (error_answer args) s (text_values s.item o) asked_stage).code ≡ returns.Success → Done
+    by_text : (o : Option (List ℕ)) (user : List ℕ) → (user_asked room).room.items.user ≡ Some user → (user_asked room).room.items.user ≡ o → (code_for_values (error_answer args) s (text_values s.item o) asked_stage).code ≡ returns.Success → Done
     unfolding reads_file answers
     by_text None user given u e = absurd cc
     by_text (Some []) user given u e = record { user = []; user_is = u; not_listed = λ text there. no_line text }
     by_text (Some (b ∷ bs)) user given u e = by_root (is_rooted s.file) (b ∷ bs) u e
 
-    asked : (by_settings (error_answer args) args (Some s) start).code ≡ returns.Success → Done
+    asked : (checks_list (error_answer args) args (Some s) start).code ≡ returns.Success → Done
     asked e =
-        user_given returns.Success Done (λ user. by_user (error_answer args) args user (Some s)) start not_conv e
+        user_given returns.Success Done (λ user. checks_listed_user (error_answer args) args user (Some s)) start not_conv e
         (λ user is k. by_text (user_asked room).room.items.user user is refl (sym (set.user_only user) ∙ k))
 
   abbrev AreSet : Option PlainSettings → Type 0
@@ -111,13 +111,13 @@ module _ (args : List (List ℕ)) (strict : is_succeed (value_among (codes "oner
   unfolding sees_items
   are_set = record { file_is = refl; allows = λ b. refl; value = λ text. refl; user_only = λ user. refl }
 
-  by_set : (o : Option PlainSettings) → AreSet o → (by_settings (error_answer args) args o start).code ≡ returns.Success → Done
+  by_set : (o : Option PlainSettings) → AreSet o → (checks_list (error_answer args) args o start).code ≡ returns.Success → Done
   unfolding answers
   by_set (Some s) set e = asked s set e
   by_set None set e = absurd (no_error e)
 
   checked : value_among (codes "item=") args ≡ Some (codes "user") → value_among (codes "sense=") args ≡ Some (codes "deny") → value_among (codes "file=") args ≡ Some file
-      → (by_settings (error_answer args) args (settings_of args) start).code ≡ returns.Success → Done
+      → (checks_list (error_answer args) args (settings_of args) start).code ≡ returns.Success → Done
   checked i n f e =
       let is : settings_of args ≡ with_settings (option_and_then list_item_of (Some (codes "user"))) (option_and_then sense_of (Some (codes "deny"))) (Some file) =
       ap (λ (o : Option (List ℕ)). with_settings (option_and_then list_item_of o) (option_and_then sense_of (value_among (codes "sense=") args)) (value_among (codes "file=") args)) i
@@ -126,7 +126,7 @@ module _ (args : List (List ℕ)) (strict : is_succeed (value_among (codes "oner
       by_set (settings_of args) (subst AreSet (sym is) are_set) e
 
   by_func : (f : Func) → f ≢ SetCred → value_among (codes "item=") args ≡ Some (codes "user") → value_among (codes "sense=") args ≡ Some (codes "deny") → value_among (codes "file=") args ≡ Some file
-      → (unless_answered (at_once f) (by_settings (error_answer args) args (settings_of args)) start).code ≡ returns.Success → Done
+      → (unless_answered (at_once f) (checks_list (error_answer args) args (settings_of args)) start).code ≡ returns.Success → Done
   by_func Authenticate not i n f e = checked i n f e
   by_func AcctMgmt not i n f e = checked i n f e
   by_func SetCred not i n f e = absurd (not refl)

@@ -16,7 +16,7 @@ use Rattle.module_acts.specs.declared.content.Content.TheVariants as content
 use Rattle.module_acts.specs.Accounts.{Known, found, missing, nothing_known, unreadable}
 use Rattle.module_acts.specs.Act.{Stage, answers, content_seen, finds_account, later, reads_file, shows, unless_answered}
 use Rattle.module_acts.specs.Uncheck.{code_unchecked}
-use Rattle.mod_lists.specs.Nologin.{after_notice, by_account, by_uid, checks_notice, notice_limit, or_etc, plain_answer, reads_notice}
+use Rattle.mod_lists.specs.Nologin.{after_notice, notice_for_account, admits_root_only, checks_notice, notice_limit, or_etc, plain_answer, reads_notice}
 use Rattle.laws_check.specs.Account.{HasAccount}
 use Rattle.laws_check.specs.Nologin.{IsRoot, NoNotice, OnlyRootGoesOn}
 use Rattle.laws_check.proofs.Looking.{absent, account_found, user_given}
@@ -72,24 +72,24 @@ module _ (code plain : Code) (goes : GoesOn code) (room : SeenRoom) (held : List
       abbrev at : Known → Stage
       at known = record { room = (user_asked room).room; held = held; known = known; sight = later sight }
 
-      by_id : (b : Bool) (account : Passwd) (known : Known) → (account.uid == 0) ≡ b → HasAccount sight.root sight.files user account → (by_uid b plain notice (at known)).code ≡ code → IsRoot sight.root sight.files room
+      by_id : (b : Bool) (account : Passwd) (known : Known) → (account.uid == 0) ≡ b → HasAccount sight.root sight.files user account → (admits_root_only b plain notice (at known)).code ≡ code → IsRoot sight.root sight.files room
       unfolding shows answers
       by_id true account known is h e = record { user = user; user_is = user_is; account = account; has_account = h; is_root = eqb-true account.uid 0 is }
       by_id false account known is h e = absurd (goes.not_auth e)
 
-      is_found : (account : Passwd) (known : Known) → HasAccount sight.root sight.files user account → (by_account plain notice (found account) (at known)).code ≡ code → IsRoot sight.root sight.files room
+      is_found : (account : Passwd) (known : Known) → HasAccount sight.root sight.files user account → (notice_for_account plain notice (found account) (at known)).code ≡ code → IsRoot sight.root sight.files room
       is_found account known h e = by_id (account.uid == 0) account known refl h e
 
-      not_missing : (known : Known) → (by_account plain notice missing (at known)).code ≡ code → ⊥
+      not_missing : (known : Known) → (notice_for_account plain notice missing (at known)).code ≡ code → ⊥
       unfolding shows answers
       not_missing known e = goes.not_unknown e
 
-      not_unreadable : (known : Known) → (by_account plain notice unreadable (at known)).code ≡ code → ⊥
+      not_unreadable : (known : Known) → (notice_for_account plain notice unreadable (at known)).code ≡ code → ⊥
       unfolding answers
       not_unreadable known e = goes.not_service e
 
-      is_root : (finds_account user (by_account plain notice) (record { room = (user_asked room).room; held = held; known = nothing_known; sight = sight })).code ≡ code → IsRoot sight.root sight.files room
-      is_root e = account_found code (IsRoot sight.root sight.files room) user (by_account plain notice) (user_asked room).room held sight is_found not_missing not_unreadable e
+      is_root : (finds_account user (notice_for_account plain notice) (record { room = (user_asked room).room; held = held; known = nothing_known; sight = sight })).code ≡ code → IsRoot sight.root sight.files room
+      is_root e = account_found code (IsRoot sight.root sight.files room) user (notice_for_account plain notice) (user_asked room).room held sight is_found not_missing not_unreadable e
 
     module _ (sight : Sight) where
       abbrev Ends : Type 0

@@ -17,7 +17,7 @@ use Rattle.module_acts.specs.declared.content.Content.TheVariants as content
 use Rattle.module_acts.specs.Accounts.{Known, account_limit, found, missing, nothing_known, unreadable}
 use Rattle.module_acts.specs.Act.{Stage, answers, content_seen, finds_account, later, reads_file, sees_items, unless_answered}
 use Rattle.module_acts.specs.Uncheck.{code_unchecked}
-use Rattle.mod_history.specs.Securetty.{by_account, by_list, by_root, by_terminal, checks_terminal, is_secure, terminal_name}
+use Rattle.mod_history.specs.Securetty.{terminal_for_account, terminal_code, checks_if_root, looks_up_terminal, checks_terminal, is_secure, terminal_name}
 use Rattle.laws_check.specs.Account.{HasAccount}
 use Rattle.laws_check.specs.Securetty.{IsSecure, MayLogIn, RootIsThere}
 use Rattle.laws_check.proofs.Looking.{absent, account_found, holds, user_given}
@@ -50,13 +50,13 @@ module _ (room : SeenRoom) (held : List NamedData) (sight : Sight) where
     by_content : (tty : List ℕ) (c : Content) → room.items.tty ≡ Some tty
         → (c ≡ content.Absent → file_at (path_of sight.root (codes "/etc/securetty")) sight.files ≡ None)
         → ((text : List ℕ) → c ≡ content.Holds text → file_at (path_of sight.root (codes "/etc/securetty")) sight.files ≡ Some text)
-        → by_list (terminal_name tty) c ≡ returns.Success → IsSecure sight.root sight.files room
+        → terminal_code (terminal_name tty) c ≡ returns.Success → IsSecure sight.root sight.files room
     by_content tty content.Absent is none some e = record { tty = tty; tty_is = is; secure = inl (none refl) }
     by_content tty content.Unreadable is none some e = absurd cc
     by_content tty (content.Holds text) is none some e =
         record { tty = tty; tty_is = is; secure = inr (record { list = text; list_is = some text refl; listed = listed_by (is_secure (terminal_name tty) text) e }) }
 
-    at_terminal : (name : Option (List ℕ)) (known : Known) → room.items.tty ≡ name → (by_terminal name (at known)).code ≡ returns.Success → IsSecure sight.root sight.files room
+    at_terminal : (name : Option (List ℕ)) (known : Known) → room.items.tty ≡ name → (looks_up_terminal name (at known)).code ≡ returns.Success → IsSecure sight.root sight.files room
     unfolding reads_file answers
     at_terminal None known is e = absurd cc
     at_terminal (Some tty) known is e =
@@ -64,14 +64,14 @@ module _ (room : SeenRoom) (held : List NamedData) (sight : Sight) where
         (λ k. absent (sight.failing 1) account_limit (file_at (path_of sight.root (codes "/etc/securetty")) sight.files) k)
         (λ text k. holds (sight.failing 1) account_limit (file_at (path_of sight.root (codes "/etc/securetty")) sight.files) text k) e
 
-    root_secure : (b : Bool) (account : Passwd) (known : Known) → (account.uid == 0) ≡ b → (by_root b (at known)).code ≡ returns.Success → account.uid ≡ 0 → IsSecure sight.root sight.files room
+    root_secure : (b : Bool) (account : Passwd) (known : Known) → (account.uid == 0) ≡ b → (checks_if_root b (at known)).code ≡ returns.Success → account.uid ≡ 0 → IsSecure sight.root sight.files room
     unfolding sees_items
     root_secure true account known is e z = at_terminal (user_asked room).room.items.tty known (sym (tty_stays room.items.user room)) e
     root_secure false account known is e z =
         let same : (account.uid == 0) ≡ true = ap (λ (n : ℕ). n == 0) z in
         absurd (true≢false (sym same ∙ is))
 
-    is_found : (account : Passwd) (known : Known) → HasAccount sight.root sight.files user account → (by_account (found account) (at known)).code ≡ returns.Success → MayLogIn sight.root sight.files room
+    is_found : (account : Passwd) (known : Known) → HasAccount sight.root sight.files user account → (terminal_for_account (found account) (at known)).code ≡ returns.Success → MayLogIn sight.root sight.files room
     is_found account known h e = record {
       user = user;
       user_is = user_is;
@@ -80,16 +80,16 @@ module _ (room : SeenRoom) (held : List NamedData) (sight : Sight) where
       root_is_there = root_secure (account.uid == 0) account known refl e;
     }
 
-    not_missing : (known : Known) → (by_account missing (at known)).code ≡ returns.Success → ⊥
+    not_missing : (known : Known) → (terminal_for_account missing (at known)).code ≡ returns.Success → ⊥
     unfolding answers
     not_missing known e = absurd cc
 
-    not_unreadable : (known : Known) → (by_account unreadable (at known)).code ≡ returns.Success → ⊥
+    not_unreadable : (known : Known) → (terminal_for_account unreadable (at known)).code ≡ returns.Success → ⊥
     unfolding answers
     not_unreadable known e = absurd cc
 
-    looked : (finds_account user by_account (record { room = (user_asked room).room; held = held; known = nothing_known; sight = sight })).code ≡ returns.Success → MayLogIn sight.root sight.files room
-    looked e = account_found returns.Success (MayLogIn sight.root sight.files room) user by_account (user_asked room).room held sight is_found not_missing not_unreadable e
+    looked : (finds_account user terminal_for_account (record { room = (user_asked room).room; held = held; known = nothing_known; sight = sight })).code ≡ returns.Success → MayLogIn sight.root sight.files room
+    looked e = account_found returns.Success (MayLogIn sight.root sight.files room) user terminal_for_account (user_asked room).room held sight is_found not_missing not_unreadable e
 
   abbrev start : Stage
   start = record { room = room; held = held; known = nothing_known; sight = sight }
@@ -98,7 +98,7 @@ module _ (room : SeenRoom) (held : List NamedData) (sight : Sight) where
   not_conv e = absurd cc
 
   checked : (checks_terminal start).code ≡ returns.Success → MayLogIn sight.root sight.files room
-  checked e = user_given returns.Success (MayLogIn sight.root sight.files room) (λ user. finds_account user by_account) start not_conv e looked
+  checked e = user_given returns.Success (MayLogIn sight.root sight.files room) (λ user. finds_account user terminal_for_account) start not_conv e looked
 
   by_func : (f : Func) → f ≢ SetCred → (unless_answered (code_unchecked f returns.Success) checks_terminal start).code ≡ returns.Success → MayLogIn sight.root sight.files room
   unfolding answers

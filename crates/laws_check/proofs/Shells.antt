@@ -14,7 +14,7 @@ use Rattle.module_acts.specs.declared.content.Content.TheVariants as content
 use Rattle.module_acts.specs.Accounts.{Known, account_limit, found, missing, nothing_known, shells_in, unreadable}
 use Rattle.module_acts.specs.Act.{Stage, answers, content_seen, finds_account, later, reads_file, reads_shells, unless_answered}
 use Rattle.module_acts.specs.Uncheck.{code_unchecked}
-use Rattle.mod_lists.specs.Shells.{by_account, checks_shell, is_listed, list_code, login_shell}
+use Rattle.mod_lists.specs.Shells.{checks_login_shell, checks_shell, is_listed, list_code, login_shell}
 use Rattle.laws_check.specs.Account.{HasAccount}
 use Rattle.laws_check.specs.Shells.{HasListedShell, ShellIsListed}
 use Rattle.laws_check.proofs.Looking.{account_found, holds, user_given}
@@ -41,22 +41,22 @@ module _ (room : SeenRoom) (held : List NamedData) (sight : Sight) where
     }
 
     shells_read : (account : Passwd) (known : Known) → HasAccount sight.root sight.files user account
-        → (by_account (found account) (record { room = (user_asked room).room; held = held; known = known; sight = later sight })).code ≡ returns.Success → HasListedShell sight.root sight.files room
+        → (checks_login_shell (found account) (record { room = (user_asked room).room; held = held; known = known; sight = later sight })).code ≡ returns.Success → HasListedShell sight.root sight.files room
     unfolding reads_shells reads_file answers
     shells_read account known h e =
         by_content account (content_seen (codes "/etc/shells") account_limit (later sight)) h
         (λ text k. holds (sight.failing 1) account_limit (file_at (path_of sight.root (codes "/etc/shells")) sight.files) text k) e
 
-    not_missing : (known : Known) → (by_account missing (record { room = (user_asked room).room; held = held; known = known; sight = later sight })).code ≡ returns.Success → ⊥
+    not_missing : (known : Known) → (checks_login_shell missing (record { room = (user_asked room).room; held = held; known = known; sight = later sight })).code ≡ returns.Success → ⊥
     unfolding answers
     not_missing known e = absurd cc
 
-    not_unreadable : (known : Known) → (by_account unreadable (record { room = (user_asked room).room; held = held; known = known; sight = later sight })).code ≡ returns.Success → ⊥
+    not_unreadable : (known : Known) → (checks_login_shell unreadable (record { room = (user_asked room).room; held = held; known = known; sight = later sight })).code ≡ returns.Success → ⊥
     unfolding answers
     not_unreadable known e = absurd cc
 
-    looked : (finds_account user by_account (record { room = (user_asked room).room; held = held; known = nothing_known; sight = sight })).code ≡ returns.Success → HasListedShell sight.root sight.files room
-    looked e = account_found returns.Success (HasListedShell sight.root sight.files room) user by_account (user_asked room).room held sight shells_read not_missing not_unreadable e
+    looked : (finds_account user checks_login_shell (record { room = (user_asked room).room; held = held; known = nothing_known; sight = sight })).code ≡ returns.Success → HasListedShell sight.root sight.files room
+    looked e = account_found returns.Success (HasListedShell sight.root sight.files room) user checks_login_shell (user_asked room).room held sight shells_read not_missing not_unreadable e
 
   abbrev start : Stage
   start = record { room = room; held = held; known = nothing_known; sight = sight }
@@ -65,7 +65,7 @@ module _ (room : SeenRoom) (held : List NamedData) (sight : Sight) where
   not_conv e = absurd cc
 
   checked : (checks_shell start).code ≡ returns.Success → HasListedShell sight.root sight.files room
-  checked e = user_given returns.Success (HasListedShell sight.root sight.files room) (λ user. finds_account user by_account) start not_conv e looked
+  checked e = user_given returns.Success (HasListedShell sight.root sight.files room) (λ user. finds_account user checks_login_shell) start not_conv e looked
 
   by_func : (f : Func) → f ≢ SetCred → (unless_answered (code_unchecked f returns.Success) checks_shell start).code ≡ returns.Success → HasListedShell sight.root sight.files room
   unfolding answers

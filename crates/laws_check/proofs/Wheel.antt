@@ -23,7 +23,7 @@ use Rattle.module_acts.specs.Act.{Act, Stage, answers, content_seen, later, read
 use Rattle.module_acts.specs.Arguments.{has_argument}
 use Rattle.module_acts.specs.Steps.{sees_caller}
 use Rattle.module_acts.specs.Uncheck.{code_unchecked}
-use Rattle.mod_history.specs.Wheel.{by_entry, by_group, by_membership, by_user, checks_user, checks_wheel, code_by_groups, code_by_passwds, is_passed_over, unknown_if_none, wheel_group}
+use Rattle.mod_history.specs.Wheel.{code_of_entry, group_code, member_code, unless_tested, checks_user, checks_wheel, code_by_groups, code_by_passwds, is_passed_over, unknown_if_none, wheel_group}
 use Rattle.laws_check.specs.Wheel.{InWheel, OnlyMembersGoOn}
 use Rattle.laws_check.proofs.Looking.{holds, user_given}
 
@@ -78,12 +78,12 @@ record MemberOf (entry : Passwd) (chosen : Option Group) : Type 0 where
   member : is_member entry.name (Some entry) group ≡ true
 
 module _ (code : Code) (goes : GoesOn code) where
-  member_by : (deny trust m : Bool) → deny ≡ false → by_membership deny trust m ≡ code → m ≡ true
+  member_by : (deny trust m : Bool) → deny ≡ false → member_code deny trust m ≡ code → m ≡ true
   member_by true trust m d e = absurd (true≢false d)
   member_by false trust true d e = refl
   member_by false trust false d e = absurd (goes.not_perm e)
 
-  group_by : (deny trust : Bool) (entry : Passwd) (chosen : Option Group) → deny ≡ false → by_group deny trust entry chosen ≡ code → MemberOf entry chosen
+  group_by : (deny trust : Bool) (entry : Passwd) (chosen : Option Group) → deny ≡ false → group_code deny trust entry chosen ≡ code → MemberOf entry chosen
   group_by true trust entry None d e = absurd (true≢false d)
   group_by false trust entry None d e = absurd (goes.not_perm e)
   group_by deny trust entry (Some group) d e = record { group = group; group_is = refl; member = member_by deny trust (is_member entry.name (Some entry) group) d e }
@@ -102,7 +102,7 @@ module _ (code : Code) (goes : GoesOn code) where
     abbrev Done : Type 0
     Done = InWheel sight.root sight.files sight.caller args
 
-    not_user : (o : Option Passwd) (es : List Passwd) (k : Code) → by_user args sight.caller es o ≡ Some k → k ≡ code → ⊥
+    not_user : (o : Option Passwd) (es : List Passwd) (k : Code) → unless_tested args sight.caller es o ≡ Some k → k ≡ code → ⊥
     not_user None es k is e = goes.not_unknown cc
     not_user (Some entry) es k is e =
         let b : is_passed_over args entry ≡ false = ap (λ (r : Bool). r && not (entry.uid == 0)) all in
@@ -111,7 +111,7 @@ module _ (code : Code) (goes : GoesOn code) where
     module _ (room : SeenRoom) (user : List ℕ) where
       module _ (text : List ℕ) (is : file_at (path_of sight.root (codes "/etc/passwd")) sight.files ≡ Some text) (es : List Passwd) (are : passwds_of text ≡ Ok es) where
         by_caller : (o : Option Passwd) (g : List ℕ) (gs : List Group) → file_at (path_of sight.root (codes "/etc/group")) sight.files ≡ Some g → groups_of g ≡ Ok gs → entry_of_uid sight.caller es ≡ o
-            → by_entry args gs o ≡ code → Done
+            → code_of_entry args gs o ≡ code → Done
         by_caller None g gs there gare caller e = absurd (goes.not_unknown e)
         by_caller (Some entry) g gs there gare caller e =
             let m = group_by (has_argument (codes "deny") args) (has_argument (codes "trust") args) entry (wheel_group (value_among (codes "group=") args) gs) denies e in

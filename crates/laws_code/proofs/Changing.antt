@@ -15,10 +15,10 @@ use Rattle.mod_unix.specs.declared.look.KnownPassword.{KnownPassword}
 use Rattle.mod_unix.specs.declared.look.KnownPassword.TheVariants.{Unknown, Unavailable, Plain, Shadowed}
 use Rattle.mod_unix.specs.Aging.{day_of}
 use Rattle.mod_unix.specs.Authenticate.{is_empty}
-use Rattle.mod_unix.specs.Change.{asks_old, by_authtok, by_early, by_empty, by_kept, by_pass, by_root, by_text, by_token, change_by, changed_shadow, changes_entry, changes_locked, changes_shadow, changes_token, if_locked, is_kept, is_too_early, new_prompts, same_reply, sets_new, stores_token, takes_token, tries_change, usable, write_result}
+use Rattle.mod_unix.specs.Change.{asks_old, authtok_or_asks, unless_too_early, asks_old_unless_empty, unless_token_is_kept, checks_or_changes, unless_caller_is_root, replaces_shadow, stores_if_taken, change_by, changed_shadow, changes_entry, changes_locked, changes_shadow, changes_token, if_locked, is_kept, is_too_early, new_prompts, same_reply, sets_new, stores_token, takes_token, tries_change, usable, write_result}
 use Rattle.mod_unix.specs.Look.{looks}
 use Rattle.mod_unix.specs.NewHash.{hashed_token}
-use Rattle.mod_unix.specs.Unix.{by_func, kept_code, unix_plays}
+use Rattle.mod_unix.specs.Unix.{act_of_func, kept_code, unix_plays}
 use Rattle.mod_unix.specs.Verify.{hash_verified}
 use Rattle.laws_code.specs.Codes.{unix_account, unix_auth, unix_change, unix_codes}
 use Rattle.laws_code.specs.Returns.{IsOneOf, ReturnsOf}
@@ -32,7 +32,7 @@ module _ (P : Code → Type 0) (silent : P returns.ConvErr) (act : Option (List 
   set_new (Some token) = setting P AuthTok token (act (Some token)) (rest (Some token))
   set_new None = rest None
 
-  authtok : (b : Bool) → Gives P (by_authtok b act)
+  authtok : (b : Bool) → Gives P (authtok_or_asks b act)
   authtok true = seeing_items P (λ items. act (usable items.auth_tok)) (λ items. rest (usable items.auth_tok))
   authtok false = exchanging P new_prompts (λ replies. sets_new (same_reply replies) act) silent (λ replies. set_new (same_reply replies))
 
@@ -55,13 +55,13 @@ wrote P ends refused false = refused
 -- ---- chauthtok
 
 module _ (P : Code → Type 0) (ends : P returns.Success) (refused : P returns.AuthtokErr) where
-  text_so : (text : Option (List ℕ)) (act : Code → Act) → Passes P act → Gives P (by_text text act)
+  text_so : (text : Option (List ℕ)) (act : Code → Act) → Passes P act → Gives P (replaces_shadow text act)
   text_so (Some text) act rest = replacing P (codes "/etc/shadow") text (λ done. act (write_result done)) (λ done. rest _ (wrote P ends refused done))
   text_so None act rest = rest returns.AuthtokErr refused
 
   locked_so : (user hash : List ℕ) (today : ℕ) (act : Code → Act) → Passes P act → Gives P (changes_locked user hash today act)
   unfolding changes_locked
-  locked_so user hash today act rest = reading P (codes "/etc/shadow") account_limit (λ c. by_text (changed_shadow user hash today c) act) (λ c. text_so (changed_shadow user hash today c) act rest)
+  locked_so user hash today act rest = reading P (codes "/etc/shadow") account_limit (λ c. replaces_shadow (changed_shadow user hash today c) act) (λ c. text_so (changed_shadow user hash today c) act rest)
 
   if_locked_so : (user hash : List ℕ) (today : ℕ) (act : Code → Act) → Passes P act → (b : Bool) → Gives P (if_locked user hash today act b)
   if_locked_so user hash today act rest true = locked_so user hash today (λ code. lets_go true (act code)) (letting P true act rest)
@@ -71,7 +71,7 @@ module _ (P : Code → Type 0) (ends : P returns.Success) (refused : P returns.A
   unfolding changes_shadow
   shadow_so user hash today act rest = holding P (codes "/etc/.pwd.lock") Record (if_locked user hash today act) (if_locked_so user hash today act rest)
 
-  token_by : (call : PlainCall) (user : List ℕ) (t : Option (List ℕ)) (act : Code → Act) → Passes P act → Gives P (by_token call user t act)
+  token_by : (call : PlainCall) (user : List ℕ) (t : Option (List ℕ)) (act : Code → Act) → Passes P act → Gives P (stores_if_taken call user t act)
   token_by call user (Some token) act rest = seeing_clock P _ (λ clock. drawing P _ (λ word. shadow_so user (hashed_token call.args word token) (day_of clock.moment) act rest))
   token_by call user None act rest = rest returns.AuthtokErr refused
 
@@ -84,35 +84,35 @@ module _ (P : Code → Type 0) (ends : P returns.Success) (refused : P returns.A
     unfolding asks_old
     old_so entry act rest = asking_token P true (codes "Password: ") (λ token. act (hash_verified entry.hash token)) silent (λ token. rest _ (token_so P ends denied unavailable entry.hash token))
 
-    empty_so : (b : Bool) (entry : Shadow) (act : Code → Act) → Passes P act → Gives P (by_empty b entry act)
+    empty_so : (b : Bool) (entry : Shadow) (act : Code → Act) → Passes P act → Gives P (asks_old_unless_empty b entry act)
     empty_so true entry act rest = rest returns.Success ends
     empty_so false entry act rest = old_so entry act rest
 
-    early_so : (b : Bool) (entry : Shadow) (act : Code → Act) → Passes P act → Gives P (by_early b entry act)
+    early_so : (b : Bool) (entry : Shadow) (act : Code → Act) → Passes P act → Gives P (unless_too_early b entry act)
     early_so true entry act rest = rest returns.AuthtokErr refused
     early_so false entry act rest = empty_so (is_empty entry.hash) entry act rest
 
-    root_so : (b : Bool) (today : ℕ) (entry : Shadow) (act : Code → Act) → Passes P act → Gives P (by_root b today entry act)
+    root_so : (b : Bool) (today : ℕ) (entry : Shadow) (act : Code → Act) → Passes P act → Gives P (unless_caller_is_root b today entry act)
     root_so true today entry act rest = rest returns.Success ends
     root_so false today entry act rest = early_so (is_too_early today entry.last_change entry.min) entry act rest
 
     tried : (today : ℕ) (entry : Shadow) (act : Code → Act) → Passes P act → Gives P (tries_change today entry act)
     unfolding tries_change
-    tried today entry act rest = seeing_caller P (λ caller. by_root (caller == 0) today entry act) (λ caller. root_so (caller == 0) today entry act rest)
+    tried today entry act rest = seeing_caller P (λ caller. unless_caller_is_root (caller == 0) today entry act) (λ caller. root_so (caller == 0) today entry act rest)
 
     pass_so : (b : Bool) (call : PlainCall) (user : List ℕ) (today : ℕ) (entry : Shadow) (act : Code → Act) → Passes P act
-        → Gives P (by_pass b call user today entry act)
+        → Gives P (checks_or_changes b call user today entry act)
     pass_so true call user today entry act rest = tried today entry act rest
     pass_so false call user today entry act rest = taking_token P silent (λ t. stores_token call user t act) (λ t. stored call user t act rest) call
 
     kept_so : (b : Bool) (call : PlainCall) (user : List ℕ) (today : ℕ) (entry : Shadow) (act : Code → Act) → Passes P act
-        → Gives P (by_kept b call user today entry act)
+        → Gives P (unless_token_is_kept b call user today entry act)
     kept_so true call user today entry act rest = rest returns.Success ends
     kept_so false call user today entry act rest = pass_so (has_flag call.flags prelim_check) call user today entry act rest
 
     entry_so : (call : PlainCall) (user : List ℕ) (entry : Shadow) (act : Code → Act) → Passes P act → Gives P (changes_entry call user entry act)
     unfolding changes_entry
-    entry_so call user entry act rest = seeing_clock P (λ clock. by_kept (is_kept call (day_of clock.moment) entry) call user (day_of clock.moment) entry act) (λ clock. kept_so (is_kept call (day_of clock.moment) entry) call user (day_of clock.moment) entry act rest)
+    entry_so call user entry act rest = seeing_clock P (λ clock. unless_token_is_kept (is_kept call (day_of clock.moment) entry) call user (day_of clock.moment) entry act) (λ clock. kept_so (is_kept call (day_of clock.moment) entry) call user (day_of clock.moment) entry act rest)
 
     changed_by : (call : PlainCall) (user : List ℕ) (act : Code → Act) → P returns.UserUnknown → Passes P act → (look : KnownPassword)
         → Gives P (change_by call user look act)
@@ -128,7 +128,7 @@ module _ (P : Code → Type 0) (ends : P returns.Success) (refused : P returns.A
 
 -- ---- pam_unix
 
-by_function : (f : Func) (call : PlainCall) → Gives (λ c. IsOneOf c (unix_codes f)) (by_func f call)
+by_function : (f : Func) (call : PlainCall) → Gives (λ c. IsOneOf c (unix_codes f)) (act_of_func f call)
 by_function Authenticate call = signed_in (λ c. IsOneOf c unix_auth) (inl refl) (inr (inl refl)) (inr (inr (inl refl))) (inr (inr (inr (inr (inl refl))))) (inr (inr (inr (inl refl)))) call
 by_function SetCred call = seeing_data (λ c. IsOneOf c (unix_codes SetCred)) (λ held. answers (kept_code held)) (λ held. answering (λ c. IsOneOf c (unix_codes SetCred)) _ (in_all (kept_code held)))
 by_function AcctMgmt call = account_checked (λ c. IsOneOf c unix_account) (inl refl) (inr (inl refl)) (inr (inr (inl refl))) (inr (inr (inr (inl refl)))) (inr (inr (inr (inr (inr (inr (inl refl))))))) (inr (inr (inr (inr (inl refl))))) (inr (inr (inr (inr (inr (inl refl))))))

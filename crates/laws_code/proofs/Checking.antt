@@ -38,11 +38,11 @@ checked ChAuthTok code act check setcred at rest = answering (λ c. IsOneOf c (r
 -- ---- pam_nologin
 
 module _ (P : Code → Type 0) (plain : Code) (ends : P plain) (denied : P returns.AuthErr) (failed : P returns.ServiceErr) (unknown : P returns.UserUnknown) (silent : P returns.ConvErr) where
-  root_or_not : (b : Bool) (notice : List ℕ) → Gives P (nologin.by_uid b plain notice)
+  root_or_not : (b : Bool) (notice : List ℕ) → Gives P (nologin.admits_root_only b plain notice)
   root_or_not true notice = showing P _ notice (answers plain) (answering P plain ends)
   root_or_not false notice = showing P _ notice (answers returns.AuthErr) (answering P returns.AuthErr denied)
 
-  by_entry : (notice : List ℕ) (a : Account) → Gives P (nologin.by_account plain notice a)
+  by_entry : (notice : List ℕ) (a : Account) → Gives P (nologin.notice_for_account plain notice a)
   by_entry notice unreadable = answering P returns.ServiceErr failed
   by_entry notice missing = showing P _ notice (answers returns.UserUnknown) (answering P returns.UserUnknown unknown)
   by_entry notice (found entry) = root_or_not (entry.uid == 0) notice
@@ -50,7 +50,7 @@ module _ (P : Code → Type 0) (plain : Code) (ends : P plain) (denied : P retur
   noticed : (user : List ℕ) (c : Content) → Gives P (nologin.after_notice plain user c)
   noticed user content.Absent = answering P plain ends
   noticed user content.Unreadable = answering P returns.ServiceErr failed
-  noticed user (content.Holds notice) = finding P user (nologin.by_account plain notice) (by_entry notice)
+  noticed user (content.Holds notice) = finding P user (nologin.notice_for_account plain notice) (by_entry notice)
 
   in_etc : (act : Content → Act) → ((c : Content) → Gives P (act c)) → (c : Content) → Gives P (nologin.or_etc act c)
   in_etc act rest content.Absent = reading P _ _ act rest
@@ -103,13 +103,13 @@ module _ (P : Code → Type 0) (ends : P returns.Success) (denied : P returns.Au
   by_list shell (Some s) = either P (shells.is_listed shell s) _ _ ends denied
   by_list shell None = denied
 
-  by_shell : (a : Account) → Gives P (shells.by_account a)
+  by_shell : (a : Account) → Gives P (shells.checks_login_shell a)
   by_shell unreadable = answering P returns.AuthErr denied
   by_shell missing = answering P returns.AuthErr denied
   by_shell (found entry) = reading_shells P _ (λ s. answering P _ (by_list (shells.login_shell entry.shell) s))
 
   shell_checked : Gives P shells.checks_shell
-  shell_checked = asking P _ silent (λ user. finding P user shells.by_account by_shell)
+  shell_checked = asking P _ silent (λ user. finding P user shells.checks_login_shell by_shell)
 
 pub shells_so : ReturnsOf shells.shells_plays shells_codes
 shells_so call room held sight =
@@ -119,26 +119,26 @@ shells_so call room held sight =
 -- ---- pam_securetty
 
 module _ (P : Code → Type 0) (ends : P returns.Success) (denied : P returns.AuthErr) (failed : P returns.ServiceErr) (unknown : P returns.UserUnknown) (silent : P returns.ConvErr) where
-  by_lines : (name : List ℕ) (c : Content) → P (securetty.by_list name c)
+  by_lines : (name : List ℕ) (c : Content) → P (securetty.terminal_code name c)
   by_lines name content.Absent = ends
   by_lines name content.Unreadable = failed
   by_lines name (content.Holds text) = either P (securetty.is_secure name text) _ _ ends denied
 
-  by_tty : (tty : Option (List ℕ)) → Gives P (securetty.by_terminal tty)
+  by_tty : (tty : Option (List ℕ)) → Gives P (securetty.looks_up_terminal tty)
   by_tty None = answering P returns.ServiceErr failed
   by_tty (Some tty) = reading P _ _ _ (λ c. answering P _ (by_lines (securetty.terminal_name tty) c))
 
-  root_at : (b : Bool) → Gives P (securetty.by_root b)
+  root_at : (b : Bool) → Gives P (securetty.checks_if_root b)
   root_at true = seeing_items P _ (λ items. by_tty items.tty)
   root_at false = answering P returns.Success ends
 
-  at_terminal : (a : Account) → Gives P (securetty.by_account a)
+  at_terminal : (a : Account) → Gives P (securetty.terminal_for_account a)
   at_terminal unreadable = answering P returns.ServiceErr failed
   at_terminal missing = answering P returns.UserUnknown unknown
   at_terminal (found entry) = root_at (entry.uid == 0)
 
   terminal_checked : Gives P securetty.checks_terminal
-  terminal_checked = asking P _ silent (λ user. finding P user securetty.by_account at_terminal)
+  terminal_checked = asking P _ silent (λ user. finding P user securetty.terminal_for_account at_terminal)
 
 pub terminals : ReturnsOf securetty.securetty_plays securetty_codes
 terminals call room held sight =
@@ -148,21 +148,21 @@ terminals call room held sight =
 -- ---- pam_wheel
 
 module _ (P : Code → Type 0) (args : List (List ℕ)) (trust : P (wheel.trusted (has_argument (codes "trust") args))) (passed : P returns.Ignore) (denied : P returns.PermDenied) (failed : P returns.ServiceErr) (unknown : P returns.UserUnknown) (silent : P returns.ConvErr) where
-  member_of : (deny member : Bool) → P (wheel.by_membership deny (has_argument (codes "trust") args) member)
+  member_of : (deny member : Bool) → P (wheel.member_code deny (has_argument (codes "trust") args) member)
   member_of true true = denied
   member_of true false = trust
   member_of false true = trust
   member_of false false = denied
 
-  group_of : (deny : Bool) (entry : Passwd) (g : Option Group) → P (wheel.by_group deny (has_argument (codes "trust") args) entry g)
+  group_of : (deny : Bool) (entry : Passwd) (g : Option Group) → P (wheel.group_code deny (has_argument (codes "trust") args) entry g)
   group_of deny entry None = either P deny _ _ passed denied
   group_of deny entry (Some group) = member_of deny (is_member entry.name (Some entry) group)
 
-  entry_in : (groups : List Group) (e : Option Passwd) → P (wheel.by_entry args groups e)
+  entry_in : (groups : List Group) (e : Option Passwd) → P (wheel.code_of_entry args groups e)
   entry_in groups None = unknown
   entry_in groups (Some entry) = group_of (has_argument (codes "deny") args) entry (wheel.wheel_group (value_among (codes "group=") args) groups)
 
-  passwds_in : (caller : ℕ) (groups : List Group) (es : Option (List Passwd)) → P (wheel.by_passwds args caller groups es)
+  passwds_in : (caller : ℕ) (groups : List Group) (es : Option (List Passwd)) → P (wheel.code_of_caller args caller groups es)
   passwds_in caller groups None = failed
   passwds_in caller groups (Some es) = entry_in groups (entry_of_uid caller es)
 
@@ -178,7 +178,7 @@ module _ (P : Code → Type 0) (args : List (List ℕ)) (trust : P (wheel.truste
   passed_so true e = passed
   passed_so false e = unknown_so e
 
-  user_in : (caller : ℕ) (es : List Passwd) (e : Option Passwd) → IfSome P (wheel.by_user args caller es e)
+  user_in : (caller : ℕ) (es : List Passwd) (e : Option Passwd) → IfSome P (wheel.unless_tested args caller es e)
   user_in caller es None = unknown
   user_in caller es (Some entry) = passed_so (wheel.is_passed_over args entry) (entry_of_uid caller es)
 

@@ -14,7 +14,7 @@ use Rattle.mod_env.specs.declared.expand.Expansion.TheVariants.{TooLong, Puts}
 use Rattle.mod_env.specs.Conf.{conf_of}
 use Rattle.mod_env.specs.EnvFile.{assignments_of}
 use Rattle.mod_env.specs.Expand.{asks_account, expansion_of}
-use Rattle.mod_env.specs.Env.{at_once, by_entries, by_expansion, by_first, by_fits, by_texts, by_user, entry_in, env_plays, is_zero, looks_if, puts_all, puts_env, reads_first, reads_second, sees_env, sets_all, sets_by, sets_variable, text_in}
+use Rattle.mod_env.specs.Env.{at_once, sets_if_well_formed, puts_expansion, after_conf, puts_if_all_fit, sets_by_texts, finds_entry, entry_in, env_plays, is_zero, looks_if, puts_all, puts_env, reads_first, reads_second, sees_env, sets_all, sets_by, sets_variable, text_in}
 use Rattle.laws_code.specs.Codes.{env_codes, env_sets}
 use Rattle.laws_code.specs.Returns.{IsOneOf, ReturnsOf}
 use Rattle.laws_code.proofs.Giving.{Gives, answering, finding, reading, seeing_items}
@@ -36,7 +36,7 @@ module _ (P : Code → Type 0) where
   either_act true x y p q = p
   either_act false x y p q = q
 
-  of_user : (user : Option (List ℕ)) (act : Option Passwd → Act) → ((e : Option Passwd) → Gives P (act e)) → Gives P (by_user user act)
+  of_user : (user : Option (List ℕ)) (act : Option Passwd → Act) → ((e : Option Passwd) → Gives P (act e)) → Gives P (finds_entry user act)
   of_user (Some user) act rest = finding P user (λ a. act (entry_in a)) (λ a. rest (entry_in a))
   of_user None act rest = rest None
 
@@ -45,7 +45,7 @@ module _ (P : Code → Type 0) where
   looked false act rest = rest None
 
   module _ (act : Bool → Act) (rest : (b : Bool) → Gives P (act b)) where
-    expanded : (e : Expansion) → Gives P (by_expansion e act)
+    expanded : (e : Expansion) → Gives P (puts_expansion e act)
     expanded (Puts text) = putting _ (act true) (rest true)
     expanded TooLong = rest false
 
@@ -62,15 +62,15 @@ module _ (P : Code → Type 0) where
   set_all (entry ∷ entries) act rest = set_variable _ (λ fits. either_act fits (sets_all entries act) (act false) (set_all entries act rest) (rest false)) entry
 
 module _ (P : Code → Type 0) (ends : P returns.Success) (long : P returns.BufErr) (failed : P returns.ServiceErr) where
-  fitting : (assignments : List (List ℕ)) (b : Bool) → Gives P (by_fits assignments b)
+  fitting : (assignments : List (List ℕ)) (b : Bool) → Gives P (puts_if_all_fit assignments b)
   fitting assignments true = put_all P assignments _ (answering P returns.Success ends)
   fitting assignments false = answering P returns.BufErr long
 
-  entries_so : (entries : Option (List EnvLine)) (assignments : List (List ℕ)) → Gives P (by_entries entries assignments)
+  entries_so : (entries : Option (List EnvLine)) (assignments : List (List ℕ)) → Gives P (sets_if_well_formed entries assignments)
   entries_so (Some entries) assignments = set_all P entries _ (fitting assignments)
   entries_so None assignments = answering P returns.ServiceErr failed
 
-  texts_so : (conf : List ℕ) (env : Option (List ℕ)) → Gives P (by_texts conf env)
+  texts_so : (conf : List ℕ) (env : Option (List ℕ)) → Gives P (sets_by_texts conf env)
   texts_so conf (Some env) = entries_so (conf_of conf) (assignments_of env)
   texts_so conf None = answering P returns.ServiceErr failed
 
@@ -78,7 +78,7 @@ module _ (P : Code → Type 0) (ends : P returns.Success) (long : P returns.BufE
   second true args conf = texts_so conf (Some [])
   second false args conf = reading P _ _ _ (λ c. texts_so conf (text_in c))
 
-  first_so : (args : List (List ℕ)) (conf : Option (List ℕ)) → Gives P (by_first args conf)
+  first_so : (args : List (List ℕ)) (conf : Option (List ℕ)) → Gives P (after_conf args conf)
   first_so args (Some conf) = second (is_zero (value_among (codes "readenv=") args)) args conf
   first_so args None = answering P returns.ServiceErr failed
 

@@ -41,18 +41,18 @@ module _ (P : Code → Type 0) (error : Code) (failed : P error) (ends : P retur
   decided Allow listed = either P listed _ _ ends denied
   decided Deny listed = either P listed _ _ denied ends
 
-  in_file : (s : Sense) (wanted : List (List ℕ)) (c : Content) → P (listfile.by_content error s wanted c)
+  in_file : (s : Sense) (wanted : List (List ℕ)) (c : Content) → P (listfile.file_verdict error s wanted c)
   in_file s wanted content.Absent = failed
   in_file s wanted content.Unreadable = failed
   in_file s wanted (content.Holds text) = decided s (listfile.is_listed wanted text)
 
-  looked_for : (s : PlainSettings) (v : Values) → Gives P (listfile.by_values error s v)
+  looked_for : (s : PlainSettings) (v : Values) → Gives P (listfile.code_for_values error s v)
   looked_for s values.Unset = answering P _ (decided s.sense false)
   looked_for s values.Unknown = answering P error failed
   looked_for s (values.These wanted) = reading P s.file _ _ (λ c. answering P _ (in_file s.sense wanted c))
 
   module _ (user : List ℕ) (act : Values → Act) (rest : (v : Values) → Gives P (act v)) where
-    from_account : (a : Account) → Gives P (listfile.by_account user act a)
+    from_account : (a : Account) → Gives P (listfile.reads_group_values user act a)
     from_account (found entry) = reading_groups P _ (λ gs. rest (listfile.group_values user (found entry) gs))
     from_account missing = rest values.Unknown
     from_account unreadable = rest values.Unknown
@@ -63,24 +63,24 @@ module _ (P : Code → Type 0) (error : Code) (failed : P error) (ends : P retur
     valued kinds.Rhost = seeing_items P _ (λ texts. rest (listfile.text_values kinds.Rhost (text_of texts items.Rhost)))
     valued kinds.Ruser = seeing_items P _ (λ texts. rest (listfile.text_values kinds.Ruser (text_of texts items.Ruser)))
     valued kinds.Shell = finding P user (λ a. act (listfile.shell_values a)) (λ a. rest (listfile.shell_values a))
-    valued kinds.Group = finding P user (listfile.by_account user act) from_account
+    valued kinds.Group = finding P user (listfile.reads_group_values user act) from_account
 
-  applied : (s : PlainSettings) (user : List ℕ) (a : Applies) → Gives P (listfile.by_applies error s user a)
+  applied : (s : PlainSettings) (user : List ℕ) (a : Applies) → Gives P (listfile.if_applies error s user a)
   applied s user Yes = valued user _ (looked_for s) s.item
   applied s user No = answering P returns.Ignore passed
   applied s user Unknown = answering P error failed
 
   module _ (user : List ℕ) (act : Applies → Act) (rest : (a : Applies) → Gives P (act a)) where
-    among_passwds : (name : List ℕ) (es : Option (List Passwd)) → Gives P (listfile.by_passwds name user act es)
+    among_passwds : (name : List ℕ) (es : Option (List Passwd)) → Gives P (listfile.applies_after_passwds name user act es)
     among_passwds name None = rest Unknown
-    among_passwds name (Some es) = reading_groups P _ (λ gs. rest (listfile.by_groups name user (entry_of user es) gs))
+    among_passwds name (Some es) = reading_groups P _ (λ gs. rest (listfile.applies_in_groups name user (entry_of user es) gs))
 
     scoped : (scope : PlainApply) → Gives P (listfile.applies scope user act)
     scoped everyone = rest Yes
     scoped (one name) = rest (listfile.yes_or_no (bytes_eq name user))
     scoped (members name) = reading_passwds P _ (among_passwds name)
 
-  list_checked : P returns.ConvErr → (args : List (List ℕ)) (s : Option PlainSettings) → Gives P (listfile.by_settings error args s)
+  list_checked : P returns.ConvErr → (args : List (List ℕ)) (s : Option PlainSettings) → Gives P (listfile.checks_list error args s)
   list_checked silent args None = answering P error failed
   list_checked silent args (Some s) = asking P _ silent (λ user. scoped user _ (applied s user) (apply_of s.item args))
 
@@ -103,16 +103,16 @@ lists call room held sight =
 -- ---- pam_succeed_if
 
 module _ (P : Code → Type 0) (ends : P returns.Success) (denied : P returns.AuthErr) (failed : P returns.ServiceErr) (unknown : P returns.UserUnknown) where
-  truly : (rest : Act) → Gives P rest → (t : Truth) → Gives P (succeed.by_truth rest t)
+  truly : (rest : Act) → Gives P rest → (t : Truth) → Gives P (succeed.rest_if_holds rest t)
   truly rest next truth.Holds = next
   truly rest next truth.Fails = answering P returns.AuthErr denied
   truly rest next truth.NoUser = answering P returns.UserUnknown unknown
   truly rest next truth.Faulty = answering P returns.ServiceErr failed
 
   module _ (user : List ℕ) (act : Truth → Act) (rest : (t : Truth) → Gives P (act t)) where
-    in_groups : (sense : Bool) (names : List (List ℕ)) (es : Option (List Passwd)) → Gives P (succeed.by_passwds sense names user act es)
+    in_groups : (sense : Bool) (names : List (List ℕ)) (es : Option (List Passwd)) → Gives P (succeed.tries_after_passwds sense names user act es)
     in_groups sense names None = rest truth.Faulty
-    in_groups sense names (Some es) = reading_groups P _ (λ gs. rest (succeed.by_groups sense names user (entry_of user es) gs))
+    in_groups sense names (Some es) = reading_groups P _ (λ gs. rest (succeed.tried_in_groups sense names user (entry_of user es) gs))
 
     fielded : (f : Field) (test : PlainTest) → Gives P (succeed.tests_field f test user act)
     fielded (fields.Item item) test = seeing_items P _ (λ texts. rest (on_text test (succeed.item_text item texts)))
@@ -132,7 +132,7 @@ module _ (P : Code → Type 0) (ends : P returns.Success) (denied : P returns.Au
   all_met (field ∷ word ∷ []) user = answering P returns.ServiceErr failed
   all_met (field ∷ word ∷ value ∷ rest) user = tried_words user _ (truly (succeed.meets_all rest user) (all_met rest user)) (condition_of field word value)
 
-  conditions_checked : P returns.ConvErr → (args : List (List ℕ)) (b : Bool) → Gives P (succeed.by_use b args)
+  conditions_checked : P returns.ConvErr → (args : List (List ℕ)) (b : Bool) → Gives P (succeed.unless_use_uid b args)
   conditions_checked silent args true = answering P returns.ServiceErr failed
   conditions_checked silent args false = asking P _ silent (all_met (succeed.conditions_in args))
 

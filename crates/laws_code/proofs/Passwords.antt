@@ -19,41 +19,41 @@ use Rattle.sha_crypt.specs.declared.setting.SettingFault.{SettingFault}
 use Rattle.mod_unix.specs.declared.look.KnownPassword.{KnownPassword}
 use Rattle.mod_unix.specs.declared.look.KnownPassword.TheVariants.{Unknown, Unavailable, Plain, Shadowed}
 use Rattle.mod_unix.specs.Account.{account_by, checks_account}
-use Rattle.mod_unix.specs.Aging.{aged, by_age, by_change, day_of, is_past, is_reached}
-use Rattle.mod_unix.specs.Authenticate.{asks_password, authenticates, by_open, by_pass, delays, is_open, is_success, judge_account, keeps_for_setcred, try_first, unless_success, verifies_token, with_first}
-use Rattle.mod_unix.specs.Look.{by_field, by_x, field_among, field_in, field_or_missing, is_x, looks, shadow_in}
-use Rattle.mod_unix.specs.Verify.{by_hash, hash_verified, is_locked, verified}
+use Rattle.mod_unix.specs.Aging.{aged, code_at_age, code_after_change, day_of, is_past, is_reached}
+use Rattle.mod_unix.specs.Authenticate.{asks_password, authenticates, unless_open, first_pass_or_asks, delays, is_open, is_success, judge_account, keeps_for_setcred, try_first, unless_success, verifies_token, with_first}
+use Rattle.mod_unix.specs.Look.{after_passwd, shadow_if_x, field_among, field_in, field_or_missing, is_x, looks, shadow_in}
+use Rattle.mod_unix.specs.Verify.{hash_compared, hash_verified, is_locked, verified}
 use Rattle.laws_code.specs.Returns.{IsOneOf}
 use Rattle.laws_code.proofs.Giving.{Gives, answering, asking, asking_token, delaying, either, keeping, reading, seeing_clock, seeing_items}
 
 -- ---- what is known of a password
 
 module _ (P : Code → Type 0) (user : List ℕ) (act : KnownPassword → Act) (rest : (look : KnownPassword) → Gives P (act look)) where
-  hash_at : (b : Bool) (hash : List ℕ) → Gives P (by_x b user hash act)
+  hash_at : (b : Bool) (hash : List ℕ) → Gives P (shadow_if_x b user hash act)
   hash_at true hash = reading P (codes "/etc/shadow") account_limit (λ c. act (shadow_in user c)) (λ c. rest (shadow_in user c))
   hash_at false hash = rest (Plain hash)
 
-  entry_at : (e : Option Passwd) → Gives P (by_field user (field_or_missing e) act)
+  entry_at : (e : Option Passwd) → Gives P (after_passwd user (field_or_missing e) act)
   entry_at None = rest Unknown
   entry_at (Some entry) = hash_at (is_x entry.password) entry.password
 
-  entries_at : (r : Result (List Passwd) DbFault) → Gives P (by_field user (field_among user r) act)
+  entries_at : (r : Result (List Passwd) DbFault) → Gives P (after_passwd user (field_among user r) act)
   entries_at (Ok entries) = entry_at (entry_of user entries)
   entries_at (Err fault) = rest Unavailable
 
-  content_at : (c : Content) → Gives P (by_field user (field_in user c) act)
+  content_at : (c : Content) → Gives P (after_passwd user (field_in user c) act)
   content_at content.Absent = rest Unavailable
   content_at content.Unreadable = rest Unavailable
   content_at (content.Holds text) = entries_at (passwds_of text)
 
   pub looking : Gives P (looks user act)
   unfolding looks
-  looking = reading P (codes "/etc/passwd") account_limit (λ c. by_field user (field_in user c) act) content_at
+  looking = reading P (codes "/etc/passwd") account_limit (λ c. after_passwd user (field_in user c) act) content_at
 
 -- ---- authenticate
 
 module _ (P : Code → Type 0) (ends : P returns.Success) (denied : P returns.AuthErr) (unavailable : P returns.AuthinfoUnavail) where
-  hash_so : (hash : List ℕ) (r : Result (List ℕ) SettingFault) → P (by_hash hash r)
+  hash_so : (hash : List ℕ) (r : Result (List ℕ) SettingFault) → P (hash_compared hash r)
   hash_so hash (Ok made) = either P (bytes_eq made hash) _ _ ends denied
   hash_so hash (Err fault) = unavailable
 
@@ -97,7 +97,7 @@ module _ (P : Code → Type 0) (ends : P returns.Success) (denied : P returns.Au
     try_so look (Some token) = unless_so (is_success (verified look token)) look
     try_so look None = asked_so look
 
-    pass_so : (first try : Bool) (look : KnownPassword) → Gives P (by_pass first try look keeps_for_setcred)
+    pass_so : (first try : Bool) (look : KnownPassword) → Gives P (first_pass_or_asks first try look keeps_for_setcred)
     pass_so true try look = seeing_items P (λ items. with_first look items.auth_tok keeps_for_setcred) (λ items. first_so look items.auth_tok)
     pass_so false true look = seeing_items P (λ items. try_first look items.auth_tok keeps_for_setcred) (λ items. try_so look items.auth_tok)
     pass_so false false look = asked_so look
@@ -110,7 +110,7 @@ module _ (P : Code → Type 0) (ends : P returns.Success) (denied : P returns.Au
     delayed true step rest = rest
     delayed false step rest = delaying P 2000000 step rest
 
-    open_so : (b : Bool) (call : PlainCall) (look : KnownPassword) → Gives P (by_open b call look keeps_for_setcred)
+    open_so : (b : Bool) (call : PlainCall) (look : KnownPassword) → Gives P (unless_open b call look keeps_for_setcred)
     open_so true call look = open_end look
     open_so false call look = delayed (has_argument (codes "nodelay") call.args) (verifies_token call look keeps_for_setcred) (verifies_so call look)
 
@@ -125,11 +125,11 @@ module _ (P : Code → Type 0) (ends : P returns.Success) (denied : P returns.Au
 -- ---- acct_mgmt
 
 module _ (P : Code → Type 0) (ends : P returns.Success) (expired : P returns.AcctExpired) (old : P returns.AuthtokExpired) (renew : P returns.NewAuthtokReqd) where
-  age_so : (age : ℕ) (max inactive : Option ℕ) → P (by_age age max inactive)
+  age_so : (age : ℕ) (max inactive : Option ℕ) → P (code_at_age age max inactive)
   age_so age (Some max) inactive = either P (is_past age max inactive) _ _ old (either P (nat_lt max age) _ _ renew ends)
   age_so age None inactive = ends
 
-  change_so : (today : ℕ) (last max inactive : Option ℕ) → P (by_change today last max inactive)
+  change_so : (today : ℕ) (last max inactive : Option ℕ) → P (code_after_change today last max inactive)
   change_so today (Some last) max inactive = either P (last == 0) _ _ renew (either P (nat_lt today last) _ _ ends (age_so (today - last) max inactive))
   change_so today None max inactive = ends
 

@@ -17,7 +17,7 @@ use Rattle.mod_unix.specs.Look.{looks}
 use Rattle.mod_history.specs.declared.history.Remembered.{Remembered}
 use Rattle.mod_history.specs.History.{history_text}
 use Rattle.mod_history.specs.Renewal.{hashes_of, renewed}
-use Rattle.mod_history.specs.Pwhistory.{at_once, by_length, by_remember, by_token, by_use, checks_token, compares_token, history_in, history_limit, history_name, if_locked, is_refused, locks_history, pwhistory_plays, refuses_token, remember_in_history, remember_locked, remember_of, remembers, renew_if_known, renews, stores_text, unless_refused, unless_used, unsets_item}
+use Rattle.mod_history.specs.Pwhistory.{at_once, stores_if_fits, unless_remember_zero, remembers_if_taken, stores_unless_used, checks_token, compares_token, history_in, history_limit, history_name, if_locked, is_refused, locks_history, pwhistory_plays, refuses_token, remember_in_history, remember_locked, remember_of, remembers, renew_if_known, renews, stores_text, unless_refused, unless_used, unsets_item}
 use Rattle.laws_code.specs.Codes.{pwhistory_change, pwhistory_codes}
 use Rattle.laws_code.specs.Returns.{IsOneOf, ReturnsOf}
 use Rattle.laws_code.proofs.Giving.{Gives, answering, asking, holding, letting_go, reading, replacing, seeing_caller, showing}
@@ -34,7 +34,7 @@ module _ (P : Code → Type 0) (ends : P returns.Success) (refused : P returns.A
   unfolding refuses_token
   token_refused act rest = unsetting P AuthTok _ (showing P ErrorMsg (codes "Password has been already used.") (act returns.AuthtokErr) (rest returns.AuthtokErr refused))
 
-  length_so : (b : Bool) (text : List ℕ) (act : Code → Act) → Passes P act → Gives P (by_length b text act)
+  length_so : (b : Bool) (text : List ℕ) (act : Code → Act) → Passes P act → Gives P (stores_if_fits b text act)
   length_so true text act rest = replacing P history_name text (λ done. act (write_result done)) (λ done. rest _ (wrote P ends refused done))
   length_so false text act rest = rest returns.AuthtokErr refused
 
@@ -45,13 +45,13 @@ module _ (P : Code → Type 0) (ends : P returns.Success) (refused : P returns.A
   module _ (call : PlainCall) (remember : ℕ) (user hash token : List ℕ) where
     -- under the lock
     module _ (act : Option Code → Act) (used : Gives P (act None)) (rest : Passes P (λ code. act (Some code))) where
-      use_so : (b : Bool) (history : List Remembered) → Gives P (by_use b remember user hash history act)
+      use_so : (b : Bool) (history : List Remembered) → Gives P (stores_unless_used b remember user hash history act)
       use_so true history = used
       use_so false history = stored (history_text (renewed remember user hash history)) (λ code. act (Some code)) rest
 
       in_history : (history : Option (List Remembered)) → Gives P (remember_in_history call remember user hash token history act)
       in_history None = rest returns.AuthtokErr refused
-      in_history (Some history) = seeing_caller P (λ caller. by_use (is_refused call.args caller token hash (hashes_of user history)) remember user hash history act)
+      in_history (Some history) = seeing_caller P (λ caller. stores_unless_used (is_refused call.args caller token hash (hashes_of user history)) remember user hash history act)
           (λ caller. use_so (is_refused call.args caller token hash (hashes_of user history)) history)
 
       locked_so : Gives P (remember_locked call remember user hash token act)
@@ -76,12 +76,12 @@ module _ (P : Code → Type 0) (ends : P returns.Success) (refused : P returns.A
       compared (Some history) = seeing_caller P (λ caller. unless_used (is_refused call.args caller token hash (hashes_of user history)) call remember user hash token act)
           (λ caller. unused (is_refused call.args caller token hash (hashes_of user history)))
 
-      remembered : (b : Bool) → Gives P (by_remember b call remember user hash token act)
+      remembered : (b : Bool) → Gives P (unless_remember_zero b call remember user hash token act)
       remembered true = rest returns.Success ends
       remembered false = reading P history_name history_limit (λ c. compares_token call remember user hash token (history_in c) act) (λ c. compared (history_in c))
 
   module _ (call : PlainCall) (act : Code → Act) (rest : Passes P act) (user : List ℕ) where
-    token_so : (hash : List ℕ) (t : Option (List ℕ)) → Gives P (by_token call user hash t act)
+    token_so : (hash : List ℕ) (t : Option (List ℕ)) → Gives P (remembers_if_taken call user hash t act)
     token_so hash None = rest returns.AuthtokErr refused
     token_so hash (Some token) = remembered call (remember_of call.args) user hash token act rest (remember_of call.args == 0)
 

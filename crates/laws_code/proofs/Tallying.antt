@@ -12,7 +12,7 @@ use Rattle.mod_tally.specs.declared.settings.Task.{Task}
 use Rattle.mod_tally.specs.declared.settings.Task.TheVariants.{Preauth, AuthFail, AuthSucc, Clear}
 use Rattle.mod_tally.specs.Settings.{PlainSettings, settings_of, task_among}
 use Rattle.mod_tally.specs.Tally.{is_locked, tally_text}
-use Rattle.mod_tally.specs.Faillock.{by_account, by_call, by_file, by_lock, by_name, by_spared, by_tally, by_task, checks_tally, clears, does_task, failures_in, faillock_plays, given_mode, if_any, if_held, if_taken, is_no_file, lock_name, locks_file, reads_tally, records, sets_if, spared_answer, tally_limit, tally_name, task_of, tries_lock, unless_locked, write_result}
+use Rattle.mod_tally.specs.Faillock.{task_for_account, task_or_code, task_on_file, denies_if_locked, unless_no_file, unless_spared, task_if_readable, task_on_failures, checks_tally, clears, does_task, failures_in, faillock_plays, given_mode, if_any, if_held, if_taken, is_no_file, lock_name, locks_file, reads_tally, records, sets_if, spared_answer, tally_limit, tally_name, task_of, tries_lock, unless_locked, write_result}
 use Rattle.laws_code.specs.Codes.{faillock_account, faillock_auth, faillock_codes}
 use Rattle.laws_code.specs.Returns.{IsOneOf, ReturnsOf}
 use Rattle.laws_code.proofs.Giving.{Gives, answering, asking, finding, holding, letting_go, reading, replacing, seeing_items, seeing_moment}
@@ -40,7 +40,7 @@ module _ (P : Code → Type 0) where
   recorded : (s : PlainSettings) (name : List ℕ) (failures : List Failure) (act : Code → Act) → Rest act → Gives P (records s name failures act)
   recorded s name failures act r = seeing_moment P _ (λ now. seeing_items P _ (λ items. set_if _ name _ returns.Ignore act r.passed r.failed))
 
-  locked_or : (b : Bool) (step : (Code → Act) → Act) (act : Code → Act) → Gives P (act returns.AuthErr) → Gives P (step act) → Gives P (by_lock b step act)
+  locked_or : (b : Bool) (step : (Code → Act) → Act) (act : Code → Act) → Gives P (act returns.AuthErr) → Gives P (step act) → Gives P (denies_if_locked b step act)
   locked_or true step act p q = p
   locked_or false step act p q = q
 
@@ -63,22 +63,22 @@ module _ (P : Code → Type 0) where
   Refuses Clear act = Unit {0}
 
   done_by : (task : Task) (s : PlainSettings) (file lock : List ℕ) (failures : List Failure) (act : Code → Act) → Refuses task act → Rest act
-      → Gives P (by_task task s file lock failures act)
+      → Gives P (task_on_failures task s file lock failures act)
   done_by Preauth s file lock failures act d r = unlocked s failures (tries_lock lock) act d (tried lock act r)
   done_by AuthFail s file lock failures act d r = unlocked s failures (records s file failures) act d (recorded s file failures act r)
   done_by AuthSucc s file lock failures act d r = unlocked s failures (clears file failures) act d (cleared file failures act r)
   done_by Clear s file lock failures act d r = cleared file failures act r
 
   tallied : (task : Task) (s : PlainSettings) (file lock : List ℕ) (act : Code → Act) → Refuses task act → Rest act → (failures : Option (List Failure))
-      → Gives P (by_tally task s file lock act failures)
+      → Gives P (task_if_readable task s file lock act failures)
   tallied task s file lock act d r None = r.failed
   tallied task s file lock act d r (Some failures) = done_by task s file lock failures act d r
 
   read_so : (name : List ℕ) (act : Option (List Failure) → Act) → ((fs : Option (List Failure)) → Gives P (act fs)) → Gives P (reads_tally name act)
   read_so name act rest = reading P name tally_limit (λ c. act (failures_in c)) (λ c. rest (failures_in c))
 
-  filed : (task : Task) (s : PlainSettings) (file lock : List ℕ) (act : Code → Act) → Refuses task act → Rest act → Gives P (by_file task s file lock act)
-  filed task s file lock act d r = read_so file (by_tally task s file lock act) (tallied task s file lock act d r)
+  filed : (task : Task) (s : PlainSettings) (file lock : List ℕ) (act : Code → Act) → Refuses task act → Rest act → Gives P (task_on_file task s file lock act)
+  filed task s file lock act d r = read_so file (task_if_readable task s file lock act) (tallied task s file lock act d r)
 
   let_go : (b : Bool) (act : Code → Act) → Rest act → Rest (λ code. lets_go b (act code))
   let_go b act r = record { ends = letting_go P b (act returns.Success) r.ends; passed = letting_go P b (act returns.Ignore) r.passed; failed = letting_go P b (act returns.ServiceErr) r.failed }
@@ -119,18 +119,18 @@ module _ (P : Code → Type 0) (ends : P returns.Success) (passed : P returns.Ig
   spared AuthSucc = ends
   spared Clear = ends
 
-  root_or : (b : Bool) (task : Task) (s : PlainSettings) (user : List ℕ) → Refuses P task answers → Gives P (by_spared b task s user)
+  root_or : (b : Bool) (task : Task) (s : PlainSettings) (user : List ℕ) → Refuses P task answers → Gives P (unless_spared b task s user)
   root_or true task s user d = answering P _ (spared task)
   root_or false task s user d = does_so P task s (tally_name s.folder user) (lock_name s.folder user) answers d at_end
 
-  accounted : (task : Task) (s : PlainSettings) (user : List ℕ) → Refuses P task answers → (a : Account) → Gives P (by_account task s user a)
+  accounted : (task : Task) (s : PlainSettings) (user : List ℕ) → Refuses P task answers → (a : Account) → Gives P (task_for_account task s user a)
   accounted task s user d unreadable = answering P returns.ServiceErr failed
   accounted task s user d missing = answering P returns.Ignore passed
   accounted task s user d (found entry) = root_or (entry.uid == 0 && not s.locks_root) task s user d
 
-  named : (b : Bool) (task : Task) (s : PlainSettings) (user : List ℕ) → Refuses P task answers → Gives P (by_name b task s user)
+  named : (b : Bool) (task : Task) (s : PlainSettings) (user : List ℕ) → Refuses P task answers → Gives P (unless_no_file b task s user)
   named true task s user d = answering P returns.UserUnknown unknown
-  named false task s user d = finding P user (by_account task s user) (accounted task s user d)
+  named false task s user d = finding P user (task_for_account task s user) (accounted task s user d)
 
   tally_checked : P returns.ConvErr → (task : Task) (s : PlainSettings) → Refuses P task answers → Gives P (checks_tally task s)
   tally_checked silent task s d = asking P _ silent (λ user. named (is_no_file user) task s user d)
@@ -141,7 +141,7 @@ refusing P p AuthFail = answering P returns.AuthErr p
 refusing P p AuthSucc = answering P returns.AuthErr p
 refusing P p Clear = tt
 
-given : (mode : Option Task) (s : PlainSettings) → Gives (λ c. IsOneOf c faillock_auth) (by_call (given_mode mode) s)
+given : (mode : Option Task) (s : PlainSettings) → Gives (λ c. IsOneOf c faillock_auth) (task_or_code (given_mode mode) s)
 given None s = answering (λ c. IsOneOf c faillock_auth) returns.ServiceErr (inr (inr (inr (inr (inl refl)))))
 given (Some task) s =
     let P : Code → Type 0 = λ c. IsOneOf c faillock_auth in
@@ -150,7 +150,7 @@ given (Some task) s =
 missing_so : Gives (λ c. IsOneOf c (returns.ModuleUnknown ∷ [])) (answers returns.ModuleUnknown)
 missing_so = answering (λ c. IsOneOf c (returns.ModuleUnknown ∷ [])) returns.ModuleUnknown (inl refl)
 
-by_function : (f : Func) (mode : Option Task) (s : PlainSettings) → Gives (λ c. IsOneOf c (faillock_codes f)) (by_call (task_of f mode) s)
+by_function : (f : Func) (mode : Option Task) (s : PlainSettings) → Gives (λ c. IsOneOf c (faillock_codes f)) (task_or_code (task_of f mode) s)
 by_function Authenticate mode s = given mode s
 by_function SetCred mode s = answering (λ c. IsOneOf c (returns.Success ∷ [])) returns.Success (inl refl)
 by_function AcctMgmt mode s = tally_checked (λ c. IsOneOf c faillock_account) (inl refl) (inr (inl refl)) (inr (inr (inr (inl refl)))) (inr (inr (inr (inr (inl refl))))) (inr (inr (inl refl))) Clear s tt

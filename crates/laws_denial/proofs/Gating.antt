@@ -23,7 +23,7 @@ use Rattle.module_acts.specs.Content.{content_of, is_rooted}
 use Rattle.mod_tally.specs.declared.tally.Failure.{Failure}
 use Rattle.mod_tally.specs.declared.settings.Task.{Task}
 use Rattle.mod_tally.specs.declared.settings.Task.TheVariants.{Preauth, AuthFail, AuthSucc}
-use Rattle.mod_tally.specs.Faillock.{by_account, by_call, by_file, by_lock, by_name, by_spared, by_tally, by_task, clears, does_task, failures_in, faillock_plays, given_mode, if_any, if_held, is_no_file, lock_name, locks_file, reads_tally, records, tally_limit, tally_name, tries_lock, unless_locked}
+use Rattle.mod_tally.specs.Faillock.{task_for_account, task_or_code, task_on_file, denies_if_locked, unless_no_file, unless_spared, task_if_readable, task_on_failures, clears, does_task, failures_in, faillock_plays, given_mode, if_any, if_held, is_no_file, lock_name, locks_file, reads_tally, records, tally_limit, tally_name, tries_lock, unless_locked}
 use Rattle.mod_tally.specs.Settings.{PlainSettings, settings_of, task_among}
 use Rattle.mod_tally.specs.Tally.{failures_of, is_locked}
 use Rattle.laws_lock.specs.Locked.{IsLocked}
@@ -114,7 +114,7 @@ module _ (s : PlainSettings) where
   -- ---- a user who is locked
 
   by_test : (b : Bool) (step : (Code → Act) → Act) (act : Code → Act) (stage : Stage) → b ≡ true → Refused stage (act returns.AuthErr stage)
-      → Refused stage (by_lock b step act stage)
+      → Refused stage (denies_if_locked b step act stage)
   by_test true step act stage is r = r
   by_test false step act stage is r = absurd (true≢false (sym is))
 
@@ -127,7 +127,7 @@ module _ (s : PlainSettings) where
   -- a task that is only done for a user who isn't locked
   abbrev Guards : Task → Type 0
   Guards task = (file lock : List ℕ) (failures : List Failure) (act : Code → Act) (stage : Stage) → LockedAt stage failures → Refuses act
-      → Refused stage (by_task task s file lock failures act stage)
+      → Refused stage (task_on_failures task s file lock failures act stage)
 
   preauth_guards : Guards Preauth
   preauth_guards file lock failures act stage locked refuses = guarded failures (tries_lock lock) act stage locked refuses
@@ -139,9 +139,9 @@ module _ (s : PlainSettings) where
   authsucc_guards file lock failures act stage locked refuses = guarded failures (clears file failures) act stage locked refuses
 
   filed : (task : Task) → Guards task → (file lock : List ℕ) (act : Code → Act) (stage : Stage) → is_rooted file ≡ true → Tallied file stage → Refuses act
-      → Refused stage (by_file task s file lock act stage)
+      → Refused stage (task_on_file task s file lock act stage)
   filed task guards file lock act stage root t refuses =
-      reads file (by_tally task s file lock act) stage t root (guards file lock t.failures act (on stage) t.locked refuses)
+      reads file (task_if_readable task s file lock act) stage t root (guards file lock t.failures act (on stage) t.locked refuses)
 
   held_unless : (fails : Bool) (path : List ℕ) (kind : LockKind) (act : Bool → Act) (stage : Stage) → fails ≡ false → Refused (on stage) (act true (on stage))
       → Refused stage (holds_unless fails path kind act stage)
@@ -191,7 +191,7 @@ module _ (s : PlainSettings) where
 
   module _ (user : List ℕ) (task : Task) (does : Does task) where
     unspared : (b : Bool) (stage : Stage) → b ≡ false → is_rooted s.folder ≡ true → Tallied (tally_name s.folder user) stage
-        → Refused stage (by_spared b task s user stage)
+        → Refused stage (unless_spared b task s user stage)
     unspared true stage is folder t = absurd (true≢false is)
     unspared false stage is folder t =
         does (tally_name s.folder user) (lock_name s.folder user) stage (rooted s.folder user folder) (rooted s.folder _ folder) t
@@ -212,7 +212,7 @@ module _ (s : PlainSettings) where
       works = l.none_fails;
     }
 
-    named : (b : Bool) (stage : Stage) → b ≡ false → stage.known ≡ nothing_known → IsLocked s stage.sight user → Refused stage (by_name b task s user stage)
+    named : (b : Bool) (stage : Stage) → b ≡ false → stage.known ≡ nothing_known → IsLocked s stage.sight user → Refused stage (unless_no_file b task s user stage)
     unfolding reads_passwds
     named true stage is known l = absurd (true≢false is)
     named false stage is known l =
@@ -225,23 +225,23 @@ module _ (s : PlainSettings) where
         ap (λ (c : Content). account_in user (passwds_in c)) seen ∙ found_so l.entries l.entry l.passwd l.entries_are l.entry_is in
         let t : Tallied (tally_name s.folder user) next =
         still_tallied (tally_name s.folder user) (record stage { known = next.known }) (tallied_in (record stage { known = next.known }) l) in
-        let r : Refused next (by_spared (l.entry.uid == 0 && not s.locks_root) task s user next) =
+        let r : Refused next (unless_spared (l.entry.uid == 0 && not s.locks_root) task s user next) =
         unspared (l.entry.uid == 0 && not s.locks_root) next l.lockable l.folder t in
-        let found_one : Refused stage (called (by_account task s user (found l.entry) next)) =
+        let found_one : Refused stage (called (task_for_account task s user (found l.entry) next)) =
         record { code_is = r.code_is; room_is = r.room_is; files_are = r.files_are } in
-        subst (λ (k : Known). Refused stage (passwds_by k.passwds (λ es. by_account task s user (account_in user es)) stage)) (sym known)
-        (subst (λ (a : Account). Refused stage (called (by_account task s user a next))) (sym account) found_one)
+        subst (λ (k : Known). Refused stage (passwds_by k.passwds (λ es. task_for_account task s user (account_in user es)) stage)) (sym known)
+        (subst (λ (a : Account). Refused stage (called (task_for_account task s user a next))) (sym account) found_one)
 
     asked : (there : Option (List ℕ)) (stage : Stage) → there ≡ Some user → stage.room.items.user ≡ Some user → stage.known ≡ nothing_known
         → IsLocked s stage.sight user
-        → Refused stage (with_user (user_or_ask there stage.room) (λ u. by_name (is_no_file u) task s u) stage)
+        → Refused stage (with_user (user_or_ask there stage.room) (λ u. unless_no_file (is_no_file u) task s u) stage)
     asked None stage is set known l = absurd cc
     asked (Some u) stage is set known l =
         let who : unwrap_or stage.room.items.user [] ≡ user = ap (λ (o : Option (List ℕ)). unwrap_or o []) set in
-        subst (λ (x : List ℕ). Refused stage (by_name (is_no_file x) task s x stage)) (sym who) (named (is_no_file user) stage l.named known l)
+        subst (λ (x : List ℕ). Refused stage (unless_no_file (is_no_file x) task s x stage)) (sym who) (named (is_no_file user) stage l.named known l)
 
     checked : (stage : Stage) → stage.room.items.user ≡ Some user → stage.known ≡ nothing_known → IsLocked s stage.sight user
-        → Refused stage (by_call (Ok task) s stage)
+        → Refused stage (task_or_code (Ok task) s stage)
     unfolding asks_user
     checked stage set known l = asked stage.room.items.user stage set set known l
 
@@ -249,12 +249,12 @@ module _ (s : PlainSettings) where
 
 by_mode : (s : PlainSettings) (user : List ℕ) (task : Task) (mode : Option Task) → Does s task → mode ≡ Some task → (stage : Stage)
     → stage.room.items.user ≡ Some user
-    → stage.known ≡ nothing_known → IsLocked s stage.sight user → Refused stage (by_call (given_mode mode) s stage)
+    → stage.known ≡ nothing_known → IsLocked s stage.sight user → Refused stage (task_or_code (given_mode mode) s stage)
 by_mode s user task mode does is stage set known l =
-    subst (λ (o : Option Task). Refused stage (by_call (given_mode o) s stage)) (sym is) (checked s user task does stage set known l)
+    subst (λ (o : Option Task). Refused stage (task_or_code (given_mode o) s stage)) (sym is) (checked s user task does stage set known l)
 
 by_modes : (s : PlainSettings) (user : List ℕ) (args : List (List ℕ)) → HasMode args → (stage : Stage) → stage.room.items.user ≡ Some user
-    → stage.known ≡ nothing_known → IsLocked s stage.sight user → Refused stage (by_call (given_mode (task_among args)) s stage)
+    → stage.known ≡ nothing_known → IsLocked s stage.sight user → Refused stage (task_or_code (given_mode (task_among args)) s stage)
 by_modes s user args (inl is) stage set known l = by_mode s user Preauth (task_among args) (preauth s) is stage set known l
 by_modes s user args (inr (inl is)) stage set known l = by_mode s user AuthFail (task_among args) (authfail s) is stage set known l
 by_modes s user args (inr (inr is)) stage set known l = by_mode s user AuthSucc (task_among args) (authsucc s) is stage set known l

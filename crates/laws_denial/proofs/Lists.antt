@@ -24,19 +24,19 @@ use Rattle.mod_lists.specs.declared.list_values.Values.{Values}
 use Rattle.mod_lists.specs.declared.list_values.Values.TheVariants as values
 use Rattle.mod_lists.specs.declared.truth.Truth.{Truth}
 use Rattle.mod_lists.specs.declared.truth.Truth.TheVariants as truths
-use Rattle.mod_lists.specs.Nologin.{by_account as notice_account, after_notice, by_uid, checks_notice, nologin_act, notice_limit, or_etc, plain_answer, reads_notice}
+use Rattle.mod_lists.specs.Nologin.{notice_for_account as notice_account, after_notice, admits_root_only, checks_notice, nologin_act, notice_limit, or_etc, plain_answer, reads_notice}
 use Rattle.mod_lists.specs.ListSettings.{PlainApply, PlainSettings, apply_of, everyone, members, one, settings_of}
-use Rattle.mod_lists.specs.Listfile.{applies, at_once as listfile_at_once, by_account as values_account, by_applies, by_content, by_groups as applies_groups, by_passwds as applies_passwds, by_settings, by_values, error_answer, group_values, listfile_act, reads_values, shell_values, text_values, verdict, yes_or_no}
-use Rattle.mod_lists.specs.Shells.{by_account as shell_account, checks_shell, list_code, login_shell, shells_act}
+use Rattle.mod_lists.specs.Listfile.{applies, at_once as listfile_at_once, reads_group_values as values_account, if_applies, file_verdict, applies_in_groups as applies_groups, applies_after_passwds as applies_passwds, checks_list, code_for_values, error_answer, group_values, listfile_act, reads_values, shell_values, text_values, verdict, yes_or_no}
+use Rattle.mod_lists.specs.Shells.{checks_login_shell as shell_account, checks_shell, list_code, login_shell, shells_act}
 use Rattle.mod_lists.specs.Condition.{PlainCondition, PlainTest, condition_of, grouped, on, on_text}
-use Rattle.mod_lists.specs.SucceedIf.{at_once as succeed_at_once, by_groups as groups_truth, by_passwds as truth_passwds, by_truth, by_use, checks_conditions, conditions_in, item_text, meets_all, on_account, succeed_if_act, tests_field, tries, tries_words, uses_uid}
+use Rattle.mod_lists.specs.SucceedIf.{at_once as succeed_at_once, tried_in_groups as groups_truth, tries_after_passwds as truth_passwds, rest_if_holds, unless_use_uid, checks_conditions, conditions_in, item_text, meets_all, on_account, succeed_if_act, tests_field, tries, tries_words, uses_uid}
 use Rattle.laws_denial.proofs.Steps.{Still, answering, asking, finding, reading, reading_groups, reading_passwds, reading_shells, seeing_items, showing, unless}
 
 module _ (who : List ℕ) where
   -- ---- pam_nologin
 
   module _ (plain : Code) where
-    notice_by_uid : (root : Bool) (notice : List ℕ) → Still who (by_uid root plain notice)
+    notice_by_uid : (root : Bool) (notice : List ℕ) → Still who (admits_root_only root plain notice)
     notice_by_uid true notice = showing who TextInfo notice (answers plain) (answering who plain)
     notice_by_uid false notice = showing who ErrorMsg notice (answers returns.AuthErr) (answering who returns.AuthErr)
 
@@ -70,60 +70,60 @@ module _ (who : List ℕ) where
   -- ---- pam_listfile
 
   module _ (error : Code) (s : PlainSettings) where
-    values_by : (v : Values) → Still who (by_values error s v)
+    values_by : (v : Values) → Still who (code_for_values error s v)
     values_by values.Unset = answering who (verdict s.sense false)
     values_by values.Unknown = answering who error
     values_by (values.These wanted) =
-        reading who s.file account_limit (λ content. answers (by_content error s.sense wanted content))
-        (λ content. answering who (by_content error s.sense wanted content))
+        reading who s.file account_limit (λ content. answers (file_verdict error s.sense wanted content))
+        (λ content. answering who (file_verdict error s.sense wanted content))
 
     module _ (user : List ℕ) where
-      values_of_account : (a : Account) → Still who (values_account user (by_values error s) a)
+      values_of_account : (a : Account) → Still who (values_account user (code_for_values error s) a)
       values_of_account (found entry) =
-          reading_groups who (λ groups. by_values error s (group_values user (found entry) groups))
+          reading_groups who (λ groups. code_for_values error s (group_values user (found entry) groups))
           (λ groups. values_by (group_values user (found entry) groups))
       values_of_account missing = values_by values.Unknown
       values_of_account unreadable = values_by values.Unknown
 
-      values_read : (item : ListItem) → Still who (reads_values item user (by_values error s))
+      values_read : (item : ListItem) → Still who (reads_values item user (code_for_values error s))
       values_read Tty =
-          seeing_items who (λ texts. by_values error s (text_values Tty (text_of texts names.Tty)))
+          seeing_items who (λ texts. code_for_values error s (text_values Tty (text_of texts names.Tty)))
           (λ texts. values_by (text_values Tty (text_of texts names.Tty)))
       values_read User =
-          seeing_items who (λ texts. by_values error s (text_values User (text_of texts names.User)))
+          seeing_items who (λ texts. code_for_values error s (text_values User (text_of texts names.User)))
           (λ texts. values_by (text_values User (text_of texts names.User)))
       values_read Rhost =
-          seeing_items who (λ texts. by_values error s (text_values Rhost (text_of texts names.Rhost)))
+          seeing_items who (λ texts. code_for_values error s (text_values Rhost (text_of texts names.Rhost)))
           (λ texts. values_by (text_values Rhost (text_of texts names.Rhost)))
       values_read Ruser =
-          seeing_items who (λ texts. by_values error s (text_values Ruser (text_of texts names.Ruser)))
+          seeing_items who (λ texts. code_for_values error s (text_values Ruser (text_of texts names.Ruser)))
           (λ texts. values_by (text_values Ruser (text_of texts names.Ruser)))
-      values_read Shell = finding who user (λ account. by_values error s (shell_values account)) (λ account. values_by (shell_values account))
-      values_read Group = finding who user (values_account user (by_values error s)) values_of_account
+      values_read Shell = finding who user (λ account. code_for_values error s (shell_values account)) (λ account. values_by (shell_values account))
+      values_read Group = finding who user (values_account user (code_for_values error s)) values_of_account
 
-      applied : (a : Applies) → Still who (by_applies error s user a)
+      applied : (a : Applies) → Still who (if_applies error s user a)
       applied Yes = values_read s.item
       applied No = answering who returns.Ignore
       applied Unknown = answering who error
 
-      members_read : (name : List ℕ) (entries : Option (List Passwd)) → Still who (applies_passwds name user (by_applies error s user) entries)
+      members_read : (name : List ℕ) (entries : Option (List Passwd)) → Still who (applies_passwds name user (if_applies error s user) entries)
       members_read name None = applied Unknown
       members_read name (Some entries) =
-          reading_groups who (λ groups. by_applies error s user (applies_groups name user (entry_of user entries) groups))
+          reading_groups who (λ groups. if_applies error s user (applies_groups name user (entry_of user entries) groups))
           (λ groups. applied (applies_groups name user (entry_of user entries) groups))
 
-      list_applies : (a : PlainApply) → Still who (applies a user (by_applies error s user))
+      list_applies : (a : PlainApply) → Still who (applies a user (if_applies error s user))
       list_applies everyone = applied Yes
       list_applies (one name) = applied (yes_or_no (bytes_eq name user))
-      list_applies (members name) = reading_passwds who (applies_passwds name user (by_applies error s user)) (members_read name)
+      list_applies (members name) = reading_passwds who (applies_passwds name user (if_applies error s user)) (members_read name)
 
-  list_by_settings : (error : Code) (args : List (List ℕ)) (s : Option PlainSettings) → Still who (by_settings error args s)
+  list_by_settings : (error : Code) (args : List (List ℕ)) (s : Option PlainSettings) → Still who (checks_list error args s)
   list_by_settings error args None = answering who error
   list_by_settings error args (Some s) =
-      asking who (λ user. applies (apply_of s.item args) user (by_applies error s user)) (λ user. list_applies error s user (apply_of s.item args))
+      asking who (λ user. applies (apply_of s.item args) user (if_applies error s user)) (λ user. list_applies error s user (apply_of s.item args))
 
   pub listfile_leaves : (call : PlainCall) → Still who (listfile_act call)
-  listfile_leaves call = unless who (listfile_at_once call.func) (by_settings (error_answer call.args) call.args (settings_of call.args))
+  listfile_leaves call = unless who (listfile_at_once call.func) (checks_list (error_answer call.args) call.args (settings_of call.args))
       (list_by_settings (error_answer call.args) call.args (settings_of call.args))
 
   -- ---- pam_shells
@@ -161,7 +161,7 @@ module _ (who : List ℕ) where
     tried_words (Some condition) = tried condition
     tried_words None = next truths.Faulty
 
-  truth_leads : (rest : Act) → Still who rest → (t : Truth) → Still who (by_truth rest t)
+  truth_leads : (rest : Act) → Still who rest → (t : Truth) → Still who (rest_if_holds rest t)
   truth_leads rest leaves truths.Holds = leaves
   truth_leads rest leaves truths.Fails = answering who returns.AuthErr
   truth_leads rest leaves truths.NoUser = answering who returns.UserUnknown
@@ -172,9 +172,9 @@ module _ (who : List ℕ) where
   met (field ∷ []) user = answering who returns.ServiceErr
   met (field ∷ word ∷ []) user = answering who returns.ServiceErr
   met (field ∷ word ∷ value ∷ rest) user =
-      tried_words user (by_truth (meets_all rest user)) (truth_leads (meets_all rest user) (met rest user)) (condition_of field word value)
+      tried_words user (rest_if_holds (meets_all rest user)) (truth_leads (meets_all rest user) (met rest user)) (condition_of field word value)
 
-  used : (given : Bool) (args : List (List ℕ)) → Still who (by_use given args)
+  used : (given : Bool) (args : List (List ℕ)) → Still who (unless_use_uid given args)
   used true args = answering who returns.ServiceErr
   used false args = asking who (meets_all (conditions_in args)) (met (conditions_in args))
 

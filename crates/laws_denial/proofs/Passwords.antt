@@ -15,35 +15,35 @@ use Rattle.module_acts.specs.Steps.{answers_keeping}
 use Rattle.pam_base.specs.Code.{number_of}
 use Rattle.mod_unix.specs.declared.look.KnownPassword.{KnownPassword}
 use Rattle.mod_unix.specs.declared.look.KnownPassword.TheVariants.{Unknown, Unavailable, Plain}
-use Rattle.mod_unix.specs.Look.{by_field, by_x, field_among, field_in, field_or_missing, is_x, looks, shadow_in}
+use Rattle.mod_unix.specs.Look.{after_passwd, shadow_if_x, field_among, field_in, field_or_missing, is_x, looks, shadow_in}
 use Rattle.mod_unix.specs.Verify.{verified}
-use Rattle.mod_unix.specs.Authenticate.{asks_password, authenticates, judge_account, by_open, by_pass as verified_by, delays, is_open, is_success, keeps_for_setcred, setcred_return, try_first, unless_success, verifies_token, with_first}
+use Rattle.mod_unix.specs.Authenticate.{asks_password, authenticates, judge_account, unless_open, first_pass_or_asks as verified_by, delays, is_open, is_success, keeps_for_setcred, setcred_return, try_first, unless_success, verifies_token, with_first}
 use Rattle.laws_denial.proofs.Steps.{Still, answering, asking, asking_token, delaying, keeping, reading, seeing_items}
 
 module _ (who : List ℕ) where
   -- ---- what is known of a user
 
   module _ (user : List ℕ) (act : KnownPassword → Act) (next : (look : KnownPassword) → Still who (act look)) where
-    by_hash : (x : Bool) (hash : List ℕ) → Still who (by_x x user hash act)
+    by_hash : (x : Bool) (hash : List ℕ) → Still who (shadow_if_x x user hash act)
     by_hash true hash = reading who (codes "/etc/shadow") account_limit (λ c. act (shadow_in user c)) (λ c. next (shadow_in user c))
     by_hash false hash = next (Plain hash)
 
-    by_entry : (entry : Option Passwd) → Still who (by_field user (field_or_missing entry) act)
+    by_entry : (entry : Option Passwd) → Still who (after_passwd user (field_or_missing entry) act)
     by_entry (Some entry) = by_hash (is_x entry.password) entry.password
     by_entry None = next Unknown
 
-    by_entries : (entries : Result (List Passwd) DbFault) → Still who (by_field user (field_among user entries) act)
+    by_entries : (entries : Result (List Passwd) DbFault) → Still who (after_passwd user (field_among user entries) act)
     by_entries (Ok entries) = by_entry (entry_of user entries)
     by_entries (Err fault) = next Unavailable
 
-    by_content : (c : Content) → Still who (by_field user (field_in user c) act)
+    by_content : (c : Content) → Still who (after_passwd user (field_in user c) act)
     by_content content.Absent = next Unavailable
     by_content content.Unreadable = next Unavailable
     by_content (content.Holds text) = by_entries (passwds_of text)
 
     pub looking : Still who (looks user act)
     unfolding looks
-    looking = reading who (codes "/etc/passwd") account_limit (λ c. by_field user (field_in user c) act) by_content
+    looking = reading who (codes "/etc/passwd") account_limit (λ c. after_passwd user (field_in user c) act) by_content
 
   -- ---- authenticate
 
@@ -87,7 +87,7 @@ module _ (who : List ℕ) where
       delayed true = verifying
       delayed false = delaying who 2000000 (verifies_token call look keeps_for_setcred) verifying
 
-      opened : (empty : Bool) → Still who (by_open empty call look keeps_for_setcred)
+      opened : (empty : Bool) → Still who (unless_open empty call look keeps_for_setcred)
       unfolding keeps_for_setcred
       opened true = kept returns.Success
       opened false = delayed (has_argument (codes "nodelay") call.args)

@@ -8,7 +8,7 @@ use Rattle.module_acts.specs.Act.{Act, answers, finds_account, reads_groups, rea
 use Rattle.module_acts.specs.Steps.{sees_caller}
 use Rattle.module_acts.specs.Uncheck.{code_unchecked}
 use Rattle.mod_history.specs.Wheel.{checks_wheel, code_by_groups, code_by_passwds, wheel_act}
-use Rattle.mod_history.specs.Securetty.{by_account, by_list, by_root, by_terminal, checks_terminal, securetty_act, terminal_name}
+use Rattle.mod_history.specs.Securetty.{terminal_for_account, terminal_code, checks_if_root, looks_up_terminal, checks_terminal, securetty_act, terminal_name}
 use Rattle.laws_denial.proofs.Steps.{Still, answering, asking, finding, reading, reading_groups, reading_passwds, seeing_caller, seeing_items, unless}
 
 module _ (who : List ℕ) where
@@ -30,21 +30,21 @@ module _ (who : List ℕ) where
 
   -- ---- pam_securetty
 
-  terminal_checked : (tty : Option (List ℕ)) → Still who (by_terminal tty)
+  terminal_checked : (tty : Option (List ℕ)) → Still who (looks_up_terminal tty)
   terminal_checked None = answering who returns.ServiceErr
   terminal_checked (Some tty) =
-      reading who (codes "/etc/securetty") account_limit (λ content. answers (by_list (terminal_name tty) content))
-      (λ content. answering who (by_list (terminal_name tty) content))
+      reading who (codes "/etc/securetty") account_limit (λ content. answers (terminal_code (terminal_name tty) content))
+      (λ content. answering who (terminal_code (terminal_name tty) content))
 
-  root_checked : (root : Bool) → Still who (by_root root)
-  root_checked true = seeing_items who (λ items. by_terminal items.tty) (λ items. terminal_checked items.tty)
+  root_checked : (root : Bool) → Still who (checks_if_root root)
+  root_checked true = seeing_items who (λ items. looks_up_terminal items.tty) (λ items. terminal_checked items.tty)
   root_checked false = answering who returns.Success
 
-  account_checked : (a : Account) → Still who (by_account a)
+  account_checked : (a : Account) → Still who (terminal_for_account a)
   account_checked unreadable = answering who returns.ServiceErr
   account_checked missing = answering who returns.UserUnknown
   account_checked (found entry) = root_checked (entry.uid == 0)
 
   pub securetty_leaves : (call : PlainCall) → Still who (securetty_act call)
   securetty_leaves call = unless who (code_unchecked call.func returns.Success) checks_terminal
-      (asking who (λ user. finds_account user by_account) (λ user. finding who user by_account account_checked))
+      (asking who (λ user. finds_account user terminal_for_account) (λ user. finding who user terminal_for_account account_checked))

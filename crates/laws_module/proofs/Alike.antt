@@ -21,9 +21,9 @@ use Rattle.module_acts.specs.Arguments.{has_argument}
 use Rattle.module_acts.specs.Content.{content_of}
 use Rattle.module_acts.specs.Steps.{answers_keeping, asks_token, requests_delay}
 use Rattle.mod_unix.specs.declared.look.KnownPassword.{KnownPassword}
-use Rattle.mod_unix.specs.Authenticate.{asks_password, authenticates, by_open, by_pass, delays, is_open, is_success, judge_account, keeps_for_setcred, try_first, unless_success, verifies_token, with_first}
-use Rattle.mod_unix.specs.Look.{by_field, by_x, field_among, field_in, field_or_missing, is_x, looks, shadow_among, shadow_in, shadowed}
-use Rattle.mod_unix.specs.Unix.{by_func}
+use Rattle.mod_unix.specs.Authenticate.{asks_password, authenticates, unless_open, first_pass_or_asks, delays, is_open, is_success, judge_account, keeps_for_setcred, try_first, unless_success, verifies_token, with_first}
+use Rattle.mod_unix.specs.Look.{after_passwd, shadow_if_x, field_among, field_in, field_or_missing, is_x, looks, shadow_among, shadow_in, shadowed}
+use Rattle.mod_unix.specs.Unix.{act_of_func}
 use Rattle.mod_unix.specs.Verify.{verified}
 use Rattle.laws_module.specs.Others.{AgreeFor, IsShadow, OthersDontMatter, apart}
 
@@ -71,7 +71,7 @@ module _ (look : KnownPassword) where
   tries (Some token) stage sight = tried (is_success (verified look token)) stage sight
   tries None stage sight = asks stage sight
 
-  passes : (given try : Bool) → Alike (by_pass given try look keeps_for_setcred)
+  passes : (given try : Bool) → Alike (first_pass_or_asks given try look keeps_for_setcred)
   unfolding sees_items
   passes true try stage sight = first stage.room.items.auth_tok stage sight
   passes false true stage sight = tries stage.room.items.auth_tok stage sight
@@ -86,7 +86,7 @@ module _ (look : KnownPassword) where
   delayed call true stage sight = verifies call stage sight
   delayed call false stage sight = verifies call _ sight
 
-  opened : (call : PlainCall) (free : Bool) → Alike (by_open free call look keeps_for_setcred)
+  opened : (call : PlainCall) (free : Bool) → Alike (unless_open free call look keeps_for_setcred)
   opened call true stage sight = let_by stage sight
   opened call false stage sight = delayed call (has_argument (codes "nodelay") call.args) stage sight
 
@@ -126,7 +126,7 @@ module _ (call : PlainCall) (user : List ℕ) where
   one_more p q e = ap called e
 
   by_password : (x : Bool) (field : List ℕ) (stage : Stage) (others : List File) → AgreeFor user stage.sight.root stage.sight.files others
-      → apart (by_x x user field judges (with_files others stage)) ≡ apart (by_x x user field judges stage)
+      → apart (shadow_if_x x user field judges (with_files others stage)) ≡ apart (shadow_if_x x user field judges stage)
   unfolding reads_file
   by_password true field stage others agree =
       let next = record stage { sight = later stage.sight } in
@@ -138,17 +138,17 @@ module _ (call : PlainCall) (user : List ℕ) where
   by_password false field stage others agree = judged _ call stage (record stage.sight { files = others })
 
   by_found : (found : Option Passwd) (stage : Stage) (others : List File) → AgreeFor user stage.sight.root stage.sight.files others
-      → apart (by_field user (field_or_missing found) judges (with_files others stage)) ≡ apart (by_field user (field_or_missing found) judges stage)
+      → apart (after_passwd user (field_or_missing found) judges (with_files others stage)) ≡ apart (after_passwd user (field_or_missing found) judges stage)
   by_found None stage others agree = judged _ call stage (record stage.sight { files = others })
   by_found (Some entry) stage others agree = by_password (is_x entry.password) entry.password stage others agree
 
   by_entries : (r : Result (List Passwd) DbFault) (stage : Stage) (others : List File) → AgreeFor user stage.sight.root stage.sight.files others
-      → apart (by_field user (field_among user r) judges (with_files others stage)) ≡ apart (by_field user (field_among user r) judges stage)
+      → apart (after_passwd user (field_among user r) judges (with_files others stage)) ≡ apart (after_passwd user (field_among user r) judges stage)
   by_entries (Err fault) stage others agree = judged _ call stage (record stage.sight { files = others })
   by_entries (Ok es) stage others agree = by_found (entry_of user es) stage others agree
 
   by_fields : (c : Content) (stage : Stage) (others : List File) → AgreeFor user stage.sight.root stage.sight.files others
-      → apart (by_field user (field_in user c) judges (with_files others stage)) ≡ apart (by_field user (field_in user c) judges stage)
+      → apart (after_passwd user (field_in user c) judges (with_files others stage)) ≡ apart (after_passwd user (field_in user c) judges stage)
   by_fields content.Absent stage others agree = judged _ call stage (record stage.sight { files = others })
   by_fields content.Unreadable stage others agree = judged _ call stage (record stage.sight { files = others })
   by_fields (content.Holds text) stage others agree = by_entries (passwds_of text) stage others agree
@@ -162,8 +162,8 @@ module _ (call : PlainCall) (user : List ℕ) where
       ap (content_of (stage.sight.failing 0) account_limit) agree.passwd in
       let there = content_seen (codes "/etc/passwd") account_limit (record stage.sight { files = others }) in
       let here = content_seen (codes "/etc/passwd") account_limit stage.sight in
-      one_more (by_field user (field_in user there) judges (with_files others next)) (by_field user (field_in user here) judges next)
-      (ap (λ (c : Content). apart (by_field user (field_in user c) judges (with_files others next))) is ∙ by_fields (content_seen (codes "/etc/passwd") account_limit stage.sight) next others agree)
+      one_more (after_passwd user (field_in user there) judges (with_files others next)) (after_passwd user (field_in user here) judges next)
+      (ap (λ (c : Content). apart (after_passwd user (field_in user c) judges (with_files others next))) is ∙ by_fields (content_seen (codes "/etc/passwd") account_limit stage.sight) next others agree)
 
 -- ---- the user is asked for first
 
@@ -183,6 +183,6 @@ asked_first call user stage others is agree = by_asking call user (user_asked st
 pub others_dont_matter : OthersDontMatter
 others_dont_matter call room held sight others user func is agree =
     let stage : Stage = record { room = room; held = held; known = nothing_known; sight = sight } in
-    ap (λ (f : Func). apart (by_func f call (with_files others stage))) func
+    ap (λ (f : Func). apart (act_of_func f call (with_files others stage))) func
     ∙ asked_first call user stage others is agree
-    ∙ sym (ap (λ (f : Func). apart (by_func f call stage)) func)
+    ∙ sym (ap (λ (f : Func). apart (act_of_func f call stage)) func)

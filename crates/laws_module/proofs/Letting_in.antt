@@ -32,11 +32,11 @@ use Rattle.sha_crypt.specs.Hash.{crypted}
 use Rattle.sha_crypt.specs.declared.setting.SettingFault.{SettingFault}
 use Rattle.mod_unix.specs.declared.look.KnownPassword.{KnownPassword}
 use Rattle.mod_unix.specs.declared.look.KnownPassword.TheVariants.{Unknown, Unavailable, Plain, Shadowed}
-use Rattle.mod_unix.specs.Authenticate.{asks_password, authenticates, by_open, by_pass, delays, is_empty, is_open, is_success, judge_account, keeps_for_setcred, try_first, unless_success, verifies_token, with_first}
+use Rattle.mod_unix.specs.Authenticate.{asks_password, authenticates, unless_open, first_pass_or_asks, delays, is_empty, is_open, is_success, judge_account, keeps_for_setcred, try_first, unless_success, verifies_token, with_first}
 use Rattle.mod_unix.specs.Flags.{disallow_null_authtok}
-use Rattle.mod_unix.specs.Look.{by_field, by_x, field_among, field_in, field_or_missing, is_x, looks, shadow_among, shadow_in, shadowed}
-use Rattle.mod_unix.specs.Unix.{by_func}
-use Rattle.mod_unix.specs.Verify.{by_hash, hash_verified, is_locked, verified}
+use Rattle.mod_unix.specs.Look.{after_passwd, shadow_if_x, field_among, field_in, field_or_missing, is_x, looks, shadow_among, shadow_in, shadowed}
+use Rattle.mod_unix.specs.Unix.{act_of_func}
+use Rattle.mod_unix.specs.Verify.{hash_compared, hash_verified, is_locked, verified}
 use Rattle.laws_module.specs.Password.{HasPassword, HashOf, InShadow, IsPassword, LetInHasPassword, NeedsNone}
 
 -- ---- texts
@@ -60,11 +60,11 @@ compared : (same : Bool) (hash made : List ℕ) → bytes_eq made hash ≡ same 
 compared true hash made is e = same_bytes made hash is
 compared false hash made is e = absurd cc
 
-hashed_so : (hash : List ℕ) (r : Result (List ℕ) SettingFault) → by_hash hash r ≡ returns.Success → r ≡ Ok hash
+hashed_so : (hash : List ℕ) (r : Result (List ℕ) SettingFault) → hash_compared hash r ≡ returns.Success → r ≡ Ok hash
 hashed_so hash (Ok made) e = ap (λ (h : List ℕ). Ok h) (compared (bytes_eq made hash) hash made refl e)
 hashed_so hash (Err fault) e = absurd cc
 
-password_by : (locked long : Bool) (hash token : List ℕ) → is_locked hash ≡ locked → nat_lt 512 (length token) ≡ long → (if locked || long then returns.AuthErr else by_hash hash (crypted hash token)) ≡ returns.Success → IsPassword hash (Some token)
+password_by : (locked long : Bool) (hash token : List ℕ) → is_locked hash ≡ locked → nat_lt 512 (length token) ≡ long → (if locked || long then returns.AuthErr else hash_compared hash (crypted hash token)) ≡ returns.Success → IsPassword hash (Some token)
 password_by true long hash token l n e = absurd cc
 password_by false true hash token l n e = absurd cc
 password_by false false hash token l n e = record { token = token; token_is = refl; short = ltb-false 512 (length token) n; unlocked = l; hashed = hashed_so hash (crypted hash token) e }
@@ -176,7 +176,7 @@ module _ (call : PlainCall) (look : KnownPassword) where
   tries (Some token) stage is e = tried (is_success (verified look token)) token stage refl is e
   tries None stage is e = asks stage e
 
-  passes : (given try : Bool) (stage : Stage) → (by_pass given try look keeps_for_setcred stage).code ≡ returns.Success → Judged stage.room.items (by_pass given try look keeps_for_setcred stage).room.items
+  passes : (given try : Bool) (stage : Stage) → (first_pass_or_asks given try look keeps_for_setcred stage).code ≡ returns.Success → Judged stage.room.items (first_pass_or_asks given try look keeps_for_setcred stage).room.items
   unfolding sees_items
   passes true try stage e = first stage.room.items.auth_tok stage refl e
   passes false true stage e = tries stage.room.items.auth_tok stage refl e
@@ -191,7 +191,7 @@ module _ (call : PlainCall) (look : KnownPassword) where
   delayed true stage e = verifies stage e
   delayed false stage e = verifies _ e
 
-  opened : (free : Bool) (stage : Stage) → is_open call look ≡ free → (by_open free call look keeps_for_setcred stage).code ≡ returns.Success → Judged stage.room.items (by_open free call look keeps_for_setcred stage).room.items
+  opened : (free : Bool) (stage : Stage) → is_open call look ≡ free → (unless_open free call look keeps_for_setcred stage).code ≡ returns.Success → Judged stage.room.items (unless_open free call look keeps_for_setcred stage).room.items
   opened true stage is e = record { user_stays = ap (λ (r : SeenRoom). r.items.user) (let_by stage); why = inr is }
   opened false stage is e = delayed (has_argument (codes "nodelay") call.args) stage e
 
@@ -308,8 +308,8 @@ module _ (call : PlainCall) (user : List ℕ) where
     by_content content.Unreadable stage is at e = not_unavailable sight stage e
     by_content (content.Holds text) stage is at e = by_entries is text (at text refl) (shadows_of text) stage refl e
 
-    by_password : (x : Bool) (stage : Stage) → is_x field ≡ x → stage.sight.root ≡ sight.root → stage.sight.files ≡ sight.files → (by_x x user field judges stage).code ≡ returns.Success
-        → Done sight stage.room.items (by_x x user field judges stage).room.items
+    by_password : (x : Bool) (stage : Stage) → is_x field ≡ x → stage.sight.root ≡ sight.root → stage.sight.files ≡ sight.files → (shadow_if_x x user field judges stage).code ≡ returns.Success
+        → Done sight stage.room.items (shadow_if_x x user field judges stage).room.items
     unfolding reads_file
     by_password true stage is root files e =
         by_content (content_seen (codes "/etc/shadow") account_limit stage.sight) (record stage { sight = later stage.sight }) (same_bytes field (codes "x") is)
@@ -324,19 +324,19 @@ module _ (call : PlainCall) (user : List ℕ) where
     Now stage = (stage.sight.root ≡ sight.root) × (stage.sight.files ≡ sight.files)
 
     entry_by : (found : Option Passwd) (es : List Passwd) (text : List ℕ) (stage : Stage) → file_at (path_of sight.root (codes "/etc/passwd")) sight.files ≡ Some text → passwds_of text ≡ Ok es → entry_of user es ≡ found → Now stage
-        → (by_field user (field_or_missing found) judges stage).code ≡ returns.Success → Done sight stage.room.items (by_field user (field_or_missing found) judges stage).room.items
+        → (after_passwd user (field_or_missing found) judges stage).code ≡ returns.Success → Done sight stage.room.items (after_passwd user (field_or_missing found) judges stage).room.items
     entry_by None es text stage at are there now e = not_unknown sight stage e
     entry_by (Some entry) es text stage at are there now e =
         let l : Listed sight entry.password = record { passwd = text; passwd_is = at; entries = es; entries_are = are; entry = entry; entry_is = there; field_is = refl } in
         by_password sight entry.password l (is_x entry.password) stage refl now.0 now.1 e
 
     entries_by : (r : Result (List Passwd) DbFault) (text : List ℕ) (stage : Stage) → file_at (path_of sight.root (codes "/etc/passwd")) sight.files ≡ Some text → passwds_of text ≡ r → Now stage
-        → (by_field user (field_among user r) judges stage).code ≡ returns.Success → Done sight stage.room.items (by_field user (field_among user r) judges stage).room.items
+        → (after_passwd user (field_among user r) judges stage).code ≡ returns.Success → Done sight stage.room.items (after_passwd user (field_among user r) judges stage).room.items
     entries_by (Err fault) text stage at are now e = not_unavailable sight stage e
     entries_by (Ok es) text stage at are now e = entry_by (entry_of user es) es text stage at are refl now e
 
     content_by : (c : Content) (stage : Stage) → ((text : List ℕ) → c ≡ content.Holds text → file_at (path_of sight.root (codes "/etc/passwd")) sight.files ≡ Some text) → Now stage
-        → (by_field user (field_in user c) judges stage).code ≡ returns.Success → Done sight stage.room.items (by_field user (field_in user c) judges stage).room.items
+        → (after_passwd user (field_in user c) judges stage).code ≡ returns.Success → Done sight stage.room.items (after_passwd user (field_in user c) judges stage).room.items
     content_by content.Absent stage at now e = not_unavailable sight stage e
     content_by content.Unreadable stage at now e = not_unavailable sight stage e
     content_by (content.Holds text) stage at now e = entries_by (passwds_of text) text stage (at text refl) refl now e
@@ -364,9 +364,9 @@ asked_first : (call : PlainCall) (stage : Stage) → (authenticates call keeps_f
 unfolding authenticates asks_user
 asked_first call stage e = by_asking call (user_asked stage.room).refused (user_asked stage.room) stage refl (user_or stage.room.items.user stage.room refl) e
 
-by_function : (f : Func) (call : PlainCall) (stage : Stage) → f ≡ Authenticate → (by_func f call stage).code ≡ returns.Success → HasPassword call stage.sight.root stage.sight.files (by_func f call stage).room.items
+by_function : (f : Func) (call : PlainCall) (stage : Stage) → f ≡ Authenticate → (act_of_func f call stage).code ≡ returns.Success → HasPassword call stage.sight.root stage.sight.files (act_of_func f call stage).room.items
 by_function f call stage is e =
-    let P : Func → Type 0 = λ x. (by_func x call stage).code ≡ returns.Success → HasPassword call stage.sight.root stage.sight.files (by_func x call stage).room.items in
+    let P : Func → Type 0 = λ x. (act_of_func x call stage).code ≡ returns.Success → HasPassword call stage.sight.root stage.sight.files (act_of_func x call stage).room.items in
     subst P (sym is) (asked_first call stage) e
 
 pub let_in : LetInHasPassword

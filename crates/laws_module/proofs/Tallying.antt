@@ -20,7 +20,7 @@ use Rattle.module_acts.specs.Act.{Act, Stage, answers, asks_user, called, conten
 use Rattle.mod_tally.specs.declared.settings.Task.{Task}
 use Rattle.mod_tally.specs.declared.settings.Task.TheVariants.{Preauth, AuthFail, AuthSucc, Clear}
 use Rattle.mod_tally.specs.declared.tally.Failure.{Failure}
-use Rattle.mod_tally.specs.Faillock.{by_account, by_call, by_file, by_lock, by_name, by_spared, by_tally, by_task, clears, does_task, failures_in, if_any, if_held, if_taken, is_no_file, lock_name, locks_file, reads_tally, records, sets_if, spared_answer, tally_limit, tally_name, task_of, tries_lock, unless_locked, write_result}
+use Rattle.mod_tally.specs.Faillock.{task_for_account, task_or_code, task_on_file, denies_if_locked, unless_no_file, unless_spared, task_if_readable, task_on_failures, clears, does_task, failures_in, if_any, if_held, if_taken, is_no_file, lock_name, locks_file, reads_tally, records, sets_if, spared_answer, tally_limit, tally_name, task_of, tries_lock, unless_locked, write_result}
 use Rattle.mod_tally.specs.Settings.{PlainSettings, settings_of, task_among}
 use Rattle.mod_tally.specs.Tally.{is_locked, tally_text}
 use Rattle.laws_module.specs.Others.{apart}
@@ -218,7 +218,7 @@ module _ (name : List ℕ) where
   recorded : (s : PlainSettings) (failures : List Failure) (act : Code → Act) → AllAlike act → Alike (records s name failures act)
   recorded s failures act all = seeing_moment _ (λ now. seeing_items _ (λ items. set_if _ _ returns.Ignore act all))
 
-  locked_or : (b : Bool) (step : (Code → Act) → Act) (act : Code → Act) → AllAlike act → Alike (step act) → Alike (by_lock b step act)
+  locked_or : (b : Bool) (step : (Code → Act) → Act) (act : Code → Act) → AllAlike act → Alike (step act) → Alike (denies_if_locked b step act)
   locked_or true step act all next = all returns.AuthErr
   locked_or false step act all next = next
 
@@ -231,18 +231,18 @@ module _ (name : List ℕ) where
   taken lock act all false = all returns.ServiceErr
 
   module _ (s : PlainSettings) (lock : List ℕ) where
-    done_by : (task : Task) (failures : List Failure) (act : Code → Act) → AllAlike act → Alike (by_task task s name lock failures act)
+    done_by : (task : Task) (failures : List Failure) (act : Code → Act) → AllAlike act → Alike (task_on_failures task s name lock failures act)
     done_by Preauth failures act all = unlocked s failures (tries_lock lock) act all (holding lock Whole (if_taken lock act) (taken lock act all))
     done_by AuthFail failures act all = unlocked s failures (records s name failures) act all (recorded s failures act all)
     done_by AuthSucc failures act all = unlocked s failures (clears name failures) act all (cleared failures act all)
     done_by Clear failures act all = cleared failures act all
 
-    tallied : (task : Task) (act : Code → Act) → AllAlike act → (failures : Option (List Failure)) → Alike (by_tally task s name lock act failures)
+    tallied : (task : Task) (act : Code → Act) → AllAlike act → (failures : Option (List Failure)) → Alike (task_if_readable task s name lock act failures)
     tallied task act all None = all returns.ServiceErr
     tallied task act all (Some failures) = done_by task failures act all
 
-    filed : (task : Task) (act : Code → Act) → AllAlike act → Alike (by_file task s name lock act)
-    filed task act all = reading_tally (by_tally task s name lock act) (tallied task act all)
+    filed : (task : Task) (act : Code → Act) → AllAlike act → Alike (task_on_file task s name lock act)
+    filed task act all = reading_tally (task_if_readable task s name lock act) (tallied task act all)
 
     held : (task : Task) (act : Code → Act) → AllAlike act → (b : Bool) → Alike (if_held task s name lock act b)
     held task act all true = filed task (λ code. lets_go (is_rooted lock) (act code)) (λ code. letting_go (is_rooted lock) (act code) (all code))
@@ -268,37 +268,37 @@ module _ (s : PlainSettings) (user : List ℕ) where
   abbrev AlikeFor : Act → Type 0
   AlikeFor act = Alike (tally_name s.folder user) act
 
-  spared : (b : Bool) (task : Task) → AlikeFor (by_spared b task s user)
+  spared : (b : Bool) (task : Task) → AlikeFor (unless_spared b task s user)
   spared true task = answering (tally_name s.folder user) (spared_answer task)
   spared false task = does_so (tally_name s.folder user) s (lock_name s.folder user) task answers (answering (tally_name s.folder user))
 
-  accounted : (task : Task) (a : Account) → AlikeFor (by_account task s user a)
+  accounted : (task : Task) (a : Account) → AlikeFor (task_for_account task s user a)
   accounted task unreadable = answering (tally_name s.folder user) returns.ServiceErr
   accounted task missing = answering (tally_name s.folder user) returns.Ignore
   accounted task (found entry) = spared (entry.uid == 0 && not s.locks_root) task
 
-  named : (b : Bool) (task : Task) → AlikeFor (by_name b task s user)
+  named : (b : Bool) (task : Task) → AlikeFor (unless_no_file b task s user)
   named true task = answering (tally_name s.folder user) returns.UserUnknown
-  named false task = finding (tally_name s.folder user) user (by_account task s user) (accounted task)
+  named false task = finding (tally_name s.folder user) user (task_for_account task s user) (accounted task)
 
   by_asking : (task : Task) (refused : Bool) (a : Asked) (stage : Stage) (others : List File) → a.room.items.user ≡ Some user
       → Twin (tally_name s.folder user) stage others
       → Same (tally_name s.folder user) stage
       (cond refused (answered returns.ConvErr a.room (record stage.sight { files = others }))
-      (by_name (is_no_file (unwrap_or a.room.items.user [])) task s (unwrap_or a.room.items.user []) (in_room a.room (with_files others stage))))
+      (unless_no_file (is_no_file (unwrap_or a.room.items.user [])) task s (unwrap_or a.room.items.user []) (in_room a.room (with_files others stage))))
       (cond refused (answered returns.ConvErr a.room stage.sight)
-      (by_name (is_no_file (unwrap_or a.room.items.user [])) task s (unwrap_or a.room.items.user []) (in_room a.room stage)))
+      (unless_no_file (is_no_file (unwrap_or a.room.items.user [])) task s (unwrap_or a.room.items.user []) (in_room a.room stage)))
   by_asking task true a stage others is t = record { rest = refl; tally = t.tally; left = λ path other. refl }
   by_asking task false a stage others is t =
       let who : unwrap_or a.room.items.user [] ≡ user = ap (λ (o : Option (List ℕ)). unwrap_or o []) is in
       let r = named (is_no_file user) task (in_room a.room stage) others (record { passwd = t.passwd; tally = t.tally }) in
-      subst (λ (u : List ℕ). Same (tally_name s.folder user) stage (by_name (is_no_file u) task s u (in_room a.room (with_files others stage)))
-      (by_name (is_no_file u) task s u (in_room a.room stage))) (sym who)
+      subst (λ (u : List ℕ). Same (tally_name s.folder user) stage (unless_no_file (is_no_file u) task s u (in_room a.room (with_files others stage)))
+      (unless_no_file (is_no_file u) task s u (in_room a.room stage))) (sym who)
       (record { rest = r.rest; tally = r.tally; left = r.left })
 
   by_result : (r : Result Task Code) (stage : Stage) (others : List File) → (user_asked stage.room).room.items.user ≡ Some user
       → Twin (tally_name s.folder user) stage others
-      → Same (tally_name s.folder user) stage (by_call r s (with_files others stage)) (by_call r s stage)
+      → Same (tally_name s.folder user) stage (task_or_code r s (with_files others stage)) (task_or_code r s stage)
   unfolding asks_user
   by_result (Err code) stage others is t = answering (tally_name s.folder user) code stage others t
   by_result (Ok task) stage others is t = by_asking task (user_asked stage.room).refused (user_asked stage.room) stage others is t

@@ -20,7 +20,7 @@ use Rattle.module_acts.specs.Act.{Act, Stage, answers, asks_user, content_seen, 
 use Rattle.mod_tally.specs.declared.settings.Task.{Task}
 use Rattle.mod_tally.specs.declared.settings.Task.TheVariants.{Preauth, AuthFail, AuthSucc, Clear}
 use Rattle.mod_tally.specs.declared.tally.Failure.{Failure}
-use Rattle.mod_tally.specs.Faillock.{by_account, by_call, by_file, by_lock, by_name, by_spared, by_tally, by_task, clears, does_task, failures_in, faillock_plays, if_any, if_held, if_taken, is_no_file, lock_name, locks_file, reads_tally, records, sets_if, spared_answer, tally_limit, tally_name, task_of, tries_lock, unless_locked, write_result}
+use Rattle.mod_tally.specs.Faillock.{task_for_account, task_or_code, task_on_file, denies_if_locked, unless_no_file, unless_spared, task_if_readable, task_on_failures, clears, does_task, failures_in, faillock_plays, if_any, if_held, if_taken, is_no_file, lock_name, locks_file, reads_tally, records, sets_if, spared_answer, tally_limit, tally_name, task_of, tries_lock, unless_locked, write_result}
 use Rattle.mod_tally.specs.Settings.{PlainSettings, settings_of, task_among}
 use Rattle.mod_tally.specs.Tally.{is_locked, tally_text}
 
@@ -112,7 +112,7 @@ module _ (who : List ℕ) where
     recorded : (s : PlainSettings) (failures : List Failure) (act : Code → Act) → AllKeep act → Keeps (records s name failures act)
     recorded s failures act all = seeing_moment _ (λ now. seeing_items _ (λ items. set_if _ _ returns.Ignore act all))
 
-    locked_or : (b : Bool) (step : (Code → Act) → Act) (act : Code → Act) → AllKeep act → Keeps (step act) → Keeps (by_lock b step act)
+    locked_or : (b : Bool) (step : (Code → Act) → Act) (act : Code → Act) → AllKeep act → Keeps (step act) → Keeps (denies_if_locked b step act)
     locked_or true step act all next = all returns.AuthErr
     locked_or false step act all next = next
 
@@ -125,18 +125,18 @@ module _ (who : List ℕ) where
     taken lock act all false = all returns.ServiceErr
 
     module _ (s : PlainSettings) (lock : List ℕ) where
-      done_by : (task : Task) (failures : List Failure) (act : Code → Act) → AllKeep act → Keeps (by_task task s name lock failures act)
+      done_by : (task : Task) (failures : List Failure) (act : Code → Act) → AllKeep act → Keeps (task_on_failures task s name lock failures act)
       done_by Preauth failures act all = unlocked s failures (tries_lock lock) act all (holding lock Whole (if_taken lock act) (taken lock act all))
       done_by AuthFail failures act all = unlocked s failures (records s name failures) act all (recorded s failures act all)
       done_by AuthSucc failures act all = unlocked s failures (clears name failures) act all (cleared failures act all)
       done_by Clear failures act all = cleared failures act all
 
-      tallied : (task : Task) (act : Code → Act) → AllKeep act → (failures : Option (List Failure)) → Keeps (by_tally task s name lock act failures)
+      tallied : (task : Task) (act : Code → Act) → AllKeep act → (failures : Option (List Failure)) → Keeps (task_if_readable task s name lock act failures)
       tallied task act all None = all returns.ServiceErr
       tallied task act all (Some failures) = done_by task failures act all
 
-      filed : (task : Task) (act : Code → Act) → AllKeep act → Keeps (by_file task s name lock act)
-      filed task act all = reading_tally name (by_tally task s name lock act) (tallied task act all)
+      filed : (task : Task) (act : Code → Act) → AllKeep act → Keeps (task_on_file task s name lock act)
+      filed task act all = reading_tally name (task_if_readable task s name lock act) (tallied task act all)
 
       held_so : (task : Task) (act : Code → Act) → AllKeep act → (b : Bool) → Keeps (if_held task s name lock act b)
       held_so task act all true = filed task (λ code. lets_go (is_rooted lock) (act code)) (λ code. letting_go (is_rooted lock) (act code) (all code))
@@ -159,22 +159,22 @@ module _ (who : List ℕ) where
   -- ---- the user
 
   module _ (s : PlainSettings) (task : Task) where
-    spared : (user : List ℕ) (b : Bool) → Keeps (by_spared b task s user)
+    spared : (user : List ℕ) (b : Bool) → Keeps (unless_spared b task s user)
     spared user true = answering (spared_answer task)
     spared user false = does_so (tally_name s.folder user) s (lock_name s.folder user) task answers answering
 
-    accounted : (user : List ℕ) (a : Account) → Keeps (by_account task s user a)
+    accounted : (user : List ℕ) (a : Account) → Keeps (task_for_account task s user a)
     accounted user unreadable = answering returns.ServiceErr
     accounted user missing = answering returns.Ignore
     accounted user (found entry) = spared user (entry.uid == 0 && not s.locks_root)
 
-    named : (user : List ℕ) (b : Bool) → Keeps (by_name b task s user)
+    named : (user : List ℕ) (b : Bool) → Keeps (unless_no_file b task s user)
     named user true = answering returns.UserUnknown
-    named user false = finding user (by_account task s user) (accounted user)
+    named user false = finding user (task_for_account task s user) (accounted user)
 
-  by_result : (r : Result Task Code) (s : PlainSettings) → Keeps (by_call r s)
+  by_result : (r : Result Task Code) (s : PlainSettings) → Keeps (task_or_code r s)
   by_result (Err code) s = answering code
-  by_result (Ok task) s = asking (λ user. by_name (is_no_file user) task s user) (λ user. named s task user (is_no_file user))
+  by_result (Ok task) s = asking (λ user. unless_no_file (is_no_file user) task s user) (λ user. named s task user (is_no_file user))
 
 pub faillock_keeps_user : (call : PlainCall) (room : SeenRoom) (held : List NamedData) (sight : Sight) (who : List ℕ) → room.items.user ≡ Some who
     → (faillock_plays call room held sight).room.items.user ≡ Some who

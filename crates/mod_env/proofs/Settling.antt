@@ -11,7 +11,7 @@ use Rattle.module_acts.specs.Act.{Act, Acts, reads_passwds, sees_items}
 use Rattle.mod_env.specs.declared.conf.EnvLine.{EnvLine}
 use Rattle.mod_env.specs.declared.expand.Expansion.{Expansion}
 use Rattle.mod_env.specs.declared.expand.Expansion.TheVariants.{TooLong, Puts}
-use Rattle.mod_env.specs.Env.{by_expansion, by_user, entry_in, entry_known, looks_if, puts_all, puts_env, sees_env, sets_all, sets_by, sets_variable}
+use Rattle.mod_env.specs.Env.{puts_expansion, finds_entry, entry_in, entry_known, looks_if, puts_all, puts_env, sees_env, sets_all, sets_by, sets_variable}
 use Rattle.mod_env.specs.Expand.{Sources, asks_account, expansion_of}
 
 pub first_of : {A : Type 0} (whole : List A) (x : A) → 1 ≤ length whole → x ≡ get_or whole 0 x → whole ≡ x ∷ take (length whole - 1) (drop 1 whole)
@@ -25,11 +25,11 @@ sources_in s account = record { items = s.room.transaction.items; env = s.room.t
 module _ (items : (act : ItemTexts → Act) (known : Known) (s : Scene) (code : Code) (new : Scene) → Acts (act s.room.transaction.items) known s code new → Acts (sees_items act) known s code new)
     (env : (act : List Variable → Act) (known : Known) (s : Scene) (code : Code) (new : Scene) → Acts (act s.room.transaction.env) known s code new → Acts (sees_env act) known s code new)
     (entry : EnvLine) (account : Option Passwd) (known : Known) (s : Scene) (found : Expansion) where
-  seen : (act : Bool → Act) (code : Code) (new : Scene) → found ≡ expansion_of entry (sources_in s account) → Acts (by_expansion found act) known s code new → Acts (sets_by entry account act) known s code new
+  seen : (act : Bool → Act) (code : Code) (new : Scene) → found ≡ expansion_of entry (sources_in s account) → Acts (puts_expansion found act) known s code new → Acts (sets_by entry account act) known s code new
   unfolding sets_by
   seen act code new e a =
-      items (λ texts. sees_env (λ variables. by_expansion (expansion_of entry (record { items = texts; env = variables; entry = account })) act)) known s code new
-      (env (λ variables. by_expansion (expansion_of entry (record { items = s.room.transaction.items; env = variables; entry = account })) act) known s code new (rw (← e) a))
+      items (λ texts. sees_env (λ variables. puts_expansion (expansion_of entry (record { items = texts; env = variables; entry = account })) act)) known s code new
+      (env (λ variables. puts_expansion (expansion_of entry (record { items = s.room.transaction.items; env = variables; entry = account })) act) known s code new (rw (← e) a))
 
   pub too_long : found ≡ expansion_of entry (sources_in s account) → found ≡ TooLong
       → (act : Bool → Act) (code : Code) (end : Scene) → Acts (act false) known s code end → Acts (sets_by entry account act) known s code end
@@ -58,11 +58,11 @@ module _ (entries rest after : List EnvLine) (entry : EnvLine) (first known now 
 module _ (found : Option (List ℕ)) where
   pub by_found : (user : List ℕ) (act : Option Passwd → Act) (known now : Known) (s mid : Scene) (code : Code) (end : Scene) → Some user ≡ found
       → ((act' : Option (List Passwd) → Act) → Acts (act' (known_passwds now)) now mid code end → Acts (reads_passwds act') known s code end)
-      → Acts (act (entry_known found now)) now mid code end → Acts (by_user found act) known s code end
+      → Acts (act (entry_known found now)) now mid code end → Acts (finds_entry found act) known s code end
   by_found user act known now s mid code end e reads a = rw (← e) (reads (λ entries. act (entry_in (account_in user entries))) (rw (← e) at a))
 
   pub by_none : (act : Option Passwd → Act) (known : Known) (s : Scene) (code : Code) (end : Scene) → None ≡ found
-      → Acts (act (entry_known found known)) known s code end → Acts (by_user found act) known s code end
+      → Acts (act (entry_known found known)) known s code end → Acts (finds_entry found act) known s code end
   by_none act known s code end e a = rw (← e) (rw (← e) at a)
 
 pub nothing_left : {A : Type 0} (xs : List A) → length xs < 1 → xs ≡ []

@@ -17,7 +17,7 @@ use Rattle.mod_env.specs.declared.conf.Key.TheVariants.{Default, Override}
 use Rattle.mod_env.specs.declared.conf.Values.{Values}
 use Rattle.mod_env.specs.declared.conf.EnvLine.{EnvLine}
 use Rattle.mod_env.specs.Marks.{begins_with, after_white, is_byte, is_white_mark, marks_of, text_of}
-use Rattle.mod_env.specs.Value.{Next, broken, by_next, closed, ended, in_front, is_sigil, next_piece, one, pieces_of, pieces_within}
+use Rattle.mod_env.specs.Value.{Next, broken, pieces_from_next, closed, ended, in_front, is_sigil, next_piece, one, pieces_of, pieces_within}
 use Rattle.mod_env.specs.Conf as conf
 use Rattle.mod_env.specs.Conf.{values_of}
 use Rattle.mod_env.specs.Spelling.{Follows, Given, IsPassedOver, SpellsConf, SpellsEntry, SpellsLines, SpellsPiece, SpellsPlace, SpellsQuoted, SpellsSetting, SpellsSettings, SpellsValue, SpellsWord, is_end, opens, quotes, values_after, word_of}
@@ -134,7 +134,7 @@ piece_before piece text rest s None t = tt
 piece_before piece text rest s (Some value) t = (rest, s, t)
 
 by_next_spelled : (more : List Mark → Option (List Piece)) (text : List Mark) → ((rest : List Mark) → SpellsRead (more rest) rest)
-    → (found : Next) → SpellsNext found text → SpellsRead (by_next more found) text
+    → (found : Next) → SpellsNext found text → SpellsRead (pieces_from_next more found) text
 by_next_spelled more text spelled ended s = s
 by_next_spelled more text spelled broken s = tt
 by_next_spelled more text spelled (one piece rest) s = piece_before piece text rest s (more rest) (spelled rest)
@@ -319,13 +319,13 @@ one_more key value text behind values s (Some all) t = (record { key = key; valu
 
 module _ (more : Values → List Mark → Option Values) (spelled : (values : Values) (rest : List Mark) → SettlesTo values (more values rest) rest) (values : Values) (text : List Mark) where
   by_value : (key : Key) (inner behind : List Mark) → Sets key inner text behind → (value : Option (List Piece)) → SpellsRead value inner
-      → SettlesTo values (conf.by_pieces more values key behind value) text
+      → SettlesTo values (conf.values_after_pieces more values key behind value) text
   by_value key inner behind s None t = tt
   by_value key inner behind s (Some value) t =
       one_more key value text behind values (whole_setting key inner text behind value s t) (more (conf.with_value key value values) behind)
       (spelled (conf.with_value key value values) behind)
 
-  by_setting_spelled : (found : conf.Setting) → SetsNext found text → SettlesTo values (conf.by_setting more values found) text
+  by_setting_spelled : (found : conf.Setting) → SetsNext found text → SettlesTo values (conf.values_after_setting more values found) text
   by_setting_spelled conf.ended s = ([], s, refl)
   by_setting_spelled conf.broken s = tt
   by_setting_spelled (conf.one key inner behind) s = by_value key inner behind s (pieces_of inner) (value_is_spelled inner)

@@ -1,4 +1,9 @@
 -- The file of pam_env.conf(5): one variable per line, with a default value and one that overrides it.
+--
+-- Its steps:
+--   `conf_of`, `entries_of`, `entry_at`: the variables of the lines
+--   `values_of`, `values_within`: the values of a line
+--   `values_after_setting`, `values_after_pieces`: .. from how the rest of it begins
 use Rattle.std.specs.Prelude.{ℕ, zero, suc, ◌+◌, Bool, true, false, ◌==◌, if◌then◌else◌, List, [], ◌∷◌, length, take, drop, Option, Some, None, position, codes}
 use Rattle.std.specs.List.{after_first, before_first}
 use Rattle.pam_base.specs.Bytes.{has_byte}
@@ -66,20 +71,20 @@ with_value Override pieces values = record values { overriding = Some pieces }
 
 -- the values, from how the text begins and from the rest, given those found so far; the last one of
 -- each kind counts
-abbrev pub by_pieces : (Values → List Mark → Option Values) → Values → Key → List Mark
+abbrev pub values_after_pieces : (Values → List Mark → Option Values) → Values → Key → List Mark
     → Option (List Piece) → Option Values
-by_pieces more values key rest (Some pieces) = more (with_value key pieces values) rest
-by_pieces more values key rest None = None
+values_after_pieces more values key rest (Some pieces) = more (with_value key pieces values) rest
+values_after_pieces more values key rest None = None
 
-abbrev pub by_setting : (Values → List Mark → Option Values) → Values → Setting → Option Values
-by_setting more values ended = Some values
-by_setting more values broken = None
-by_setting more values (one key value rest) = by_pieces more values key rest (pieces_of value)
+abbrev pub values_after_setting : (Values → List Mark → Option Values) → Values → Setting → Option Values
+values_after_setting more values ended = Some values
+values_after_setting more values broken = None
+values_after_setting more values (one key value rest) = values_after_pieces more values key rest (pieces_of value)
 
 -- the values of at most n settings, and those that were found before
 abbrev pub values_within : ℕ → Values → List Mark → Option Values
 values_within zero values marks = if length (after_white marks) == 0 then Some values else None
-values_within (suc n) values marks = by_setting (values_within n) values (next_setting marks)
+values_within (suc n) values marks = values_after_setting (values_within n) values (next_setting marks)
 
 -- the values in what follows a name, if it is well formed; there are at most as many settings as bytes
 unfoldable pub values_of : List Mark → Option Values

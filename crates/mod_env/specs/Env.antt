@@ -1,4 +1,13 @@
 -- pam_env(8): variables are set by two files, pam_env.conf(5) and environment(5).
+--
+-- Its steps, from the entry point on:
+--   `env_act`, `reads_first`, `after_conf`: pam_env.conf is read
+--   `reads_second`: and the other file
+--   `sets_by_texts`, `sets_if_well_formed`: nothing is set if a line is malformed
+--   `sets_all`, `sets_variable`: the variables of pam_env.conf
+--   `looks_if`, `finds_entry`: the user's entry, if a value needs it
+--   `sets_by`, `puts_expansion`: unless the value is too long
+--   `puts_if_all_fit`, `puts_all`: those of the other file
 use Rattle.std.specs.Prelude.{ℕ, Bool, true, false, if◌then◌else◌, List, [], ◌∷◌, Option, Some, None, unwrap_or, codes}
 use Rattle.std.specs.Str.{bytes_eq}
 use Rattle.pam_base.specs.declared.code.Code.{Code}
@@ -42,9 +51,9 @@ entry_in missing = None
 entry_in unreadable = None
 
 -- the user's entry is looked up if USER is set
-abbrev pub by_user : Option (List ℕ) → (Option Passwd → Act) → Act
-by_user (Some user) act = finds_account user (λ account. act (entry_in account))
-by_user None act = act None
+abbrev pub finds_entry : Option (List ℕ) → (Option Passwd → Act) → Act
+finds_entry (Some user) act = finds_account user (λ account. act (entry_in account))
+finds_entry None act = act None
 
 -- what is known of the entry then
 abbrev pub entry_known : Option (List ℕ) → Known → Option Passwd
@@ -57,20 +66,20 @@ entry_seen false user known = None
 
 -- the entry is looked up if a value needs it
 abbrev pub looks_if : Bool → (Option Passwd → Act) → Act
-looks_if true act = sees_items (λ items. by_user items.user act)
+looks_if true act = sees_items (λ items. finds_entry items.user act)
 looks_if false act = act None
 
 -- whether the variable was set: a value that is too long isn't
-abbrev pub by_expansion : Expansion → (Bool → Act) → Act
-by_expansion (Puts text) act = puts_env text (act true)
-by_expansion TooLong act = act false
+abbrev pub puts_expansion : Expansion → (Bool → Act) → Act
+puts_expansion (Puts text) act = puts_env text (act true)
+puts_expansion TooLong act = act false
 
 abbrev pub sees_sources : Option Passwd → (Sources → Act) → Act
 sees_sources entry act =
     sees_items (λ items. sees_env (λ env. act (record { items = items; env = env; entry = entry })))
 
 unfoldable pub sets_by : EnvLine → Option Passwd → (Bool → Act) → Act
-sets_by entry account act = sees_sources account (λ from. by_expansion (expansion_of entry from) act)
+sets_by entry account act = sees_sources account (λ from. puts_expansion (expansion_of entry from) act)
 
 unfoldable pub sets_variable : EnvLine → (Bool → Act) → Act
 sets_variable entry act = looks_if (asks_account entry) (λ account. sets_by entry account act)
@@ -94,18 +103,18 @@ text_in Unreadable = None
 text_in (Holds text) = Some text
 
 -- if a value is too long, BUF_ERR is returned at once, and the second file sets nothing
-abbrev pub by_fits : List (List ℕ) → Bool → Act
-by_fits assignments true = puts_all assignments (answers returns.Success)
-by_fits assignments false = answers returns.BufErr
+abbrev pub puts_if_all_fit : List (List ℕ) → Bool → Act
+puts_if_all_fit assignments true = puts_all assignments (answers returns.Success)
+puts_if_all_fit assignments false = answers returns.BufErr
 
 -- if a line of pam_env.conf is malformed, SERVICE_ERR is returned, and nothing is set
-abbrev pub by_entries : Option (List EnvLine) → List (List ℕ) → Act
-by_entries (Some entries) assignments = sets_all entries (by_fits assignments)
-by_entries None assignments = answers returns.ServiceErr
+abbrev pub sets_if_well_formed : Option (List EnvLine) → List (List ℕ) → Act
+sets_if_well_formed (Some entries) assignments = sets_all entries (puts_if_all_fit assignments)
+sets_if_well_formed None assignments = answers returns.ServiceErr
 
-abbrev pub by_texts : List ℕ → Option (List ℕ) → Act
-by_texts conf (Some env) = by_entries (conf_of conf) (assignments_of env)
-by_texts conf None = answers returns.ServiceErr
+abbrev pub sets_by_texts : List ℕ → Option (List ℕ) → Act
+sets_by_texts conf (Some env) = sets_if_well_formed (conf_of conf) (assignments_of env)
+sets_by_texts conf None = answers returns.ServiceErr
 
 -- the maximum number of bytes of either file
 abbrev pub env_limit : ℕ
@@ -117,20 +126,20 @@ is_zero None = false
 
 -- with `readenv=0` the second file isn't read
 abbrev pub reads_second : Bool → List (List ℕ) → List ℕ → Act
-reads_second true args conf = by_texts conf (Some [])
+reads_second true args conf = sets_by_texts conf (Some [])
 reads_second false args conf =
     reads_file (unwrap_or (value_among (codes "envfile=") args) (codes "/etc/environment"))
-    env_limit (λ content. by_texts conf (text_in content))
+    env_limit (λ content. sets_by_texts conf (text_in content))
 
-abbrev pub by_first : List (List ℕ) → Option (List ℕ) → Act
-by_first args (Some conf) = reads_second (is_zero (value_among (codes "readenv=") args)) args conf
-by_first args None = answers returns.ServiceErr
+abbrev pub after_conf : List (List ℕ) → Option (List ℕ) → Act
+after_conf args (Some conf) = reads_second (is_zero (value_among (codes "readenv=") args)) args conf
+after_conf args None = answers returns.ServiceErr
 
 abbrev pub reads_first : List (List ℕ) → Act
 reads_first args =
     reads_file
     (unwrap_or (value_among (codes "conffile=") args) (codes "/etc/security/pam_env.conf"))
-    env_limit (λ content. by_first args (text_in content))
+    env_limit (λ content. after_conf args (text_in content))
 
 -- ---- the module
 

@@ -1,4 +1,9 @@
 -- What a value of pam_env.conf(5) expands to.
+--
+-- Its steps:
+--   `expansion_of`, `puts_unless_too_long`: neither value may be too long
+--   `put_text`, `put_default`: which of them is taken
+--   `expanded`, `piece_text`: a value's pieces
 use Rattle.std.specs.Prelude.{ℕ, Bool, false, ◌||◌, nat_lt, if◌then◌else◌, List, [], ◌∷◌, ◌++◌, length, Option, Some, None, unwrap_or, codes}
 use Rattle.std.specs.List.{flat_map, list_any}
 use Rattle.std.specs.Option.{option_copied}
@@ -74,14 +79,14 @@ abbrev pub value_text : Sources → Option (List Piece) → Option (Option (List
 value_text from (Some value) = fitted (fitting (expanded from value))
 value_text from None = Some None
 
-abbrev pub by_texts : List ℕ → Option (Option (List ℕ)) → Option (Option (List ℕ)) → Expansion
-by_texts name (Some default) (Some over) = Puts (put_text name default over)
-by_texts name (Some default) None = TooLong
-by_texts name None over = TooLong
+abbrev pub puts_unless_too_long : List ℕ → Option (Option (List ℕ)) → Option (Option (List ℕ)) → Expansion
+puts_unless_too_long name (Some default) (Some over) = Puts (put_text name default over)
+puts_unless_too_long name (Some default) None = TooLong
+puts_unless_too_long name None over = TooLong
 
 -- the result for a variable; a value that is too long counts even if it isn't taken
 unfoldable pub expansion_of : EnvLine → Sources → Expansion
-expansion_of entry from = by_texts entry.name (value_text from entry.values.default)
+expansion_of entry from = puts_unless_too_long entry.name (value_text from entry.values.default)
     (value_text from entry.values.overriding)
 
 -- ---- the account

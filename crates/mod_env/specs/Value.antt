@@ -1,4 +1,8 @@
 -- A value of pam_env.conf(5): plain bytes, `${X}` for a variable, and `@{X}` for an item.
+--
+-- Its steps:
+--   `pieces_of`, `pieces_within`: the pieces of a value
+--   `next_piece`, `pieces_from_next`: from how it begins
 use Rattle.std.specs.Prelude.{ℕ, zero, suc, ◌+◌, Bool, ◌==◌, ◌&&◌, ◌||◌, if◌then◌else◌, List, [], ◌∷◌, length, take, drop, Option, Some, None, position}
 use Rattle.mod_env.specs.declared.marks.Mark.{Mark}
 use Rattle.mod_env.specs.declared.marks.Mark.TheVariants as marks
@@ -44,15 +48,15 @@ in_front piece (Some more) = Some (piece ∷ more)
 in_front piece None = None
 
 -- the pieces, from how the value begins and from the pieces of the rest
-abbrev pub by_next : (List Mark → Option (List Piece)) → Next → Option (List Piece)
-by_next more ended = Some []
-by_next more broken = None
-by_next more (one piece rest) = in_front piece (more rest)
+abbrev pub pieces_from_next : (List Mark → Option (List Piece)) → Next → Option (List Piece)
+pieces_from_next more ended = Some []
+pieces_from_next more broken = None
+pieces_from_next more (one piece rest) = in_front piece (more rest)
 
 -- the pieces of a value, at most n
 abbrev pub pieces_within : ℕ → List Mark → Option (List Piece)
 pieces_within zero value = if length value == 0 then Some [] else None
-pieces_within (suc n) value = by_next (pieces_within n) (next_piece value)
+pieces_within (suc n) value = pieces_from_next (pieces_within n) (next_piece value)
 
 -- the pieces of a value, if it is well formed; there are at most as many as bytes
 unfoldable pub pieces_of : List Mark → Option (List Piece)

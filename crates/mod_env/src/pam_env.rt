@@ -5,7 +5,7 @@ ghost use Rattle.pam_outside.specs.Time.{ClockState};
 ghost use Rattle.pam_base.specs.declared.code.Code.{Code};
 ghost use Rattle.module_acts.specs.Accounts.{nothing_known};
 ghost use Rattle.module_acts.specs.Act.{Acts, scene_at};
-ghost use Rattle.mod_env.specs.Env.{at_once, by_entries, by_first, by_texts, env_plays, is_zero, reads_first, reads_second, text_in};
+ghost use Rattle.mod_env.specs.Env.{at_once, sets_if_well_formed, after_conf, sets_by_texts, env_plays, is_zero, reads_first, reads_second, text_in};
 ghost use Rattle.mod_env.specs.Conf.{conf_of};
 ghost use Rattle.mod_env.specs.EnvFile.{assignments_of};
 ghost use Rattle.mod_env.specs.Puts.{Puts};
@@ -110,7 +110,8 @@ fn read_second(
     ensures files { IsTrue (vault_tells vault.old) →
         (vault_holds vault.new).files ≡ (vault_holds vault.old).files }
     ensures told { IsTrue (vault_tells vault.old) → (conv : ConvState) (clock : ClockState) →
-        IfOk result (λ code. Acts (by_first asked.now.call.now.args.now (Some conf.now)) nothing_known
+        IfOk result (λ code. Acts (after_conf asked.now.call.now.args.now (Some conf.now))
+        nothing_known
         (scene_at transaction.old conv (vault_holds vault.old) clock asked.now.process.now) code
         (scene_at transaction.new conv (vault_holds vault.new) clock asked.now.process.now)) }
     ensures puts { Puts transaction.old transaction.new }
@@ -139,7 +140,7 @@ fn set_by_texts(
     ensures files { IsTrue (vault_tells vault.old) →
         (vault_holds vault.new).files ≡ (vault_holds vault.old).files }
     ensures told { IsTrue (vault_tells vault.old) → (conv : ConvState) (clock : ClockState) →
-        IfOk result (λ code. Acts (by_texts conf.now env) nothing_known
+        IfOk result (λ code. Acts (sets_by_texts conf.now env) nothing_known
         (scene_at transaction.old conv (vault_holds vault.old) clock asked.now.process.now) code
         (scene_at transaction.new conv (vault_holds vault.new) clock asked.now.process.now)) }
     ensures puts { Puts transaction.old transaction.new }
@@ -164,7 +165,7 @@ fn set_by_conf(
     ensures files { IsTrue (vault_tells vault.old) →
         (vault_holds vault.new).files ≡ (vault_holds vault.old).files }
     ensures told { IsTrue (vault_tells vault.old) → (conv : ConvState) (clock : ClockState) →
-        IfOk result (λ code. Acts (by_entries (conf_of conf.now)
+        IfOk result (λ code. Acts (sets_if_well_formed (conf_of conf.now)
         (assignments_of env.now)) nothing_known
         (scene_at transaction.old conv (vault_holds vault.old) clock asked.now.process.now) code
         (scene_at transaction.new conv (vault_holds vault.new) clock asked.now.process.now)) }

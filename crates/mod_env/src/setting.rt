@@ -6,7 +6,7 @@ ghost use Rattle.pam_outside.specs.Time.{ClockState};
 ghost use Rattle.module_acts.specs.pam_room.specs.declared.process.Process.{Process};
 ghost use Rattle.module_acts.specs.Act.{Yields, Reaches, sees_items, scene_at};
 ghost use Rattle.module_acts.specs.YieldsWith.{YieldsWith};
-ghost use Rattle.mod_env.specs.Env.{by_user, entry_known, entry_seen, looks_if, put_in, puts_all, puts_env, sets_all, sets_by, sets_variable};
+ghost use Rattle.mod_env.specs.Env.{finds_entry, entry_known, entry_seen, looks_if, put_in, puts_all, puts_env, sets_all, sets_by, sets_variable};
 ghost use Rattle.mod_env.specs.Puts.{Puts};
 
 use crate::conf::{Entries, EnvLine};
@@ -115,7 +115,7 @@ fn look_user(
     ensures told { IsTrue (vault_tells vault.old) →
         (conv : ConvState) (clock : ClockState) →
         OnOk result (YieldsWith (entry_known transaction.now.items.user accounts.new)
-        (λ act. sees_items (λ items. by_user items.user act)) accounts.old
+        (λ act. sees_items (λ items. finds_entry items.user act)) accounts.old
         (scene_at transaction.now conv (vault_holds vault.old) clock asked.now.process.now) accounts.new
         (scene_at transaction.now conv (vault_holds vault.new) clock asked.now.process.now)) }
     ensures read { OnOk result (transaction.now.items.user ≢ None → accounts.new.passwds ≢ None) }

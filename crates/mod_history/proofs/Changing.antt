@@ -24,7 +24,7 @@ use Rattle.mod_unix.specs.declared.look.KnownPassword.TheVariants.{Unknown, Unav
 use Rattle.mod_unix.specs.Change.{write_result}
 use Rattle.mod_history.specs.declared.history.Remembered.{Remembered}
 use Rattle.mod_history.specs.History.{history_text}
-use Rattle.mod_history.specs.Pwhistory.{by_length, by_remember, by_use, compares_token, history_in, history_limit, history_name, is_refused, locks_history, refuses_token, remember_in_history, remember_of, remembers, renew_if_known, renews, stores_text, unless_used, unsets_item}
+use Rattle.mod_history.specs.Pwhistory.{stores_if_fits, unless_remember_zero, stores_unless_used, compares_token, history_in, history_limit, history_name, is_refused, locks_history, refuses_token, remember_in_history, remember_of, remembers, renew_if_known, renews, stores_text, unless_used, unsets_item}
 use Rattle.mod_history.specs.Renewal.{hashes_of, renewed}
 
 pub none_if : {A : Type 0} (o : Option A) → ((x : A) → o ≢ Some x) → o ≡ None
@@ -58,10 +58,10 @@ module _ (call : PlainCall) (user hash : List ℕ) (found : Option (List ℕ)) (
   no_token e = subst (λ (t : Option (List ℕ)). Yields returns.AuthtokErr (remembers call user hash t) s s) (sym e) (λ act known c end rest. rest)
 
   module _ (token : List ℕ) (is : found ≡ Some token) where
-    by_zero : (code : Code) (new : Scene) (none : Bool) → (remember_of call.args == 0) ≡ none → Yields code (by_remember none call (remember_of call.args) user hash token) s new → Yields code (remembers call user hash found) s new
+    by_zero : (code : Code) (new : Scene) (none : Bool) → (remember_of call.args == 0) ≡ none → Yields code (unless_remember_zero none call (remember_of call.args) user hash token) s new → Yields code (remembers call user hash found) s new
     unfolding remembers
     by_zero code new none e h = subst (λ (t : Option (List ℕ)). Yields code (remembers call user hash t) s new) (sym is)
-        (subst (λ (b : Bool). Yields code (by_remember b call (remember_of call.args) user hash token) s new) (sym e) h)
+        (subst (λ (b : Bool). Yields code (unless_remember_zero b call (remember_of call.args) user hash token) s new) (sym e) h)
 
     pub not_remembered : (remember_of call.args == 0) ≡ true → Yields returns.Success (remembers call user hash found) s s
     not_remembered e = by_zero returns.Success s true e (λ act known c end rest. rest)
@@ -98,11 +98,11 @@ module _ (seeing : (act : ℕ → Act) (known : Known) (s : Scene) (code : Code)
     had_not code new e h = by_comparison code new false e h
 
     -- under the lock
-    by_refusal : (done : Option Code) (new : Scene) (refused : Bool) → refused ≡ is_refused call.args s.process.caller token hash (hashes_of user history) → Yields done (by_use refused remember user hash history) s new
+    by_refusal : (done : Option Code) (new : Scene) (refused : Bool) → refused ≡ is_refused call.args s.process.caller token hash (hashes_of user history) → Yields done (stores_unless_used refused remember user hash history) s new
         → Yields done (remember_in_history call remember user hash token found) s new
     by_refusal done new refused e h = subst (λ (o : Option (List Remembered)). Yields done (remember_in_history call remember user hash token o) s new) (sym is)
-        (λ act known c end rest. seeing (λ caller. by_use (is_refused call.args caller token hash (hashes_of user history)) remember user hash history act) known s c end
-        (subst (λ (b : Bool). Acts (by_use b remember user hash history act) known s c end) e (h act known c end rest)))
+        (λ act known c end rest. seeing (λ caller. stores_unless_used (is_refused call.args caller token hash (hashes_of user history)) remember user hash history act) known s c end
+        (subst (λ (b : Bool). Acts (stores_unless_used b remember user hash history act) known s c end) e (h act known c end rest)))
 
     pub used : true ≡ is_refused call.args s.process.caller token hash (hashes_of user history) → Yields None (remember_in_history call remember user hash token found) s s
     used e = by_refusal None s true e (λ act known c end rest. rest)
@@ -115,9 +115,9 @@ module _ (seeing : (act : ℕ → Act) (known : Known) (s : Scene) (code : Code)
 -- ---- the file
 
 module _ (text : List ℕ) (s : Scene) where
-  by_size : (code : Code) (new : Scene) (b : Bool) → nat_le (length text) history_limit ≡ b → Yields code (by_length b text) s new → Yields code (stores_text text) s new
+  by_size : (code : Code) (new : Scene) (b : Bool) → nat_le (length text) history_limit ≡ b → Yields code (stores_if_fits b text) s new → Yields code (stores_text text) s new
   unfolding stores_text
-  by_size code new b e h = subst (λ (x : Bool). Yields code (by_length x text) s new) (sym e) h
+  by_size code new b e h = subst (λ (x : Bool). Yields code (stores_if_fits x text) s new) (sym e) h
 
   pub too_long : nat_le (length text) history_limit ≡ false → Yields returns.AuthtokErr (stores_text text) s s
   too_long e = by_size returns.AuthtokErr s false e (λ act known c end rest. rest)

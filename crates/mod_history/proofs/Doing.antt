@@ -25,11 +25,11 @@ use Rattle.module_acts.specs.Steps.{exchanges, sees_caller, sets_item, with_repl
 use Rattle.mod_unix.specs.declared.look.KnownPassword.{KnownPassword}
 use Rattle.mod_unix.specs.declared.look.KnownPassword.TheVariants.{Unknown, Unavailable, Plain, Shadowed}
 use Rattle.module_acts.specs.Arguments.{has_argument}
-use Rattle.mod_unix.specs.Change.{by_authtok, write_result, new_prompts, same_reply, sets_new, takes_token, usable}
-use Rattle.mod_unix.specs.Look.{by_field, by_x as by_password, field_among, field_in, field_or_missing, is_x, looks, shadow_in}
+use Rattle.mod_unix.specs.Change.{authtok_or_asks, write_result, new_prompts, same_reply, sets_new, takes_token, usable}
+use Rattle.mod_unix.specs.Look.{after_passwd, shadow_if_x as by_password, field_among, field_in, field_or_missing, is_x, looks, shadow_in}
 use Rattle.mod_history.specs.declared.history.Remembered.{Remembered}
 use Rattle.mod_history.specs.History.{history_of, history_text}
-use Rattle.mod_history.specs.Pwhistory.{at_once, by_length, by_remember, by_use, checks_token, compares_token, history_in, history_limit, history_name, if_locked, is_refused, locks_history, pwhistory_plays, refuses_token, remember_in_history, remember_locked, remember_of, remembers, renew_if_known, renews, stores_text, unless_refused, unless_used, unsets_item}
+use Rattle.mod_history.specs.Pwhistory.{at_once, stores_if_fits, unless_remember_zero, stores_unless_used, checks_token, compares_token, history_in, history_limit, history_name, if_locked, is_refused, locks_history, pwhistory_plays, refuses_token, remember_in_history, remember_locked, remember_of, remembers, renew_if_known, renews, stores_text, unless_refused, unless_used, unsets_item}
 use Rattle.mod_history.specs.Renewal.{hashes_of, renewed}
 use Rattle.mod_history.specs.Standing.{Deed, left, replaced, Does, account_text, entry_hash, hash_by, hash_in, passwd_hash, present_hash, history_on_file}
 use Rattle.mod_history.proofs.Renewed.{same}
@@ -104,13 +104,13 @@ module _ (path : List ℕ) (call : PlainCall) (room : SeenRoom) where
           by false e = (left, put_past (path_of stage.sight.root history_name) (text_of on_file) path e stage.sight.files)
 
       stored : (stage : Stage) (on_file : List Remembered) (short : Bool) → Knows stage → history_on_file (file_at (path_of stage.sight.root history_name) stage.sight.files) ≡ Some on_file
-          → DoesOne stage.sight (by_length short (text_of on_file) (λ code. ends (Some code)) stage)
+          → DoesOne stage.sight (stores_if_fits short (text_of on_file) (λ code. ends (Some code)) stage)
       unfolding answers lets_go replaces_file
       stored stage on_file true knows stood = put stage on_file (stage.sight.failing 0 || nat_lt MAX_FILE (length (text_of on_file))) knows stood
       stored stage on_file false knows stood = (left, refl)
 
       used : (stage : Stage) (on_file : List Remembered) (refused : Bool) → Knows stage → history_on_file (file_at (path_of stage.sight.root history_name) stage.sight.files) ≡ Some on_file
-          → DoesOne stage.sight (by_use refused (remember_of call.args) user hash on_file ends stage)
+          → DoesOne stage.sight (stores_unless_used refused (remember_of call.args) user hash on_file ends stage)
       unfolding answers lets_go refuses_token unsets_item shows stores_text
       used stage on_file true knows stood = (left, refl)
       used stage on_file false knows stood = stored stage on_file (nat_le (length (text_of on_file)) history_limit) knows stood
@@ -158,7 +158,7 @@ module _ (path : List ℕ) (call : PlainCall) (room : SeenRoom) where
         compared stage None knows = (left, refl)
         compared stage (Some on_file) knows = unless stage (is_refused call.args stage.sight.caller token hash (hashes_of user on_file)) knows
 
-        by_zero : (stage : Stage) (none : Bool) → Knows stage → DoesOne stage.sight (by_remember none call (remember_of call.args) user hash token answers stage)
+        by_zero : (stage : Stage) (none : Bool) → Knows stage → DoesOne stage.sight (unless_remember_zero none call (remember_of call.args) user hash token answers stage)
         unfolding answers reads_file
         by_zero stage true knows = (left, refl)
         by_zero stage false knows =
@@ -183,7 +183,7 @@ module _ (path : List ℕ) (call : PlainCall) (room : SeenRoom) where
       replied (Err fault) after stage knows = (left, refl)
       replied (Ok replies) after stage knows = taken (same_reply replies) (in_room after stage) knows
 
-      by_use_authtok : (given : Bool) (stage : Stage) → Knows stage → DoesOne stage.sight (by_authtok given rest stage)
+      by_use_authtok : (given : Bool) (stage : Stage) → Knows stage → DoesOne stage.sight (authtok_or_asks given rest stage)
       unfolding sees_items exchanges
       by_use_authtok true stage knows = remembering (usable stage.room.items.auth_tok) stage knows
       by_use_authtok false stage knows = replied (speak new_prompts stage.room).answer (speak new_prompts stage.room).room stage knows
@@ -225,20 +225,20 @@ module _ (path : List ℕ) (call : PlainCall) (room : SeenRoom) where
     by_mark true hash stage is = by_shadow (stage.sight.failing 0) (record stage { sight = later stage.sight }) is
     by_mark false hash stage is = looking (Plain hash) stage is
 
-    by_entry : (o : Option Passwd) (stage : Stage) → hash_at stage ≡ entry_hash user o (shadow_at stage) → DoesOne stage.sight (by_field user (field_or_missing o) next stage)
+    by_entry : (o : Option Passwd) (stage : Stage) → hash_at stage ≡ entry_hash user o (shadow_at stage) → DoesOne stage.sight (after_passwd user (field_or_missing o) next stage)
     by_entry None stage is = looking Unknown stage is
     by_entry (Some entry) stage is = by_mark (is_x entry.password) entry.password stage is
 
-    by_passwds : (r : Result (List Passwd) DbFault) (stage : Stage) → hash_at stage ≡ passwd_hash user (result_ok r) (shadow_at stage) → DoesOne stage.sight (by_field user (field_among user r) next stage)
+    by_passwds : (r : Result (List Passwd) DbFault) (stage : Stage) → hash_at stage ≡ passwd_hash user (result_ok r) (shadow_at stage) → DoesOne stage.sight (after_passwd user (field_among user r) next stage)
     by_passwds (Err fault) stage is = failed stage
     by_passwds (Ok entries) stage is = by_entry (entry_of user entries) stage is
 
-    by_content : (c : Content) (stage : Stage) → hash_at stage ≡ passwd_hash user (passwds_in c) (shadow_at stage) → DoesOne stage.sight (by_field user (field_in user c) next stage)
+    by_content : (c : Content) (stage : Stage) → hash_at stage ≡ passwd_hash user (passwds_in c) (shadow_at stage) → DoesOne stage.sight (after_passwd user (field_in user c) next stage)
     by_content content.Absent stage is = failed stage
     by_content content.Unreadable stage is = failed stage
     by_content (content.Holds text) stage is = by_passwds (passwds_of text) stage is
 
-    by_passwd : (fails : Bool) (stage : Stage) → DoesOne stage.sight (by_field user (field_in user (content_of fails account_limit (file_at (path_of stage.sight.root (codes "/etc/passwd")) stage.sight.files))) next stage)
+    by_passwd : (fails : Bool) (stage : Stage) → DoesOne stage.sight (after_passwd user (field_in user (content_of fails account_limit (file_at (path_of stage.sight.root (codes "/etc/passwd")) stage.sight.files))) next stage)
     unfolding content_of
     by_passwd true stage = failed stage
     by_passwd false stage = by_content (account_text stage.sight.root (codes "/etc/passwd") stage.sight.files) stage refl

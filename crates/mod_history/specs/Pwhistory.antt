@@ -1,4 +1,14 @@
 -- pam_pwhistory(8): a password that was used before is refused.
+--
+-- Its steps, from the entry point on:
+--   `pwhistory_act`, `checks_token`: the user is asked for, and the password looked up
+--   `renew_if_known`, `renews`: the new token is taken
+--   `remembers`, `remembers_if_taken`, `unless_remember_zero`: with `remember=0` nothing is remembered
+--   `compares_token`, `unless_used`: a token that was used before is refused
+--   `locks_history`, `if_locked`: the account files are locked
+--   `remember_locked`, `remember_in_history`: the history is read again
+--   `stores_unless_used`, `stores_text`, `stores_if_fits`: and replaced
+--   `unless_refused`: the token was used before after all
 use Rattle.std.specs.Prelude.{ℕ, Bool, true, false, ◌==◌, ◌&&◌, ◌||◌, not, nat_le, if◌then◌else◌, List, [], length, Option, Some, None, Result, Ok, Err, codes, unwrap_or}
 use Rattle.std.specs.List.{list_any}
 use Rattle.std.specs.Str.{bytes_eq}
@@ -89,13 +99,13 @@ history_in Absent = Some []
 history_in Unreadable = None
 history_in (Holds text) = history_of text
 
-abbrev pub by_length : Bool → List ℕ → (Code → Act) → Act
-by_length true text act = replaces_file history_name text (λ done. act (write_result done))
-by_length false text act = act AuthtokErr
+abbrev pub stores_if_fits : Bool → List ℕ → (Code → Act) → Act
+stores_if_fits true text act = replaces_file history_name text (λ done. act (write_result done))
+stores_if_fits false text act = act AuthtokErr
 
 -- the file is replaced, unless it became too long
 unfoldable pub stores_text : List ℕ → (Code → Act) → Act
-stores_text text act = by_length (nat_le (length text) history_limit) text act
+stores_text text act = stores_if_fits (nat_le (length text) history_limit) text act
 
 abbrev pub is_refused : List (List ℕ) → ℕ → List ℕ → List ℕ → List (List ℕ) → Bool
 is_refused args caller token hash hashes = is_enforced args caller && was_used token hash hashes
@@ -103,16 +113,16 @@ is_refused args caller token hash hashes = is_enforced args caller && was_used t
 -- ---- under the lock
 
 -- the token was used before, which is None, or the file is replaced
-abbrev pub by_use : Bool → ℕ → List ℕ → List ℕ → List Remembered → (Option Code → Act) → Act
-by_use true remember user hash history act = act None
-by_use false remember user hash history act =
+abbrev pub stores_unless_used : Bool → ℕ → List ℕ → List ℕ → List Remembered → (Option Code → Act) → Act
+stores_unless_used true remember user hash history act = act None
+stores_unless_used false remember user hash history act =
     stores_text (history_text (renewed remember user hash history)) (λ code. act (Some code))
 
 abbrev pub remember_in_history : PlainCall → ℕ → List ℕ → List ℕ → List ℕ → Option (List Remembered)
     → (Option Code → Act) → Act
 remember_in_history call remember user hash token None act = act (Some AuthtokErr)
 remember_in_history call remember user hash token (Some history) act =
-    sees_caller (λ caller. by_use (is_refused call.args caller token hash (hashes_of user history))
+    sees_caller (λ caller. stores_unless_used (is_refused call.args caller token hash (hashes_of user history))
     remember user hash history act)
 
 -- the history is read again, since it may have changed before it was locked
@@ -154,19 +164,19 @@ compares_token call remember user hash token (Some history) act =
     (hashes_of user history)) call remember user hash token act)
 
 -- with `remember=0` nothing is remembered, and nothing is looked up
-abbrev pub by_remember : Bool → PlainCall → ℕ → List ℕ → List ℕ → List ℕ → (Code → Act) → Act
-by_remember true call remember user hash token act = act Success
-by_remember false call remember user hash token act =
+abbrev pub unless_remember_zero : Bool → PlainCall → ℕ → List ℕ → List ℕ → List ℕ → (Code → Act) → Act
+unless_remember_zero true call remember user hash token act = act Success
+unless_remember_zero false call remember user hash token act =
     reads_file history_name history_limit (λ content. compares_token call remember user hash token
     (history_in content) act)
 
-abbrev pub by_token : PlainCall → List ℕ → List ℕ → Option (List ℕ) → (Code → Act) → Act
-by_token call user hash None act = act AuthtokErr
-by_token call user hash (Some token) act =
-    by_remember (remember_of call.args == 0) call (remember_of call.args) user hash token act
+abbrev pub remembers_if_taken : PlainCall → List ℕ → List ℕ → Option (List ℕ) → (Code → Act) → Act
+remembers_if_taken call user hash None act = act AuthtokErr
+remembers_if_taken call user hash (Some token) act =
+    unless_remember_zero (remember_of call.args == 0) call (remember_of call.args) user hash token act
 
 unfoldable pub remembers : PlainCall → List ℕ → List ℕ → Option (List ℕ) → (Code → Act) → Act
-remembers call user hash token act = by_token call user hash token act
+remembers call user hash token act = remembers_if_taken call user hash token act
 
 -- the new token is taken as pam_unix takes it
 unfoldable pub renews : PlainCall → List ℕ → List ℕ → (Code → Act) → Act

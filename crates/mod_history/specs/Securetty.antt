@@ -1,4 +1,10 @@
 -- pam_securetty(8): whether root logs in at a terminal that is listed as secure (securetty(5)).
+--
+-- Its steps, from the entry point on:
+--   `securetty_act`, `checks_terminal`: the user is asked for, and looked up
+--   `terminal_for_account`, `checks_if_root`: only root is tested
+--   `checks_root`, `looks_up_terminal`: the list is read
+--   `terminal_code`: whether the terminal is listed
 use Rattle.std.specs.Prelude.{ℕ, Bool, true, false, ◌==◌, if◌then◌else◌, List, [], ◌∷◌, Option, Some, None, codes, unwrap_or}
 use Rattle.std.specs.List.{list_any}
 use Rattle.std.specs.Str.{bytes_eq}
@@ -28,32 +34,32 @@ unfoldable pub is_secure : List ℕ → List ℕ → Bool
 is_secure name text = list_any (λ line. is_terminal name (without_end line)) (lines_of text)
 
 -- if there is no list, every terminal is secure
-abbrev pub by_list : List ℕ → Content → Code
-by_list name Absent = Success
-by_list name Unreadable = ServiceErr
-by_list name (Holds text) = if is_secure name text then Success else AuthErr
+abbrev pub terminal_code : List ℕ → Content → Code
+terminal_code name Absent = Success
+terminal_code name Unreadable = ServiceErr
+terminal_code name (Holds text) = if is_secure name text then Success else AuthErr
 
-abbrev pub by_terminal : Option (List ℕ) → Act
-by_terminal None = answers ServiceErr
-by_terminal (Some tty) = reads_file (codes "/etc/securetty") account_limit (λ content.
-    answers (by_list (terminal_name tty) content))
+abbrev pub looks_up_terminal : Option (List ℕ) → Act
+looks_up_terminal None = answers ServiceErr
+looks_up_terminal (Some tty) = reads_file (codes "/etc/securetty") account_limit (λ content.
+    answers (terminal_code (terminal_name tty) content))
 
 abbrev pub checks_root : Act
-checks_root = sees_items (λ items. by_terminal items.tty)
+checks_root = sees_items (λ items. looks_up_terminal items.tty)
 
 -- every user except root may log in anywhere
-abbrev pub by_root : Bool → Act
-by_root true = checks_root
-by_root false = answers Success
+abbrev pub checks_if_root : Bool → Act
+checks_if_root true = checks_root
+checks_if_root false = answers Success
 
-abbrev pub by_account : Account → Act
-by_account unreadable = answers ServiceErr
-by_account missing = answers UserUnknown
-by_account (found entry) = by_root (entry.uid == 0)
+abbrev pub terminal_for_account : Account → Act
+terminal_for_account unreadable = answers ServiceErr
+terminal_for_account missing = answers UserUnknown
+terminal_for_account (found entry) = checks_if_root (entry.uid == 0)
 
 -- the user is asked for, and looked up
 abbrev pub checks_terminal : Act
-checks_terminal = asks_user (λ user. finds_account user by_account)
+checks_terminal = asks_user (λ user. finds_account user terminal_for_account)
 
 -- setcred returns SUCCESS at once
 abbrev pub securetty_act : PlainCall → Act

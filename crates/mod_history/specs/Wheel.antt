@@ -1,4 +1,11 @@
 -- pam_wheel(8): whether the calling process belongs to a user in the group wheel.
+--
+-- Its steps, from the entry point on:
+--   `wheel_act`, `checks_wheel`, `checks_user`: the user is asked for, and looked up
+--   `code_by_passwds`, `unless_tested`: who is tested
+--   `code_by_groups`, `code_of_caller`, `code_of_entry`: the caller's entry
+--   `group_code`: the group
+--   `member_code`: whether the caller is in it
 use Rattle.std.specs.Prelude.{ℕ, Bool, true, false, ◌==◌, ◌&&◌, not, if◌then◌else◌, List, Option, Some, None, codes}
 use Rattle.std.specs.List.{find}
 use Rattle.pam_base.specs.declared.code.Code.{Code}
@@ -24,16 +31,16 @@ unknown_if_none (Some entry) = None
 abbrev pub is_passed_over : List (List ℕ) → Passwd → Bool
 is_passed_over args entry = has_argument (codes "root_only") args && not (entry.uid == 0)
 
-abbrev pub by_user : List (List ℕ) → ℕ → List Passwd → Option Passwd → Option Code
-by_user args caller entries None = Some UserUnknown
-by_user args caller entries (Some entry) = if is_passed_over args entry then Some Ignore
+abbrev pub unless_tested : List (List ℕ) → ℕ → List Passwd → Option Passwd → Option Code
+unless_tested args caller entries None = Some UserUnknown
+unless_tested args caller entries (Some entry) = if is_passed_over args entry then Some Ignore
     else unknown_if_none (entry_of_uid caller entries)
 
 -- the code by /etc/passwd, if that decides it
 abbrev pub code_by_passwds : List (List ℕ) → ℕ → List ℕ → Option (List Passwd) → Option Code
 code_by_passwds args caller user None = Some ServiceErr
 code_by_passwds args caller user (Some entries) =
-    by_user args caller entries (entry_of user entries)
+    unless_tested args caller entries (entry_of user entries)
 
 -- ---- the group
 
@@ -57,30 +64,30 @@ trusted true = Success
 trusted false = Ignore
 
 -- users who aren't in the group are refused; with `deny`, those who are
-abbrev pub by_membership : Bool → Bool → Bool → Code
-by_membership deny trust member =
+abbrev pub member_code : Bool → Bool → Bool → Code
+member_code deny trust member =
     if deny then (if member then PermDenied else trusted trust)
     else (if member then trusted trust else PermDenied)
 
 -- if there is no such group, nobody is in it, and with `deny` IGNORE is returned for everyone
-abbrev pub by_group : Bool → Bool → Passwd → Option Group → Code
-by_group deny trust entry None = if deny then Ignore else PermDenied
-by_group deny trust entry (Some group) =
-    by_membership deny trust (is_member entry.name (Some entry) group)
+abbrev pub group_code : Bool → Bool → Passwd → Option Group → Code
+group_code deny trust entry None = if deny then Ignore else PermDenied
+group_code deny trust entry (Some group) =
+    member_code deny trust (is_member entry.name (Some entry) group)
 
-abbrev pub by_entry : List (List ℕ) → List Group → Option Passwd → Code
-by_entry args groups None = UserUnknown
-by_entry args groups (Some entry) =
-    by_group (has_argument (codes "deny") args) (has_argument (codes "trust") args) entry
+abbrev pub code_of_entry : List (List ℕ) → List Group → Option Passwd → Code
+code_of_entry args groups None = UserUnknown
+code_of_entry args groups (Some entry) =
+    group_code (has_argument (codes "deny") args) (has_argument (codes "trust") args) entry
     (wheel_group (value_among (codes "group=") args) groups)
 
-abbrev pub by_passwds : List (List ℕ) → ℕ → List Group → Option (List Passwd) → Code
-by_passwds args caller groups None = ServiceErr
-by_passwds args caller groups (Some entries) = by_entry args groups (entry_of_uid caller entries)
+abbrev pub code_of_caller : List (List ℕ) → ℕ → List Group → Option (List Passwd) → Code
+code_of_caller args caller groups None = ServiceErr
+code_of_caller args caller groups (Some entries) = code_of_entry args groups (entry_of_uid caller entries)
 
 abbrev pub code_by_groups : List (List ℕ) → ℕ → Option (List Passwd) → Option (List Group) → Code
 code_by_groups args caller passwds None = ServiceErr
-code_by_groups args caller passwds (Some groups) = by_passwds args caller groups passwds
+code_by_groups args caller passwds (Some groups) = code_of_caller args caller groups passwds
 
 -- ---- the module
 

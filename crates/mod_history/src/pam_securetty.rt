@@ -6,7 +6,7 @@ ghost use Rattle.module_acts.specs.Accounts.{Known};
 ghost use Rattle.module_acts.specs.Act.{Acts, finds_account};
 ghost use Rattle.module_acts.specs.Seen.{scene_seen};
 ghost use Rattle.module_acts.specs.Uncheck.{code_unchecked};
-ghost use Rattle.mod_history.specs.Securetty.{by_account, by_list, checks_root, is_secure, is_terminal, securetty_plays, terminal_name};
+ghost use Rattle.mod_history.specs.Securetty.{terminal_for_account, terminal_code, checks_root, is_secure, is_terminal, securetty_plays, terminal_name};
 
 use account_db::without_end;
 use module_acts::{
@@ -27,7 +27,7 @@ impl Check for SecurettyCheck {
 
     ghost at_once = { λ call. code_unchecked call.func Success };
 
-    ghost decides = { λ call caller user. finds_account user by_account };
+    ghost decides = { λ call caller user. finds_account user terminal_for_account };
 
     fn name() -> &'static [u8] {
         b"pam_securetty"
@@ -80,14 +80,14 @@ fn check_root(seen: &Seen, vault: &mut dyn Vault) -> Result<Code, NoMemory>
                 b"/etc/securetty",
                 ACCOUNT_LIMIT,
             )?;
-            Ok(by_list(terminal_name(tty), &list))
+            Ok(terminal_code(terminal_name(tty), &list))
         }
     }
 }
 
 // The code by the list.
-fn by_list(name: &[u8], list: &Content) -> Code
-    ensures { result ≡ by_list name.now list.now }
+fn terminal_code(name: &[u8], list: &Content) -> Code
+    ensures { result ≡ terminal_code name.now list.now }
 {
     match list {
         Content::Absent => Code::Success,

@@ -2,7 +2,7 @@ ghost use Rattle.std.specs.Prelude.{◌≡◌, IfOk, codes};
 ghost use Rattle.std.specs.Option.{option_copied};
 ghost use Rattle.pam_base.specs.declared.code.Code.TheVariants.{Success};
 ghost use Rattle.module_acts.specs.Uncheck.{code_unchecked};
-ghost use Rattle.mod_history.specs.Wheel.{by_group, by_membership, checks_user, code_by_groups, code_by_passwds, group_of_gid, is_passed_over, trusted, wheel_group, wheel_plays};
+ghost use Rattle.mod_history.specs.Wheel.{group_code, member_code, checks_user, code_by_groups, code_by_passwds, group_of_gid, is_passed_over, trusted, wheel_group, wheel_plays};
 
 use account_db::{Group, Groups, Passwd, PasswdFile, entry_of, entry_of_uid, group_of, is_member};
 use module_acts::{Accounts, Check, Seen, code_unchecked, has_argument, laws, user_of};
@@ -115,7 +115,7 @@ fn code_by_groups(
     };
     match entry_of_uid(alloc, caller, entries)? {
         None => Ok(Code::UserUnknown),
-        Some(entry) => Ok(by_group(
+        Some(entry) => Ok(group_code(
             has_argument(b"deny", call.args),
             has_argument(b"trust", call.args),
             &entry,
@@ -145,21 +145,21 @@ fn group_of_gid(gid: u32, groups: &Groups) -> Option<&Group>
 }
 
 // The code by the group, if there is one.
-fn by_group(deny: bool, trust: bool, entry: &Passwd, group: Option<&Group>) -> Code
-    ensures { result ≡ by_group deny trust entry.now (option_copied group.entry) }
+fn group_code(deny: bool, trust: bool, entry: &Passwd, group: Option<&Group>) -> Code
+    ensures { result ≡ group_code deny trust entry.now (option_copied group.entry) }
 {
     match group {
         None if deny => Code::Ignore,
         None => Code::PermDenied,
         Some(group) => {
             let member = is_member(entry.name.bytes(), Some(entry), group);
-            by_membership(deny, trust, member)
+            member_code(deny, trust, member)
         }
     }
 }
 
-fn by_membership(deny: bool, trust: bool, member: bool) -> Code
-    ensures { result ≡ by_membership deny trust member }
+fn member_code(deny: bool, trust: bool, member: bool) -> Code
+    ensures { result ≡ member_code deny trust member }
 {
     if deny == member {
         Code::PermDenied

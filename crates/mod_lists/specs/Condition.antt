@@ -1,4 +1,8 @@
 -- The conditions of pam_succeed_if(8): three words each, a field, a test, and a value to test for.
+--
+-- Its steps:
+--   `condition_of`, `groups_or_field`: of the user's groups, or of a field
+--   `test_of`, `number_or_text_test`: of a number, or of a text
 use Rattle.std.specs.Prelude.{ℕ, Bool, true, false, not, ◌==◌, ◌&&◌, ◌||◌, nat_lt, nat_le, if◌then◌else◌, decimal, List, [], ◌∷◌, length, Option, Some, None, option_map, codes}
 use Rattle.std.specs.Char.{is_ascii_digit}
 use Rattle.std.specs.List.{find, list_all, list_any}
@@ -95,13 +99,13 @@ text_test word value =
     else if bytes_eq word (codes "notin") then Some (is_among false (items_of value))
     else None
 
-abbrev pub by_order : Option Order → List ℕ → List ℕ → Option PlainTest
-by_order (Some order) word value = option_map (compares order) (count_of value)
-by_order None word value = text_test word value
+abbrev pub number_or_text_test : Option Order → List ℕ → List ℕ → Option PlainTest
+number_or_text_test (Some order) word value = option_map (compares order) (count_of value)
+number_or_text_test None word value = text_test word value
 
 -- the test of a word and a value, if it is one
 abbrev pub test_of : List ℕ → List ℕ → Option PlainTest
-test_of word value = by_order (order_of word) word value
+test_of word value = number_or_text_test (order_of word) word value
 
 -- ---- conditions
 
@@ -119,14 +123,14 @@ with_test (Some field) (Some test) = Some (on field test)
 with_test (Some field) None = None
 with_test None test = None
 
-abbrev pub by_sense : Option Bool → List ℕ → List ℕ → List ℕ → Option PlainCondition
-by_sense (Some sense) field word value =
+abbrev pub groups_or_field : Option Bool → List ℕ → List ℕ → List ℕ → Option PlainCondition
+groups_or_field (Some sense) field word value =
     if bytes_eq field (codes "user") then Some (grouped sense (items_of value)) else None
-by_sense None field word value = with_test (field_of field) (test_of word value)
+groups_or_field None field word value = with_test (field_of field) (test_of word value)
 
 -- the condition of three words, if it is one; a test of groups is one of the field `user` alone
 unfoldable pub condition_of : List ℕ → List ℕ → List ℕ → Option PlainCondition
-condition_of field word value = by_sense (group_sense word) field word value
+condition_of field word value = groups_or_field (group_sense word) field word value
 
 -- ---- whether a test holds
 

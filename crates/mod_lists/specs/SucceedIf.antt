@@ -1,4 +1,11 @@
 -- pam_succeed_if(8): whether all conditions on the user's account, and on items of the transaction, are met.
+--
+-- Its steps, from the entry point on:
+--   `succeed_if_act`, `checks_conditions`, `unless_use_uid`: the user is asked for; `use_uid` isn't supported
+--   `meets_all`, `rest_if_holds`: the conditions in order, up to one that doesn't hold
+--   `tries_words`, `tries`: one condition
+--   `tests_field`: .. on an item, or on the user's entry
+--   `tries_after_passwds`, `tried_in_groups`, `tried_with_entry`: .. on the user's groups
 use Rattle.std.specs.Prelude.{ℕ, Bool, true, false, not, List, [], ◌∷◌, filter, Option, Some, None, unwrap_or, codes}
 use Rattle.std.specs.Option.{option_or}
 use Rattle.std.specs.List.{list_any}
@@ -44,20 +51,20 @@ on_account test field unreadable = Faulty
 abbrev pub is_in_any : List (List ℕ) → List ℕ → Option Passwd → List Group → Bool
 is_in_any names user entry groups = list_any (λ name. is_in_group name user entry groups) names
 
-abbrev pub by_entry : Bool → List (List ℕ) → List ℕ → Option Passwd → List Group → Truth
-by_entry sense names user (Some entry) groups =
+abbrev pub tried_with_entry : Bool → List (List ℕ) → List ℕ → Option Passwd → List Group → Truth
+tried_with_entry sense names user (Some entry) groups =
     in_sense sense (is_in_any names user (Some entry) groups)
-by_entry sense names user None groups = NoUser
+tried_with_entry sense names user None groups = NoUser
 
-abbrev pub by_groups : Bool → List (List ℕ) → List ℕ → Option Passwd → Option (List Group) → Truth
-by_groups sense names user entry (Some groups) = by_entry sense names user entry groups
-by_groups sense names user entry None = Faulty
+abbrev pub tried_in_groups : Bool → List (List ℕ) → List ℕ → Option Passwd → Option (List Group) → Truth
+tried_in_groups sense names user entry (Some groups) = tried_with_entry sense names user entry groups
+tried_in_groups sense names user entry None = Faulty
 
 -- the group file is read even if the user has no entry, but not if passwd can't be read
-abbrev pub by_passwds : Bool → List (List ℕ) → List ℕ → (Truth → Act) → Option (List Passwd) → Act
-by_passwds sense names user act None = act Faulty
-by_passwds sense names user act (Some entries) =
-    reads_groups (λ groups. act (by_groups sense names user (entry_of user entries) groups))
+abbrev pub tries_after_passwds : Bool → List (List ℕ) → List ℕ → (Truth → Act) → Option (List Passwd) → Act
+tries_after_passwds sense names user act None = act Faulty
+tries_after_passwds sense names user act (Some entries) =
+    reads_groups (λ groups. act (tried_in_groups sense names user (entry_of user entries) groups))
 
 -- an item that is unset reads as the empty text
 abbrev pub item_text : ItemField → ItemTexts → List ℕ
@@ -75,7 +82,7 @@ tests_field (fields.Account field) test user act =
 
 abbrev pub tries : PlainCondition → List ℕ → (Truth → Act) → Act
 tries (on field test) user act = tests_field field test user act
-tries (grouped sense names) user act = reads_passwds (by_passwds sense names user act)
+tries (grouped sense names) user act = reads_passwds (tries_after_passwds sense names user act)
 
 -- three words that aren't a condition are an error, and nothing is read for them
 abbrev pub tries_words : Option PlainCondition → List ℕ → (Truth → Act) → Act
@@ -85,11 +92,11 @@ tries_words None user act = act Faulty
 -- ---- all conditions
 
 -- the first condition that doesn't hold decides
-abbrev pub by_truth : Act → Truth → Act
-by_truth rest Holds = rest
-by_truth rest Fails = answers returns.AuthErr
-by_truth rest NoUser = answers returns.UserUnknown
-by_truth rest Faulty = answers returns.ServiceErr
+abbrev pub rest_if_holds : Act → Truth → Act
+rest_if_holds rest Holds = rest
+rest_if_holds rest Fails = answers returns.AuthErr
+rest_if_holds rest NoUser = answers returns.UserUnknown
+rest_if_holds rest Faulty = answers returns.ServiceErr
 
 -- conditions are taken in order, three words each; without any the result is SUCCESS
 abbrev pub meets_all : List (List ℕ) → List ℕ → Act
@@ -97,7 +104,7 @@ meets_all [] user = answers returns.Success
 meets_all (field ∷ []) user = answers returns.ServiceErr
 meets_all (field ∷ word ∷ []) user = answers returns.ServiceErr
 meets_all (field ∷ word ∷ value ∷ rest) user =
-    tries_words (condition_of field word value) user (by_truth (meets_all rest user))
+    tries_words (condition_of field word value) user (rest_if_holds (meets_all rest user))
 
 -- ---- the module
 
@@ -113,12 +120,12 @@ conditions_in args = filter (λ arg. not (is_about_log arg)) args
 abbrev pub uses_uid : List (List ℕ) → Bool
 uses_uid args = list_any (λ arg. bytes_eq arg (codes "use_uid")) args
 
-abbrev pub by_use : Bool → List (List ℕ) → Act
-by_use true args = answers returns.ServiceErr
-by_use false args = asks_user (meets_all (conditions_in args))
+abbrev pub unless_use_uid : Bool → List (List ℕ) → Act
+unless_use_uid true args = answers returns.ServiceErr
+unless_use_uid false args = asks_user (meets_all (conditions_in args))
 
 abbrev pub checks_conditions : List (List ℕ) → Act
-checks_conditions args = by_use (uses_uid args) args
+checks_conditions args = unless_use_uid (uses_uid args) args
 
 -- it has all six functions; setcred returns IGNORE at once
 abbrev pub at_once : Func → Option Code

@@ -4,7 +4,7 @@ ghost use Rattle.module_acts.specs.Accounts.{entry_known, known_groups, known_pa
 ghost use Rattle.module_acts.specs.Act.{LooksTo};
 ghost use Rattle.module_acts.specs.Seen.{user_seen};
 ghost use Rattle.mod_lists.specs.ListSettings.{plain_apply};
-ghost use Rattle.mod_lists.specs.Listfile.{applies, by_groups, yes_or_no};
+ghost use Rattle.mod_lists.specs.Listfile.{applies, applies_in_groups, yes_or_no};
 
 use crate::list_settings::Apply;
 use account_db::is_in_group;
@@ -47,7 +47,7 @@ pub(crate) fn list_applies(
                 Some(_) => {}
             }
             accounts.read_groups(seen.alloc, vault, seen.process)?;
-            let applies = by_groups(seen, name, accounts)?;
+            let applies = applies_in_groups(seen, name, accounts)?;
             Ok(applies)
         }
     }
@@ -66,11 +66,11 @@ fn yes_or_no(holds: bool) -> Applies
 }
 
 // Whether the user is in the group, by files that have been read.
-fn by_groups(seen: &Seen, name: &[u8], accounts: &Accounts) -> Result<Applies, NoMemory>
+fn applies_in_groups(seen: &Seen, name: &[u8], accounts: &Accounts) -> Result<Applies, NoMemory>
     requires user { seen.now.transaction.now.items.user ≢ None }
     requires passwds { accounts.now.passwds ≢ None }
     requires groups { accounts.now.groups ≢ None }
-    ensures { IfOk result (λ applies. applies ≡ by_groups name.now (user_seen seen.now)
+    ensures { IfOk result (λ applies. applies ≡ applies_in_groups name.now (user_seen seen.now)
         (entry_known (user_seen seen.now) (known_passwds accounts.now)) (known_groups accounts.now)) }
 {
     let user = user_of(seen.transaction);

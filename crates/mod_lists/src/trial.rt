@@ -9,7 +9,7 @@ ghost use Rattle.module_acts.specs.Seen.{scene_seen, user_seen};
 ghost use Rattle.module_acts.specs.Found.{plain_account};
 ghost use Rattle.mod_lists.specs.declared.truth.Truth.{Truth};
 ghost use Rattle.mod_lists.specs.Condition.{items_of, plain_condition, plain_test};
-ghost use Rattle.mod_lists.specs.SucceedIf.{by_groups, by_passwds, is_in_any, item_text, on_account, on_entry, tries_words};
+ghost use Rattle.mod_lists.specs.SucceedIf.{tried_in_groups, tries_after_passwds, is_in_any, item_text, on_account, on_entry, tries_words};
 
 use crate::condition::{AccountField, Condition, Field, ItemField, Test};
 use crate::truth::{Truth, in_sense};
@@ -128,9 +128,9 @@ fn try_groups(
     ensures files { IsTrue (vault_tells vault.old) →
         (vault_holds vault.new).files ≡ (vault_holds vault.old).files }
     ensures told { IsTrue (vault_tells vault.old) →
-        IfOk result (λ truth. LooksTo (λ act. reads_passwds (by_passwds sense (items_of names.now)
-        (user_seen seen.now) act)) truth seen.now.process.now accounts.old (vault_holds vault.old)
-        accounts.new (vault_holds vault.new)) }
+        IfOk result (λ truth. LooksTo (λ act. reads_passwds (tries_after_passwds sense
+        (items_of names.now) (user_seen seen.now) act)) truth seen.now.process.now
+        accounts.old (vault_holds vault.old) accounts.new (vault_holds vault.new)) }
 {
     accounts.read_passwds(seen.alloc, vault, seen.process)?;
     match accounts.passwds() {
@@ -138,7 +138,7 @@ fn try_groups(
         Some(_) => {}
     }
     accounts.read_groups(seen.alloc, vault, seen.process)?;
-    let truth = by_groups(
+    let truth = tried_in_groups(
         seen.alloc,
         sense,
         names,
@@ -149,7 +149,7 @@ fn try_groups(
 }
 
 // Whether the user is in one of the groups, by files that have been read.
-fn by_groups(
+fn tried_in_groups(
     alloc: Global,
     sense: bool,
     names: &[u8],
@@ -158,7 +158,7 @@ fn by_groups(
 ) -> Result<Truth, NoMemory>
     requires passwds { accounts.now.passwds ≢ None }
     requires groups { accounts.now.groups ≢ None }
-    ensures { IfOk result (λ truth. truth ≡ by_groups sense (items_of names.now) user.now
+    ensures { IfOk result (λ truth. truth ≡ tried_in_groups sense (items_of names.now) user.now
         (entry_known user.now (known_passwds accounts.now)) (known_groups accounts.now)) }
 {
     let entry = accounts.entry(alloc, user)?;

@@ -23,7 +23,7 @@ use Rattle.mod_tally.specs.declared.settings.Task.{Task}
 use Rattle.mod_tally.specs.declared.settings.Task.TheVariants.{Preauth, AuthFail, AuthSucc, Clear}
 use Rattle.mod_tally.specs.Settings.{PlainSettings, settings_of, task_among}
 use Rattle.mod_tally.specs.Tally.{counting, failures_of, is_locked, tally_text}
-use Rattle.mod_tally.specs.Faillock.{by_account, by_call, by_file, by_lock, by_name, by_spared, by_tally, by_task, clears, does_task, faillock_plays, failures_in, if_any, if_held, if_taken, is_no_file, lock_name, locks_file, new_failure, reads_tally, records, sets_if, sets_text, spared_answer, tally_limit, tally_name, task_of, tries_lock, unless_locked, write_result}
+use Rattle.mod_tally.specs.Faillock.{task_for_account, task_or_code, task_on_file, denies_if_locked, unless_no_file, unless_spared, task_if_readable, task_on_failures, clears, does_task, faillock_plays, failures_in, if_any, if_held, if_taken, is_no_file, lock_name, locks_file, new_failure, reads_tally, records, sets_if, sets_text, spared_answer, tally_limit, tally_name, task_of, tries_lock, unless_locked, write_result}
 use Rattle.mod_tally.specs.Recorded.{Deed, left, recorded, cleared, Does, DoesTo, IsOpen, failures_on_file}
 use Rattle.mod_tally.proofs.Replacing.{put_past, put_there}
 
@@ -144,7 +144,7 @@ module _ (path : List ℕ) (call : PlainCall) where
         → DoesOne stage.sight (sets_text name text code act stage)
     setting stage name text code d does = set_by (is_rooted name && nat_le (length text) tally_limit) stage name text code d (λ f. does (both (is_rooted name) (nat_le (length text) tally_limit) f))
 
-    locked_by : (b : Bool) (step : (Code → Act) → Act) (stage : Stage) → (b ≡ false → DoesOne stage.sight (step act stage)) → DoesOne stage.sight (by_lock b step act stage)
+    locked_by : (b : Bool) (step : (Code → Act) → Act) (stage : Stage) → (b ≡ false → DoesOne stage.sight (step act stage)) → DoesOne stage.sight (denies_if_locked b step act stage)
     locked_by true step stage next = stays returns.AuthErr stage
     locked_by false step stage next = next refl
 
@@ -199,7 +199,7 @@ module _ (path : List ℕ) (call : PlainCall) where
             stands = put_at (tally_text []) e;
           })
 
-      doing : (lock : List ℕ) (task : Task) → task_is task → (fs : List Failure) → Stood fs → DoesOne stage.sight (by_task task given name lock fs act stage)
+      doing : (lock : List ℕ) (task : Task) → task_is task → (fs : List Failure) → Stood fs → DoesOne stage.sight (task_on_failures task given name lock fs act stage)
       doing lock Preauth task fs stood = unlocked_so fs (tries_lock lock) stage (λ unlocked. trying lock stage)
       doing lock AuthFail task fs stood = unlocked_so fs (records given name fs) stage (λ unlocked. recording fs stood task unlocked)
       doing lock AuthSucc task fs stood = unlocked_so fs (clears name fs) stage (λ unlocked. clearing fs stood (inr (task, unlocked)))
@@ -208,25 +208,25 @@ module _ (path : List ℕ) (call : PlainCall) where
     -- ---- the file is read
 
     module _ (task : Task) (is : task_is task) (name lock : List ℕ) (stage : Stage) where
-      by_found : (found : Option (List Failure)) → ((fs : List Failure) → found ≡ Some fs → Stood name stage fs) → DoesOne stage.sight (by_tally task given name lock act found stage)
+      by_found : (found : Option (List Failure)) → ((fs : List Failure) → found ≡ Some fs → Stood name stage fs) → DoesOne stage.sight (task_if_readable task given name lock act found stage)
       by_found None stood = stays returns.ServiceErr stage
       by_found (Some fs) stood = doing name stage lock task is fs (stood fs refl)
 
-      by_length : (long : Bool) (text : List ℕ) → file_at (path_of stage.sight.root name) stage.sight.files ≡ Some text → DoesOne stage.sight (by_tally task given name lock act (failures_in (cond long Unreadable (Holds text))) stage)
+      by_length : (long : Bool) (text : List ℕ) → file_at (path_of stage.sight.root name) stage.sight.files ≡ Some text → DoesOne stage.sight (task_if_readable task given name lock act (failures_in (cond long Unreadable (Holds text))) stage)
       by_length true text f = stays returns.ServiceErr stage
       by_length false text f = by_found (failures_of text) (λ fs g rooted. ap failures_on_file f ∙ g)
 
-      by_content : (o : Option (List ℕ)) → file_at (path_of stage.sight.root name) stage.sight.files ≡ o → (fails : Bool) → DoesOne stage.sight (by_tally task given name lock act (failures_in (content_of fails tally_limit o)) stage)
+      by_content : (o : Option (List ℕ)) → file_at (path_of stage.sight.root name) stage.sight.files ≡ o → (fails : Bool) → DoesOne stage.sight (task_if_readable task given name lock act (failures_in (content_of fails tally_limit o)) stage)
       unfolding content_of
       by_content o f true = stays returns.ServiceErr stage
       by_content None f false = by_found (Some []) (λ fs g rooted. ap failures_on_file f ∙ g)
       by_content (Some text) f false = by_length (nat_lt tally_limit (length text)) text f
 
-    reading : (task : Task) → task_is task → (name lock : List ℕ) → Keeps (by_file task given name lock act)
+    reading : (task : Task) → task_is task → (name lock : List ℕ) → Keeps (task_on_file task given name lock act)
     unfolding reads_file
     reading task is name lock stage = by (is_rooted name) refl
       where
-        by : (rooted : Bool) → is_rooted name ≡ rooted → DoesOne stage.sight (reads_if rooted name tally_limit (λ content. by_tally task given name lock act (failures_in content)) stage)
+        by : (rooted : Bool) → is_rooted name ≡ rooted → DoesOne stage.sight (reads_if rooted name tally_limit (λ content. task_if_readable task given name lock act (failures_in content)) stage)
         by true f = by_content task is name lock (record stage { sight = later stage.sight }) (file_at (path_of stage.sight.root name) stage.sight.files) refl (stage.sight.failing 0)
         by false f = by_found task is name lock stage (Some []) (λ fs g rooted. absurd (let both : ◌≡◌ {A = Bool} true false = sym rooted ∙ f in cc))
 
@@ -253,22 +253,22 @@ module _ (path : List ℕ) (call : PlainCall) where
 
   -- ---- the module
 
-  sparing : (b : Bool) (task : Task) → task_is task → (user : List ℕ) → Keeps (by_spared b task given user)
+  sparing : (b : Bool) (task : Task) → task_is task → (user : List ℕ) → Keeps (unless_spared b task given user)
   sparing true task is user = answers_keep (spared_answer task)
   sparing false task is user = tasking answers answering task is (tally_name given.folder user) (lock_name given.folder user)
 
-  accounting : (task : Task) → task_is task → (user : List ℕ) (a : Account) → Keeps (by_account task given user a)
+  accounting : (task : Task) → task_is task → (user : List ℕ) (a : Account) → Keeps (task_for_account task given user a)
   accounting task is user unreadable = answers_keep returns.ServiceErr
   accounting task is user missing = answers_keep returns.Ignore
   accounting task is user (found entry) = sparing _ task is user
 
-  naming : (b : Bool) (task : Task) → task_is task → (user : List ℕ) → Keeps (by_name b task given user)
+  naming : (b : Bool) (task : Task) → task_is task → (user : List ℕ) → Keeps (unless_no_file b task given user)
   naming true task is user = answers_keep returns.UserUnknown
-  naming false task is user = finding user (by_account task given user) (accounting task is user)
+  naming false task is user = finding user (task_for_account task given user) (accounting task is user)
 
-  calling : (r : Result Task Code) → task_of call.func (task_among call.args) ≡ r → Keeps (by_call r given)
+  calling : (r : Result Task Code) → task_of call.func (task_among call.args) ≡ r → Keeps (task_or_code r given)
   calling (Err code) e = answers_keep code
-  calling (Ok task) e = asking (λ user. by_name (is_no_file user) task given user) (λ user. naming (is_no_file user) task e user)
+  calling (Ok task) e = asking (λ user. unless_no_file (is_no_file user) task given user) (λ user. naming (is_no_file user) task e user)
 
   pub does_one : (room : SeenRoom) (held : List NamedData) (sight : Sight) → DoesOne sight (faillock_plays call room held sight)
   does_one room held sight = calling (task_of call.func (task_among call.args)) refl (record { room = room; held = held; known = nothing_known; sight = sight })

@@ -3,7 +3,7 @@ use Rattle.std.proofs.Common.{◌≡◌, ℕ, zero, suc, ◌+◌, ◌-◌, ◌*�
 use Rattle.std.proofs.lemmas.Bool.{lt-ltb, le-ltb, leb-true, eqb-true, ne_eqb}
 use Rattle.std.specs.List.{AllByRecursion}
 use Rattle.pam_base.specs.Quote.{hex_digit}
-use Rattle.mod_tally.specs.Source.{behind_backslash, behind_x, by_digits, hex_value, in_front, is_printed, printed, spelled, spelled_byte, unspelled}
+use Rattle.mod_tally.specs.Source.{behind_backslash, behind_x, byte_of_digits, hex_value, in_front, is_printed, printed, spelled, spelled_byte, unspelled}
 
 -- a source of bytes, and its spelling
 pub record Spells (source word : List ℕ) : Type 0 where
@@ -42,7 +42,7 @@ plain_by : (x y : ℕ) (plain : Bool) → is_printed x ≡ plain → cond plain 
 plain_by x y true p e = absurd cc
 plain_by x y false p e = let same : x ≡ y = some_same x y e in (same, ap is_printed (sym same) ∙ p)
 
-digits_back : (h l x : ℕ) (u v : Option ℕ) → hex_value h ≡ u → hex_value l ≡ v → by_digits u v ≡ Some x → (spelled_byte x ≡ 92 ∷ 120 ∷ h ∷ l ∷ []) × (x < 256)
+digits_back : (h l x : ℕ) (u v : Option ℕ) → hex_value h ≡ u → hex_value l ≡ v → byte_of_digits u v ≡ Some x → (spelled_byte x ≡ 92 ∷ 120 ∷ h ∷ l ∷ []) × (x < 256)
 digits_back h l x None v a b e = absurd cc
 digits_back h l x (Some high) None a b e = absurd cc
 digits_back h l x (Some high) (Some low) a b e =
@@ -69,7 +69,7 @@ by_printed b rest source true p n exact e =
     let most = leb-true b 126 (both (nat_le 33 b) (nat_le b 126) p).1 in
     by_rest b (b ∷ []) rest source (unspelled rest) (rw (n, p) refl) (omega (arith, most)) exact e
 
-by_digits_of : (h l : ℕ) (rest source : List ℕ) (o : Option ℕ) → by_digits (hex_value h) (hex_value l) ≡ o → Exact rest → in_front o (unspelled rest) ≡ Some source → Spells source (92 ∷ 120 ∷ h ∷ l ∷ rest)
+by_digits_of : (h l : ℕ) (rest source : List ℕ) (o : Option ℕ) → byte_of_digits (hex_value h) (hex_value l) ≡ o → Exact rest → in_front o (unspelled rest) ≡ Some source → Spells source (92 ∷ 120 ∷ h ∷ l ∷ rest)
 by_digits_of h l rest source None d exact e = absurd cc
 by_digits_of h l rest source (Some x) d exact e =
     let back = digits_back h l x (hex_value h) (hex_value l) refl refl d in
@@ -80,7 +80,7 @@ module _ (n : ℕ) (below : (word : List ℕ) → length word ≤ n → Exact wo
   unfolding unspelled
   x_exact [] source few e = absurd cc
   x_exact (h ∷ []) source few e = absurd cc
-  x_exact (h ∷ l ∷ rest) source few e = by_digits_of h l rest source (by_digits (hex_value h) (hex_value l)) refl (below rest (omega (arith, few))) e
+  x_exact (h ∷ l ∷ rest) source few e = by_digits_of h l rest source (byte_of_digits (hex_value h) (hex_value l)) refl (below rest (omega (arith, few))) e
 
   after_slash : (c : ℕ) (rest source : List ℕ) (slash x : Bool) → eqb c 92 ≡ slash → eqb c 120 ≡ x → length rest ≤ n → cond slash (in_front (Some 92) (unspelled rest)) (cond x (behind_x rest) None) ≡ Some source → Spells source (92 ∷ c ∷ rest)
   after_slash c rest source true x s g few e =

@@ -11,7 +11,7 @@ use Rattle.mod_tally.specs.declared.tally.Failure.{Failure}
 use Rattle.mod_tally.specs.declared.tally.Version.{Version}
 use Rattle.mod_tally.specs.declared.tally.Version.TheVariants.{One, Two}
 use Rattle.mod_tally.specs.Source.{in_front, unspelled}
-use Rattle.mod_tally.specs.Tally.{IsFailure, all_in, by_version, cut_at, failure_in, failures_of, in_lines, is_kind, moment_of, unknown_at, version_of, with_moment, with_origin, with_source}
+use Rattle.mod_tally.specs.Tally.{IsFailure, all_in, failures_of_version, cut_at, failure_in, failures_of, in_lines, is_kind, moment_of, unknown_at, version_of, with_moment, with_origin, with_source}
 use Rattle.mod_tally.specs.Recorded.{failures_on_file}
 use Rattle.mod_tally.proofs.Unspelling.{unspelled-exact}
 
@@ -92,7 +92,7 @@ lines_fit : (version : Version) (lines : List (List ℕ)) (fs : List Failure) �
 lines_fit version [] fs e = subst (AllByRecursion IsFailure) (some_same [] fs e) tt
 lines_fit version (l ∷ ls) fs e = front_fits (failure_in version l) (all_in (failure_in version) ls) fs (line_fits version l) (lines_fit version ls) e
 
-version_fits : (o : Option Version) (lines : List (List ℕ)) (fs : List Failure) → by_version o lines ≡ Some fs → AllByRecursion IsFailure fs
+version_fits : (o : Option Version) (lines : List (List ℕ)) (fs : List Failure) → failures_of_version o lines ≡ Some fs → AllByRecursion IsFailure fs
 version_fits None lines fs e = absurd cc
 version_fits (Some version) lines fs e = lines_fit version lines fs e
 

@@ -1,4 +1,16 @@
 -- pam_faillock(8): the failures of a user are counted, and a user who failed too often is locked.
+--
+-- Its steps, from the entry point on:
+--   `faillock_act`, `task_or_code`: what the call is to do, or its code at once
+--   `checks_tally`, `unless_no_file`: the user is asked for; the name has to be one of a file
+--   `task_for_account`, `unless_spared`: the account is looked up; root isn't locked without `even_deny_root`
+--   `does_task`: which of the next two comes first
+--   `locks_file`, `if_held`: the file is locked; `if_any`: only if there is something to clear
+--   `task_on_file`, `task_if_readable`: the file is read
+--   `task_on_failures`: `preauth`, `authfail`, `authsucc` or acct_mgmt, with the failures in the file
+--   `unless_locked`, `denies_if_locked`: AUTH_ERR if the user is locked
+--   `tries_lock`, `records`, `clears`: a failure could be recorded, is recorded, or all are cleared
+--   `writes_tally`: the file is replaced
 use Rattle.std.specs.Prelude.{ℕ, Bool, true, false, not, ◌==◌, ◌&&◌, ◌||◌, nat_le, if◌then◌else◌, List, [], ◌∷◌, ◌++◌, length, take, codes, unwrap_or, Option, Some, None, Result, Ok, Err}
 use Rattle.std.specs.List.{list_any}
 use Rattle.std.specs.Str.{bytes_eq}
@@ -97,13 +109,13 @@ abbrev pub clears : List ℕ → List Failure → (Code → Act) → Act
 clears name [] act = act returns.Success
 clears name (f ∷ fs) act = writes_tally name [] returns.Success act
 
-abbrev pub by_lock : Bool → ((Code → Act) → Act) → (Code → Act) → Act
-by_lock true step act = act returns.AuthErr
-by_lock false step act = step act
+abbrev pub denies_if_locked : Bool → ((Code → Act) → Act) → (Code → Act) → Act
+denies_if_locked true step act = act returns.AuthErr
+denies_if_locked false step act = step act
 
 abbrev pub unless_locked : PlainSettings → List Failure → ((Code → Act) → Act) → (Code → Act) → Act
 unless_locked s failures step act =
-    sees_moment (λ now. by_lock (is_locked s.deny s.interval s.unlock now failures) step act)
+    sees_moment (λ now. denies_if_locked (is_locked s.deny s.interval s.unlock now failures) step act)
 
 -- The lock is taken and let go: a failure that couldn't be recorded isn't verified for.
 abbrev pub if_taken : List ℕ → (Code → Act) → Bool → Act
@@ -114,25 +126,25 @@ abbrev pub tries_lock : List ℕ → (Code → Act) → Act
 tries_lock lock act = holds_lock lock Whole (if_taken lock act)
 
 -- with the failures in the file: `preauth`, `authfail`, `authsucc`, acct_mgmt
-abbrev pub by_task : Task → PlainSettings → List ℕ → List ℕ → List Failure → (Code → Act) → Act
-by_task Preauth s file lock failures act = unless_locked s failures (tries_lock lock) act
-by_task AuthFail s file lock failures act = unless_locked s failures (records s file failures) act
-by_task AuthSucc s file lock failures act = unless_locked s failures (clears file failures) act
-by_task Clear s file lock failures act = clears file failures act
+abbrev pub task_on_failures : Task → PlainSettings → List ℕ → List ℕ → List Failure → (Code → Act) → Act
+task_on_failures Preauth s file lock failures act = unless_locked s failures (tries_lock lock) act
+task_on_failures AuthFail s file lock failures act = unless_locked s failures (records s file failures) act
+task_on_failures AuthSucc s file lock failures act = unless_locked s failures (clears file failures) act
+task_on_failures Clear s file lock failures act = clears file failures act
 
-abbrev pub by_tally : Task → PlainSettings → List ℕ → List ℕ → (Code → Act) → Option (List Failure)
+abbrev pub task_if_readable : Task → PlainSettings → List ℕ → List ℕ → (Code → Act) → Option (List Failure)
     → Act
-by_tally task s file lock act None = act returns.ServiceErr
-by_tally task s file lock act (Some failures) = by_task task s file lock failures act
+task_if_readable task s file lock act None = act returns.ServiceErr
+task_if_readable task s file lock act (Some failures) = task_on_failures task s file lock failures act
 
 -- the file is read
-abbrev pub by_file : Task → PlainSettings → List ℕ → List ℕ → (Code → Act) → Act
-by_file task s file lock act = reads_tally file (by_tally task s file lock act)
+abbrev pub task_on_file : Task → PlainSettings → List ℕ → List ℕ → (Code → Act) → Act
+task_on_file task s file lock act = reads_tally file (task_if_readable task s file lock act)
 
 -- without the lock no file is read, and the result is SERVICE_ERR
 abbrev pub if_held : Task → PlainSettings → List ℕ → List ℕ → (Code → Act) → Bool → Act
 if_held task s file lock act true =
-    by_file task s file lock (λ code. lets_go (is_rooted lock) (act code))
+    task_on_file task s file lock (λ code. lets_go (is_rooted lock) (act code))
 if_held task s file lock act false = act returns.ServiceErr
 
 -- the file is read; meanwhile it is locked
@@ -150,7 +162,7 @@ if_any task s file lock act (Some (f ∷ fs)) = locks_file task s file lock act
 
 -- a failure is recorded under the lock; the other three read the file first
 abbrev pub does_task : Task → PlainSettings → List ℕ → List ℕ → (Code → Act) → Act
-does_task Preauth s file lock act = by_file Preauth s file lock act
+does_task Preauth s file lock act = task_on_file Preauth s file lock act
 does_task AuthFail s file lock act = locks_file AuthFail s file lock act
 does_task AuthSucc s file lock act = reads_tally file (if_any AuthSucc s file lock act)
 does_task Clear s file lock act = reads_tally file (if_any Clear s file lock act)
@@ -160,22 +172,22 @@ abbrev pub spared_answer : Task → Code
 spared_answer AuthFail = returns.Ignore
 spared_answer other = returns.Success
 
-abbrev pub by_spared : Bool → Task → PlainSettings → List ℕ → Act
-by_spared true task s user = answers (spared_answer task)
-by_spared false task s user =
+abbrev pub unless_spared : Bool → Task → PlainSettings → List ℕ → Act
+unless_spared true task s user = answers (spared_answer task)
+unless_spared false task s user =
     does_task task s (tally_name s.folder user) (lock_name s.folder user) answers
 
-abbrev pub by_account : Task → PlainSettings → List ℕ → Account → Act
-by_account task s user unreadable = answers returns.ServiceErr
-by_account task s user missing = answers returns.Ignore
-by_account task s user (found entry) = by_spared (entry.uid == 0 && not s.locks_root) task s user
+abbrev pub task_for_account : Task → PlainSettings → List ℕ → Account → Act
+task_for_account task s user unreadable = answers returns.ServiceErr
+task_for_account task s user missing = answers returns.Ignore
+task_for_account task s user (found entry) = unless_spared (entry.uid == 0 && not s.locks_root) task s user
 
-abbrev pub by_name : Bool → Task → PlainSettings → List ℕ → Act
-by_name true task s user = answers returns.UserUnknown
-by_name false task s user = finds_account user (by_account task s user)
+abbrev pub unless_no_file : Bool → Task → PlainSettings → List ℕ → Act
+unless_no_file true task s user = answers returns.UserUnknown
+unless_no_file false task s user = finds_account user (task_for_account task s user)
 
 abbrev pub checks_tally : Task → PlainSettings → Act
-checks_tally task s = asks_user (λ user. by_name (is_no_file user) task s user)
+checks_tally task s = asks_user (λ user. unless_no_file (is_no_file user) task s user)
 
 -- an authentication without a mode returns SERVICE_ERR; acct_mgmt clears the failures, whatever the
 -- mode
@@ -191,9 +203,9 @@ task_of OpenSession mode = Err returns.ModuleUnknown
 task_of CloseSession mode = Err returns.ModuleUnknown
 task_of ChAuthTok mode = Err returns.ModuleUnknown
 
-abbrev pub by_call : Result Task Code → PlainSettings → Act
-by_call (Err code) s = answers code
-by_call (Ok task) s = checks_tally task s
+abbrev pub task_or_code : Result Task Code → PlainSettings → Act
+task_or_code (Err code) s = answers code
+task_or_code (Ok task) s = checks_tally task s
 
 -- the code of a call in which the user isn't asked for
 abbrev pub refused : Result Task Code → Option Code
@@ -203,10 +215,10 @@ refused (Ok task) = None
 -- what is done once the user's name is known
 abbrev pub for_user : Result Task Code → PlainSettings → List ℕ → Act
 for_user (Err code) s user = answers code
-for_user (Ok task) s user = by_name (is_no_file user) task s user
+for_user (Ok task) s user = unless_no_file (is_no_file user) task s user
 
 abbrev pub faillock_act : PlainCall → Act
-faillock_act call = by_call (task_of call.func (task_among call.args)) (settings_of call.args)
+faillock_act call = task_or_code (task_of call.func (task_among call.args)) (settings_of call.args)
 
 abbrev pub faillock_plays : Plays
 faillock_plays = plays_by faillock_act

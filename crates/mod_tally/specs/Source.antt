@@ -1,6 +1,10 @@
 -- How a tally file spells where a failure came from (this project's own): printable ASCII is written as it is, a
 -- backslash is doubled, and any other byte, the space too, is written as \x and two lower-case
 -- hexadecimal digits. Each byte has only this spelling.
+--
+-- What a spelling means, in steps:
+--   `unspelled`, `behind_backslash`, `behind_x`: byte by byte
+--   `byte_of_digits`: the byte of two digits
 use Rattle.std.specs.Prelude.{ℕ, ◌+◌, ◌-◌, ◌*◌, ◌/◌, ◌%◌, Bool, ◌==◌, ◌&&◌, nat_le, if◌then◌else◌, List, [], ◌∷◌, ◌++◌, codes, Option, Some, None}
 use Rattle.std.specs.List.{flat_map}
 use Rattle.pam_base.specs.Quote.{hex_digit}
@@ -34,11 +38,11 @@ hex_value b = if nat_le 48 b && nat_le b 57 then Some (b - 48) else if nat_le 97
     then Some (b - 87) else None
 
 -- a byte that is its own spelling isn't spelled by its digits
-abbrev pub by_digits : Option ℕ → Option ℕ → Option ℕ
-by_digits (Some high) (Some low) = if is_printed (16 * high + low) then None
+abbrev pub byte_of_digits : Option ℕ → Option ℕ → Option ℕ
+byte_of_digits (Some high) (Some low) = if is_printed (16 * high + low) then None
     else Some (16 * high + low)
-by_digits (Some high) None = None
-by_digits None low = None
+byte_of_digits (Some high) None = None
+byte_of_digits None low = None
 
 unfoldable mutual
   -- the source that this spells, if it spells one
@@ -54,4 +58,4 @@ unfoldable mutual
   pub behind_x : List ℕ → Option (List ℕ)
   behind_x [] = None
   behind_x (high ∷ []) = None
-  behind_x (high ∷ low ∷ bs) = in_front (by_digits (hex_value high) (hex_value low)) (unspelled bs)
+  behind_x (high ∷ low ∷ bs) = in_front (byte_of_digits (hex_value high) (hex_value low)) (unspelled bs)

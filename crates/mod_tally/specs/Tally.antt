@@ -1,4 +1,9 @@
 -- The tally file of pam_faillock(8), which has the failures of one user (the file's form is this project's own).
+--
+-- Its steps:
+--   `failures_of`, `in_lines`: the lines of a text
+--   `failures_of_version`: by the version that the first line names
+--   `failure_in`: the failure of one line
 use Rattle.std.specs.Prelude.{◌≡◌, ℕ, ◌+◌, ◌-◌, ◌^◌, ◌<◌, max, Bool, true, ◌==◌, ◌&&◌, ◌||◌, nat_le, nat_lt, nat_eq, if◌then◌else◌, List, [], ◌∷◌, ◌++◌, length, take, drop, filter, count_by, position, codes, Option, Some, None, Result, Ok, Err}
 use Rattle.std.specs.Char.{is_ascii_digit}
 use Rattle.std.specs.Fmt.{decimal}
@@ -67,14 +72,14 @@ abbrev pub version_of : List ℕ → Option Version
 version_of header = if bytes_eq header (codes "faillock 2") then Some Two
     else if bytes_eq header (codes "faillock 1") then Some One else None
 
-abbrev pub by_version : Option Version → List (List ℕ) → Option (List Failure)
-by_version None lines = None
-by_version (Some version) lines = all_in (failure_in version) lines
+abbrev pub failures_of_version : Option Version → List (List ℕ) → Option (List Failure)
+failures_of_version None lines = None
+failures_of_version (Some version) lines = all_in (failure_in version) lines
 
 -- the first line names the version
 abbrev pub in_lines : List (List ℕ) → Option (List Failure)
 in_lines [] = None
-in_lines (header ∷ lines) = by_version (version_of header) lines
+in_lines (header ∷ lines) = failures_of_version (version_of header) lines
 
 -- the failures of a text, each line of which ends with a newline; None if it is damaged
 unfoldable pub failures_of : List ℕ → Option (List Failure)

@@ -6,12 +6,12 @@ ghost use Rattle.module_acts.specs.Act.{Acts, Yields};
 ghost use Rattle.module_acts.specs.Returns.{Follows};
 ghost use Rattle.module_acts.specs.Seen.{scene_seen, user_seen};
 ghost use Rattle.mod_tally.specs.Settings.{plain_settings, settings_of, task_among};
-ghost use Rattle.mod_tally.specs.Faillock.{by_file, by_name, by_spared, does_task, faillock_plays, for_user, if_any, is_no_file, locks_file, reads_tally, refused, spared_answer, task_of};
+ghost use Rattle.mod_tally.specs.Faillock.{task_on_file, unless_no_file, unless_spared, does_task, faillock_plays, for_user, if_any, is_no_file, locks_file, reads_tally, refused, spared_answer, task_of};
 
 use crate::settings::{TallySettings, Task, settings_of, task_among};
 use crate::tally::Failure;
 use crate::tally_file::{hold_tally, is_no_file, lock_name, read_tally, tally_name};
-use crate::task::by_task;
+use crate::task::task_on_failures;
 use module_acts::pam_room::Call;
 use module_acts::{Account, Accounts, Check, Seen, account_of, laws, release, user_of};
 use pam_base::{Code, Func, NoMemory};
@@ -102,7 +102,7 @@ fn check_user(
         OnErr result ((vault_holds vault.new).files ≡ (vault_holds vault.old).files) }
     ensures told { IsTrue (vault_tells vault.old) → (clock : ClockState) → moment ≡ clock.moment →
         (conv : ConvState) →
-        IfOk result (λ code. Follows (by_name (is_no_file (user_seen seen.now)) task
+        IfOk result (λ code. Follows (unless_no_file (is_no_file (user_seen seen.now)) task
         (plain_settings settings.now) (user_seen seen.now))
         (scene_seen seen.now conv (vault_holds vault.old) clock) code
         (scene_seen seen.now conv (vault_holds vault.new) clock)) }
@@ -157,7 +157,7 @@ fn check_tally(
         OnErr result ((vault_holds vault.new).files ≡ (vault_holds vault.old).files) }
     ensures told { IsTrue (vault_tells vault.old) → (clock : ClockState) → moment ≡ clock.moment →
         (conv : ConvState) (known : Known) →
-        IfOk result (λ code. Acts (by_spared false task (plain_settings settings.now)
+        IfOk result (λ code. Acts (unless_spared false task (plain_settings settings.now)
         (user_seen seen.now)) known
         (scene_seen seen.now conv (vault_holds vault.old) clock) code
         (scene_seen seen.now conv (vault_holds vault.new) clock)) }
@@ -190,7 +190,7 @@ fn do_task(job: &Job, vault: &mut dyn Vault, moment: u64) -> Result<Code, NoMemo
         (scene_seen job.now.seen.now conv (vault_holds vault.new) clock)) }
 {
     match job.task {
-        Task::Preauth => by_file(job, vault, moment),
+        Task::Preauth => task_on_file(job, vault, moment),
         Task::AuthFail => lock_file(job, vault, moment),
         Task::AuthSucc => clear_any(job, vault, moment),
         Task::Clear => clear_any(job, vault, moment),
@@ -230,8 +230,8 @@ fn lock_if_any(
         OnErr result ((vault_holds vault.new).files ≡ (vault_holds vault.old).files) }
     ensures told { IsTrue (vault_tells vault.old) → (clock : ClockState) → moment ≡ clock.moment →
         (conv : ConvState) →
-        IfOk result (λ code. Yields code (λ act. if_any job.now.task (plain_settings job.now.settings)
-        job.now.file.now job.now.lock.now act (Some failures.now))
+        IfOk result (λ code. Yields code (λ act. if_any job.now.task
+        (plain_settings job.now.settings) job.now.file.now job.now.lock.now act (Some failures.now))
         (scene_seen job.now.seen.now conv (vault_holds vault.old) clock)
         (scene_seen job.now.seen.now conv (vault_holds vault.new) clock)) }
 {
@@ -258,7 +258,7 @@ fn lock_file(job: &Job, vault: &mut dyn Vault, moment: u64) -> Result<Code, NoMe
 {
     match hold_tally(job.seen.alloc, job.seen.process, vault, job.lock)? {
         Some(held) => {
-            let code = by_file(job, vault, moment)?;
+            let code = task_on_file(job, vault, moment)?;
             release(vault, held);
             Ok(code)
         }
@@ -267,20 +267,20 @@ fn lock_file(job: &Job, vault: &mut dyn Vault, moment: u64) -> Result<Code, NoMe
 }
 
 // Reads the user's file.
-fn by_file(job: &Job, vault: &mut dyn Vault, moment: u64) -> Result<Code, NoMemory>
+fn task_on_file(job: &Job, vault: &mut dyn Vault, moment: u64) -> Result<Code, NoMemory>
     ensures tells { vault_tells vault.new ≡ vault_tells vault.old }
     ensures err { IsTrue (vault_tells vault.old) →
         OnErr result ((vault_holds vault.new).files ≡ (vault_holds vault.old).files) }
     ensures told { IsTrue (vault_tells vault.old) → (clock : ClockState) → moment ≡ clock.moment →
         (conv : ConvState) →
-        IfOk result (λ code. Yields code (by_file job.now.task (plain_settings job.now.settings)
-        job.now.file.now job.now.lock.now)
+        IfOk result (λ code. Yields code (task_on_file job.now.task
+        (plain_settings job.now.settings) job.now.file.now job.now.lock.now)
         (scene_seen job.now.seen.now conv (vault_holds vault.old) clock)
         (scene_seen job.now.seen.now conv (vault_holds vault.new) clock)) }
 {
     match read_tally(job.seen.alloc, job.seen.process, vault, job.file)? {
         Some(failures) => {
-            let code = by_task(job, failures, vault, moment)?;
+            let code = task_on_failures(job, failures, vault, moment)?;
             Ok(code)
         }
         None => Ok(Code::ServiceErr),

@@ -1,7 +1,7 @@
 ghost use Rattle.std.specs.Prelude.{◌≡◌, ◌++◌, ◌<◌, ◌∷◌, Some, None, [], length, IfOk, OnOk, IfSome, IfNone};
 ghost use Rattle.std.specs.Option.{option_copied};
 ghost use Rattle.pam_base.specs.Quote.{hex_digit};
-ghost use Rattle.mod_tally.specs.Source.{by_digits, hex_value, in_front, is_printed, spelled, spelled_byte, unspelled};
+ghost use Rattle.mod_tally.specs.Source.{byte_of_digits, hex_value, in_front, is_printed, spelled, spelled_byte, unspelled};
 
 use pam_base::{NoMemory, Text};
 use std::alloc::Global;
@@ -89,7 +89,7 @@ fn first_spelled(word: &[u8]) -> Option<Spelled<'_>>
     match word {
         [b'\\', b'\\', after @ ..] => Some(Spelled { byte: b'\\', after }),
         [b'\\', b'x', high, low, after @ ..] => {
-            match by_digits(hex_value(*high), hex_value(*low)) {
+            match byte_of_digits(hex_value(*high), hex_value(*low)) {
                 Some(byte) => Some(Spelled { byte, after }),
                 None => None,
             }
@@ -117,10 +117,10 @@ fn hex_value(byte: u8) -> Option<u8>
     }
 }
 
-fn by_digits(high: Option<u8>, low: Option<u8>) -> Option<u8>
+fn byte_of_digits(high: Option<u8>, low: Option<u8>) -> Option<u8>
     requires few_high { IfSome high (λ v. v < 16) }
     requires few_low { IfSome low (λ v. v < 16) }
-    ensures { result ≡ by_digits high low }
+    ensures { result ≡ byte_of_digits high low }
 {
     let (Some(high), Some(low)) = (high, low) else {
         return None;

@@ -5,7 +5,7 @@ ghost use Rattle.module_acts.specs.Act.{StepsTo, Yields};
 ghost use Rattle.module_acts.specs.Seen.{scene_seen};
 ghost use Rattle.mod_tally.specs.Settings.{plain_settings};
 ghost use Rattle.mod_tally.specs.Tally.{counting, tally_text};
-ghost use Rattle.mod_tally.specs.Faillock.{by_task, clears, new_failure, tries_lock, writes_tally};
+ghost use Rattle.mod_tally.specs.Faillock.{task_on_failures, clears, new_failure, tries_lock, writes_tally};
 
 use crate::counted::{counting_text, is_locked};
 use crate::failure::new_failure;
@@ -19,7 +19,7 @@ use pam_outside::Vault;
 use std::alloc::Global;
 
 /// Does what is to be done with the failures in the file.
-pub(crate) fn by_task(
+pub(crate) fn task_on_failures(
     job: &Job,
     failures: Failures,
     vault: &mut dyn Vault,
@@ -30,8 +30,8 @@ pub(crate) fn by_task(
         OnErr result ((vault_holds vault.new).files ≡ (vault_holds vault.old).files) }
     ensures told { IsTrue (vault_tells vault.old) → (clock : ClockState) → moment ≡ clock.moment →
         (conv : ConvState) →
-        IfOk result (λ code. Yields code (by_task job.now.task (plain_settings job.now.settings)
-        job.now.file.now job.now.lock.now failures)
+        IfOk result (λ code. Yields code (task_on_failures job.now.task
+        (plain_settings job.now.settings) job.now.file.now job.now.lock.now failures)
         (scene_seen job.now.seen.now conv (vault_holds vault.old) clock)
         (scene_seen job.now.seen.now conv (vault_holds vault.new) clock)) }
 {

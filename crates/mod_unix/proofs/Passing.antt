@@ -15,18 +15,18 @@ use Rattle.mod_unix.specs.declared.authenticate.Authenticated.{Authenticated}
 use Rattle.mod_unix.specs.declared.authenticate.Authenticated.TheVariants.{Kept, Unkept}
 use Rattle.mod_unix.specs.declared.look.KnownPassword.{KnownPassword}
 use Rattle.module_acts.specs.Arguments.{has_argument}
-use Rattle.mod_unix.specs.Authenticate.{asks_password, judge_account, by_open, by_pass, delays, is_open, is_success, try_first, unless_success, verifies_token, with_first}
+use Rattle.mod_unix.specs.Authenticate.{asks_password, judge_account, unless_open, first_pass_or_asks, delays, is_open, is_success, try_first, unless_success, verifies_token, with_first}
 use Rattle.module_acts.specs.Accounts.{Known}
 use Rattle.mod_unix.specs.Verify.{verified}
 
 module _ (r : Result Authenticated (Refuse ConvErr)) (look : KnownPassword) (s new : Scene) where
-  by_use : (use_first try : Bool) → true ≡ use_first → Returns r (λ act. sees_items (λ items. with_first look items.auth_tok act)) s new → Returns r (by_pass use_first try look) s new
+  by_use : (use_first try : Bool) → true ≡ use_first → Returns r (λ act. sees_items (λ items. with_first look items.auth_tok act)) s new → Returns r (first_pass_or_asks use_first try look) s new
   by_use use_first try e h = rw (← e) h
 
-  by_try : (use_first try : Bool) → false ≡ use_first → true ≡ try → Returns r (λ act. sees_items (λ items. try_first look items.auth_tok act)) s new → Returns r (by_pass use_first try look) s new
+  by_try : (use_first try : Bool) → false ≡ use_first → true ≡ try → Returns r (λ act. sees_items (λ items. try_first look items.auth_tok act)) s new → Returns r (first_pass_or_asks use_first try look) s new
   by_try use_first try e f h = rw (← e, ← f) h
 
-  by_none : (use_first try : Bool) → false ≡ use_first → false ≡ try → Returns r (asks_password look) s new → Returns r (by_pass use_first try look) s new
+  by_none : (use_first try : Bool) → false ≡ use_first → false ≡ try → Returns r (asks_password look) s new → Returns r (first_pass_or_asks use_first try look) s new
   by_none use_first try e f h = rw (← e, ← f) h
 
   nothing_tried : (found : Option (List ℕ)) → None ≡ found → Returns r (asks_password look) s new → Returns r (try_first look found) s new
@@ -89,7 +89,7 @@ module _ (seeing : (act : ItemTexts → Act) (known : Known) (s : Scene) (code :
 -- ---- depending on what is known of the user
 
 module _ (call : PlainCall) (look : KnownPassword) (s new : Scene) where
-  by_opened : (r : Result Authenticated (Refuse ConvErr)) (opened : Bool) → false ≡ opened → Returns r (λ act. delays (has_argument (codes "nodelay") call.args) (verifies_token call look act)) s new → Returns r (by_open opened call look) s new
+  by_opened : (r : Result Authenticated (Refuse ConvErr)) (opened : Bool) → false ≡ opened → Returns r (λ act. delays (has_argument (codes "nodelay") call.args) (verifies_token call look act)) s new → Returns r (unless_open opened call look) s new
   by_opened r opened e h = rw (← e) h
 
   by_delay : (r : Result Authenticated (Refuse ConvErr)) (nodelay : Bool) → true ≡ nodelay → Returns r (verifies_token call look) s new → Returns r (λ act. delays nodelay (verifies_token call look act)) s new

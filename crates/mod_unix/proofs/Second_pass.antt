@@ -28,8 +28,8 @@ use Rattle.mod_unix.specs.declared.look.KnownPassword.TheVariants.{Unknown, Unav
 use Rattle.mod_unix.specs.Aging.{day_of}
 use Rattle.module_acts.specs.Arguments.{has_argument}
 use Rattle.mod_unix.specs.Flags.{change_expired_authtok}
-use Rattle.mod_unix.specs.Change.{by_authtok, write_result, by_kept, by_pass, by_text, change_by, changed_by, changed_shadow, changes_entry, changes_locked, changes_shadow, if_locked, is_kept, new_prompts, same_reply, sets_new, stores_token, takes_token, usable}
-use Rattle.mod_unix.specs.Look.{by_field, by_x, field_in, is_x, looks, shadow_among, shadow_in, shadowed}
+use Rattle.mod_unix.specs.Change.{authtok_or_asks, write_result, unless_token_is_kept, checks_or_changes, replaces_shadow, change_by, changed_by, changed_shadow, changes_entry, changes_locked, changes_shadow, if_locked, is_kept, new_prompts, same_reply, sets_new, stores_token, takes_token, usable}
+use Rattle.mod_unix.specs.Look.{after_passwd, shadow_if_x, field_in, is_x, looks, shadow_among, shadow_in, shadowed}
 use Rattle.mod_unix.specs.NewHash.{hashed_token}
 use Rattle.mod_unix.specs.Stands.{shadow_path}
 use Rattle.pam_base.specs.declared.code.Code.{Code}
@@ -95,22 +95,22 @@ module _ (user hash : List ℕ) (today : ℕ) where
       record { old = old; old_is = at; entries = es; entries_are = are; entry = entry; entry_is = is; room_is = made.1; after_is = made.0 ∙ ap (λ (t : List ℕ). file_put (shadow_path stage.sight.root) t stage.sight.files) new }
 
   by_entry : (found : Option Shadow) (old : List ℕ) (es : List Shadow) (stage : Stage) → file_at (shadow_path stage.sight.root) stage.sight.files ≡ Some old → shadows_of old ≡ Ok es → shadow_of user es ≡ found
-      → (by_text (changed_by (shadowed found) (Ok (with_hash user hash today old))) ends stage).code ≡ returns.Success
-      → Replaced user hash stage.sight.root today stage.sight.files stage.room (by_text (changed_by (shadowed found) (Ok (with_hash user hash today old))) ends stage)
+      → (replaces_shadow (changed_by (shadowed found) (Ok (with_hash user hash today old))) ends stage).code ≡ returns.Success
+      → Replaced user hash stage.sight.root today stage.sight.files stage.room (replaces_shadow (changed_by (shadowed found) (Ok (with_hash user hash today old))) ends stage)
   unfolding answers lets_go
   by_entry None old es stage at are is e = absurd cc
   by_entry (Some entry) old es stage at are is e = put old (with_hash user hash today old) es entry stage at are is refl e
 
   by_entries : (r : Result (List Shadow) DbFault) (old : List ℕ) (stage : Stage) → file_at (shadow_path stage.sight.root) stage.sight.files ≡ Some old → shadows_of old ≡ r
-      → (by_text (changed_by (shadow_among user r) (unless_faulty_file r (with_hash user hash today old))) ends stage).code ≡ returns.Success
-      → Replaced user hash stage.sight.root today stage.sight.files stage.room (by_text (changed_by (shadow_among user r) (unless_faulty_file r (with_hash user hash today old))) ends stage)
+      → (replaces_shadow (changed_by (shadow_among user r) (unless_faulty_file r (with_hash user hash today old))) ends stage).code ≡ returns.Success
+      → Replaced user hash stage.sight.root today stage.sight.files stage.room (replaces_shadow (changed_by (shadow_among user r) (unless_faulty_file r (with_hash user hash today old))) ends stage)
   unfolding answers lets_go
   by_entries (Err fault) old stage at are e = absurd cc
   by_entries (Ok es) old stage at are e = by_entry (shadow_of user es) old es stage at are refl e
 
   by_content : (c : Content) (stage : Stage) → ((old : List ℕ) → c ≡ content.Holds old → file_at (shadow_path stage.sight.root) stage.sight.files ≡ Some old)
-      → (by_text (changed_shadow user hash today c) ends stage).code ≡ returns.Success
-      → Replaced user hash stage.sight.root today stage.sight.files stage.room (by_text (changed_shadow user hash today c) ends stage)
+      → (replaces_shadow (changed_shadow user hash today c) ends stage).code ≡ returns.Success
+      → Replaced user hash stage.sight.root today stage.sight.files stage.room (replaces_shadow (changed_shadow user hash today c) ends stage)
   unfolding answers lets_go changed_shadow
   by_content content.Absent stage at e = absurd cc
   by_content content.Unreadable stage at e = absurd cc
@@ -216,7 +216,7 @@ module _ (call : PlainCall) (user : List ℕ) where
       let d = by_replies replies (in_room room stage) e in
       record { user_stays = d.user_stays ∙ ap (λ (i : ItemTexts). i.user) same; written = d.written }
 
-  by_use : (given : Bool) (stage : Stage) → (by_authtok given (λ t. stores_token call user t answers) stage).code ≡ returns.Success → Done stage (by_authtok given (λ t. stores_token call user t answers) stage)
+  by_use : (given : Bool) (stage : Stage) → (authtok_or_asks given (λ t. stores_token call user t answers) stage).code ≡ returns.Success → Done stage (authtok_or_asks given (λ t. stores_token call user t answers) stage)
   unfolding sees_items exchanges
   by_use true stage e = by_found stage.room.items.auth_tok stage refl e
   by_use false stage e = by_answer (speak new_prompts stage.room).answer (speak new_prompts stage.room).room stage refl e
@@ -233,12 +233,12 @@ module _ (call : PlainCall) (user : List ℕ) where
   abbrev pub Ended : Stage → Played → Type 0
   Ended stage p = Kept stage p ⊎ Done stage p
 
-  by_flag : (first : Bool) (today : ℕ) (entry : Shadow) (stage : Stage) → first ≡ false → (by_pass first call user today entry answers stage).code ≡ returns.Success → Ended stage (by_pass first call user today entry answers stage)
+  by_flag : (first : Bool) (today : ℕ) (entry : Shadow) (stage : Stage) → first ≡ false → (checks_or_changes first call user today entry answers stage).code ≡ returns.Success → Ended stage (checks_or_changes first call user today entry answers stage)
   by_flag true today entry stage distinct e = absurd cc
   by_flag false today entry stage distinct e = inr (second stage e)
 
   by_keeping : (kept : Bool) (today : ℕ) (entry : Shadow) (stage : Stage) → is_kept call today entry ≡ kept → has_flag call.flags prelim_check ≡ false
-      → (by_kept kept call user today entry answers stage).code ≡ returns.Success → Ended stage (by_kept kept call user today entry answers stage)
+      → (unless_token_is_kept kept call user today entry answers stage).code ≡ returns.Success → Ended stage (unless_token_is_kept kept call user today entry answers stage)
   unfolding answers
   by_keeping true today entry stage k distinct e = inl (record { flag = (and_parts (has_flag call.flags change_expired_authtok) _ k).0; files_are = refl })
   by_keeping false today entry stage k distinct e = by_flag (has_flag call.flags prelim_check) today entry stage distinct e
@@ -256,7 +256,7 @@ module _ (call : PlainCall) (user : List ℕ) where
     onward stage p (inl k) = inl (record { flag = k.flag; files_are = k.files_are })
     onward stage p (inr d) = inr (record { user_stays = d.user_stays; written = d.written })
 
-    by_password : (x : Bool) (hash : List ℕ) (stage : Stage) → (by_x x user hash (λ look. change_by call user look answers) stage).code ≡ returns.Success → Ended stage (by_x x user hash (λ look. change_by call user look answers) stage)
+    by_password : (x : Bool) (hash : List ℕ) (stage : Stage) → (shadow_if_x x user hash (λ look. change_by call user look answers) stage).code ≡ returns.Success → Ended stage (shadow_if_x x user hash (λ look. change_by call user look answers) stage)
     unfolding reads_file
     by_password true hash stage e =
         let look = shadow_in user (content_seen (codes "/etc/shadow") account_limit stage.sight) in
@@ -264,7 +264,7 @@ module _ (call : PlainCall) (user : List ℕ) where
         onward stage (change_by call user look answers next) (by_looking look next e)
     by_password false hash stage e = by_looking (Plain hash) stage e
 
-    by_fields : (f : Field) (stage : Stage) → (by_field user f (λ look. change_by call user look answers) stage).code ≡ returns.Success → Ended stage (by_field user f (λ look. change_by call user look answers) stage)
+    by_fields : (f : Field) (stage : Stage) → (after_passwd user f (λ look. change_by call user look answers) stage).code ≡ returns.Success → Ended stage (after_passwd user f (λ look. change_by call user look answers) stage)
     by_fields field.Unreadable stage e = by_looking Unavailable stage e
     by_fields field.Missing stage e = by_looking Unknown stage e
     by_fields (field.Holds hash) stage e = by_password (is_x hash) hash stage e
@@ -274,4 +274,4 @@ module _ (call : PlainCall) (user : List ℕ) where
     looked stage e =
         let f = field_in user (content_seen (codes "/etc/passwd") account_limit stage.sight) in
         let next = record stage { sight = later stage.sight } in
-        onward stage (by_field user f (λ look. change_by call user look answers) next) (by_fields f next e)
+        onward stage (after_passwd user f (λ look. change_by call user look answers) next) (by_fields f next e)

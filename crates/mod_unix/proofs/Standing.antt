@@ -23,7 +23,7 @@ use Rattle.mod_unix.specs.Change.{change_by, changes_token}
 use Rattle.mod_unix.specs.Look.{looks}
 use Rattle.mod_unix.specs.NewHash.{hashed_token, made_hash, new_setting}
 use Rattle.mod_unix.specs.Stands.{StaysOrStands, TokenStands, shadow_path}
-use Rattle.mod_unix.specs.Unix.{by_func, unix_plays}
+use Rattle.mod_unix.specs.Unix.{act_of_func, unix_plays}
 use Rattle.mod_unix.specs.Verify.{hash_verified}
 use Rattle.mod_unix.proofs.Faultless.{made}
 use Rattle.mod_unix.proofs.New_shadow.{others_stay, same_text, put_there, no_lock, made_ok, fits_so}
@@ -101,9 +101,9 @@ module _ (read : (user hash : List ℕ) (day : ℕ) (text : List ℕ) (entries :
   unfolding changes_token asks_user
   asked_first call stage distinct bound e = by_asking (user_asked stage.room) (user_asked stage.room).refused call stage refl distinct bound e
 
-  by_function : (f : Func) (call : PlainCall) (stage : Stage) → f ≡ ChAuthTok → has_flag call.flags prelim_check ≡ false → stage.sight.clock.moment ≤ 1000000000000 → (by_func f call stage).code ≡ returns.Success → StaysOrStands call stage.sight (by_func f call stage)
+  by_function : (f : Func) (call : PlainCall) (stage : Stage) → f ≡ ChAuthTok → has_flag call.flags prelim_check ≡ false → stage.sight.clock.moment ≤ 1000000000000 → (act_of_func f call stage).code ≡ returns.Success → StaysOrStands call stage.sight (act_of_func f call stage)
   by_function f call stage is distinct bound e =
-      let P : Func → Type 0 = λ x. (by_func x call stage).code ≡ returns.Success → StaysOrStands call stage.sight (by_func x call stage) in
+      let P : Func → Type 0 = λ x. (act_of_func x call stage).code ≡ returns.Success → StaysOrStands call stage.sight (act_of_func x call stage) in
       subst P (sym is) (asked_first call stage distinct bound) e
 
   pub taken : (call : PlainCall) (room : SeenRoom) (held : List NamedData) (sight : Sight) → call.func ≡ ChAuthTok → has_flag call.flags prelim_check ≡ false → sight.clock.moment ≤ 1000000000000

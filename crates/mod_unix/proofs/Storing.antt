@@ -23,14 +23,14 @@ use Rattle.mod_unix.specs.declared.look.KnownPassword.TheVariants.{Unknown, Unav
 use Rattle.mod_unix.specs.Aging.{day_of}
 use Rattle.module_acts.specs.Arguments.{has_argument}
 use Rattle.mod_unix.specs.NewHash.{hashed_token}
-use Rattle.mod_unix.specs.Change.{change_by, by_authtok, write_result, by_kept, by_pass, by_text, changed_shadow, changes_entry, changes_locked, changes_shadow, is_kept, new_prompts, same_reply, sets_new, stores_token, takes_token, tries_change, usable}
+use Rattle.mod_unix.specs.Change.{change_by, authtok_or_asks, write_result, unless_token_is_kept, checks_or_changes, replaces_shadow, changed_shadow, changes_entry, changes_locked, changes_shadow, is_kept, new_prompts, same_reply, sets_new, stores_token, takes_token, tries_change, usable}
 
 -- ---- the new token
 
 module _ (call : PlainCall) (s new : Scene) where
-  by_use : (r : Result (Option (List ℕ)) (Refuse ConvErr)) (b : Bool) → b ≡ has_argument (codes "use_authtok") call.args → Returns r (by_authtok b) s new → Returns r (takes_token call) s new
+  by_use : (r : Result (Option (List ℕ)) (Refuse ConvErr)) (b : Bool) → b ≡ has_argument (codes "use_authtok") call.args → Returns r (authtok_or_asks b) s new → Returns r (takes_token call) s new
   unfolding takes_token
-  by_use r b e h = subst (λ (x : Bool). Returns r (by_authtok x) s new) e h
+  by_use r b e h = subst (λ (x : Bool). Returns r (authtok_or_asks x) s new) e h
 
   pub there : ((act : ItemTexts → Act) (known : Known) (s : Scene) (code : Code) (new : Scene) → Acts (act s.room.transaction.items) known s code new → Acts (sees_items act) known s code new)
       → (token found : Option (List ℕ)) → true ≡ has_argument (codes "use_authtok") call.args → token ≡ usable found → found ≡ s.room.transaction.items.auth_tok → new ≡ s → Returns (Ok token) (takes_token call) s new
@@ -55,12 +55,12 @@ module _ (call : PlainCall) (s new : Scene) where
 module _ (user hash : List ℕ) (today : ℕ) (content : Content) (s mid : Scene) (read : Yields content (reads_file (codes "/etc/shadow") account_limit) s mid) where
   pub not_changed : None ≡ changed_shadow user hash today content → Yields returns.AuthtokErr (changes_locked user hash today) s mid
   unfolding changes_locked
-  not_changed e = λ act known code end rest. read (λ c. by_text (changed_shadow user hash today c) act) known code end (subst (λ (x : Option (List ℕ)). Acts (by_text x act) known mid code end) e rest)
+  not_changed e = λ act known code end rest. read (λ c. replaces_shadow (changed_shadow user hash today c) act) known code end (subst (λ (x : Option (List ℕ)). Acts (replaces_shadow x act) known mid code end) e rest)
 
   pub changed : (new : Scene) (text : List ℕ) (done : Bool) → Some text ≡ changed_shadow user hash today content → Yields done (replaces_file (codes "/etc/shadow") text) mid new → Yields (write_result done) (changes_locked user hash today) s new
   unfolding changes_locked
-  changed new text done e d = λ act known code end rest. read (λ c. by_text (changed_shadow user hash today c) act) known code end
-      (subst (λ (x : Option (List ℕ)). Acts (by_text x act) known mid code end) e (d (λ b. act (write_result b)) known code end rest))
+  changed new text done e d = λ act known code end rest. read (λ c. replaces_shadow (changed_shadow user hash today c) act) known code end
+      (subst (λ (x : Option (List ℕ)). Acts (replaces_shadow x act) known mid code end) e (d (λ b. act (write_result b)) known code end rest))
 
 -- a random word is taken for the salt
 module _ (seeing : (act : Time → Act) (known : Known) (s : Scene) (code : Code) (new : Scene) → Acts (act (time_of s.clock)) known s code new → Acts (sees_clock act) known s code new)
@@ -89,19 +89,19 @@ module _ (seeing : (act : Time → Act) (known : Known) (s : Scene) (code : Code
   -- ---- both passes
 
   module _ (entry : Shadow) (today : ℕ) (day : today ≡ day_of s.clock.moment) where
-    by_day : (r : Result Code (Refuse ConvErr)) (b : Bool) → b ≡ is_kept call today entry → Returns r (by_kept b call user today entry) s new → Returns r (changes_entry call user entry) s new
+    by_day : (r : Result Code (Refuse ConvErr)) (b : Bool) → b ≡ is_kept call today entry → Returns r (unless_token_is_kept b call user today entry) s new → Returns r (changes_entry call user entry) s new
     unfolding changes_entry
-    by_day (Ok v) b e h = λ act known c end rest. seeing (λ clock. by_kept (is_kept call (day_of clock.moment) entry) call user (day_of clock.moment) entry act) known s c end
-        (subst (λ t. Acts (by_kept (is_kept call t entry) call user t entry act) known s c end) day (subst (λ (x : Bool). Acts (by_kept x call user today entry act) known s c end) e (h act known c end rest)))
-    by_day (Err (Named n)) b e h = λ act known. seeing (λ clock. by_kept (is_kept call (day_of clock.moment) entry) call user (day_of clock.moment) entry act) known s returns.ConvErr new
-        (subst (λ t. Acts (by_kept (is_kept call t entry) call user t entry act) known s returns.ConvErr new) day (subst (λ (x : Bool). Acts (by_kept x call user today entry act) known s returns.ConvErr new) e (h act known)))
+    by_day (Ok v) b e h = λ act known c end rest. seeing (λ clock. unless_token_is_kept (is_kept call (day_of clock.moment) entry) call user (day_of clock.moment) entry act) known s c end
+        (subst (λ t. Acts (unless_token_is_kept (is_kept call t entry) call user t entry act) known s c end) day (subst (λ (x : Bool). Acts (unless_token_is_kept x call user today entry act) known s c end) e (h act known c end rest)))
+    by_day (Err (Named n)) b e h = λ act known. seeing (λ clock. unless_token_is_kept (is_kept call (day_of clock.moment) entry) call user (day_of clock.moment) entry act) known s returns.ConvErr new
+        (subst (λ t. Acts (unless_token_is_kept (is_kept call t entry) call user t entry act) known s returns.ConvErr new) day (subst (λ (x : Bool). Acts (unless_token_is_kept x call user today entry act) known s returns.ConvErr new) e (h act known)))
     by_day (Err NoMemory) b e h = tt
 
     pub kept : true ≡ is_kept call today entry → new ≡ s → Returns (Ok returns.Success) (changes_entry call user entry) s new
     kept e same = by_day (Ok returns.Success) true e (rw same (λ act known c end rest. rest))
 
-    by_flag : (r : Result Code (Refuse ConvErr)) (b : Bool) → b ≡ has_flag call.flags prelim_check → Returns r (by_pass b call user today entry) s new → Returns r (by_kept false call user today entry) s new
-    by_flag r b e h = subst (λ (x : Bool). Returns r (by_pass x call user today entry) s new) e h
+    by_flag : (r : Result Code (Refuse ConvErr)) (b : Bool) → b ≡ has_flag call.flags prelim_check → Returns r (checks_or_changes b call user today entry) s new → Returns r (unless_token_is_kept false call user today entry) s new
+    by_flag r b e h = subst (λ (x : Bool). Returns r (checks_or_changes x call user today entry) s new) e h
 
     pub first_pass : (r : Result Code (Refuse ConvErr)) → false ≡ is_kept call today entry → true ≡ has_flag call.flags prelim_check → Returns r (tries_change today entry) s new → Returns r (changes_entry call user entry) s new
     first_pass r e f h = by_day r false e (by_flag r true f h)

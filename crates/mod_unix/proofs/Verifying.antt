@@ -10,11 +10,11 @@ use Rattle.pam_base.specs.declared.code.Code.TheVariants.{AuthinfoUnavail}
 use Rattle.sha_crypt.specs.declared.setting.SettingFault.{SettingFault}
 use Rattle.sha_crypt.specs.Hash.{crypted}
 use Rattle.module_acts.specs.Accounts.{Known}
-use Rattle.mod_unix.specs.Verify.{by_hash, hash_verified, is_locked, verified}
+use Rattle.mod_unix.specs.Verify.{hash_compared, hash_verified, is_locked, verified}
 
 pub faulty : (hash token : List ℕ) (fault : SettingFault) → is_locked hash ≡ false → nat_lt 512 (length token) ≡ false → crypted hash token ≡ Err fault → AuthinfoUnavail ≡ hash_verified hash token
 unfolding hash_verified
-faulty hash token fault e f g = rw (e, f) (sym (ap (by_hash hash) g))
+faulty hash token fault e f g = rw (e, f) (sym (ap (hash_compared hash) g))
 
 -- the token in an item was verified
 pub kept : (look : KnownPassword) (found : Option (List ℕ)) (token : List ℕ) (answer : Code) (act : Authenticated → Act) (known : Known) (s end : Scene) (code : Code) → Some token ≡ found → answer ≡ verified look token

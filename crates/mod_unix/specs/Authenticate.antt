@@ -1,4 +1,15 @@
 -- pam_unix(8), authenticate.
+--
+-- Its steps, from the entry point on:
+--   `authenticates`: the user is asked for, and the password looked up
+--   `judge_account`, `unless_open`: with `nullok` a user without a password is let in
+--   `delays`: a delay is requested, except with `nodelay`
+--   `verifies_token`, `first_pass_or_asks`: which token it is
+--   `with_first`: with `use_first_pass`, that of an earlier module
+--   `try_first`, `unless_success`: with `try_first_pass`, that one first
+--   `asks_password`: else one that is asked for
+--   `verified`: the token is compared with the hash
+--   `keeps_for_setcred`: the code is kept for setcred
 use Rattle.std.specs.Prelude.{ℕ, Bool, true, false, ◌&&◌, not, List, [], ◌∷◌, Option, Some, None, codes}
 use Rattle.pam_base.specs.Code.{number_of}
 use Rattle.pam_base.specs.declared.code.Code.{Code}
@@ -54,13 +65,13 @@ abbrev pub try_first : KnownPassword → Option (List ℕ) → (Authenticated �
 try_first look (Some token) act = unless_success (is_success (verified look token)) look act
 try_first look None act = asks_password look act
 
-abbrev pub by_pass : Bool → Bool → KnownPassword → (Authenticated → Act) → Act
-by_pass true try look act = sees_items (λ items. with_first look items.auth_tok act)
-by_pass false true look act = sees_items (λ items. try_first look items.auth_tok act)
-by_pass false false look act = asks_password look act
+abbrev pub first_pass_or_asks : Bool → Bool → KnownPassword → (Authenticated → Act) → Act
+first_pass_or_asks true try look act = sees_items (λ items. with_first look items.auth_tok act)
+first_pass_or_asks false true look act = sees_items (λ items. try_first look items.auth_tok act)
+first_pass_or_asks false false look act = asks_password look act
 
 unfoldable pub verifies_token : PlainCall → KnownPassword → (Authenticated → Act) → Act
-verifies_token call look act = by_pass (has_argument (codes "use_first_pass") call.args)
+verifies_token call look act = first_pass_or_asks (has_argument (codes "use_first_pass") call.args)
     (has_argument (codes "try_first_pass") call.args) look act
 
 -- unless `nodelay` is given, a delay of two seconds is requested
@@ -68,13 +79,13 @@ abbrev pub delays : Bool → Act → Act
 delays true act = act
 delays false act = requests_delay 2000000 act
 
-abbrev pub by_open : Bool → PlainCall → KnownPassword → (Authenticated → Act) → Act
-by_open true call look act = act (Kept returns.Success)
-by_open false call look act =
+abbrev pub unless_open : Bool → PlainCall → KnownPassword → (Authenticated → Act) → Act
+unless_open true call look act = act (Kept returns.Success)
+unless_open false call look act =
     delays (has_argument (codes "nodelay") call.args) (verifies_token call look act)
 
 unfoldable pub judge_account : PlainCall → KnownPassword → (Authenticated → Act) → Act
-judge_account call look act = by_open (is_open call look) call look act
+judge_account call look act = unless_open (is_open call look) call look act
 
 unfoldable pub authenticates : PlainCall → (Authenticated → Act) → Act
 authenticates call act = asks_user (λ user. looks user (λ look. judge_account call look act))

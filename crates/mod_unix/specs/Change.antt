@@ -1,4 +1,20 @@
 -- pam_unix(8), chauthtok.
+--
+-- Its steps, from the entry point on:
+--   `changes_token`: the user is asked for, and the password looked up
+--   `change_by`: only a password in shadow can be changed
+--   `changes_entry`, `unless_token_is_kept`: with CHANGE_EXPIRED_AUTHTOK only one that is too old
+--   `checks_or_changes`: the first pass or the second
+-- The first pass:
+--   `tries_change`, `unless_caller_is_root`: root always may
+--   `unless_too_early`: not before the minimum age
+--   `asks_old_unless_empty`, `asks_old`: the old password is verified
+-- The second pass:
+--   `takes_token`, `authtok_or_asks`: with `use_authtok` AUTHTOK, else a token that is asked for twice
+--   `sets_new`: which becomes AUTHTOK
+--   `stores_token`, `stores_if_taken`: the new token's hash
+--   `changes_shadow`, `if_locked`: the account files are locked
+--   `changes_locked`, `replaces_shadow`: shadow is read again, and replaced
 use Rattle.std.specs.Prelude.{ℕ, ◌+◌, ◌==◌, ◌&&◌, ◌||◌, not, nat_lt, Bool, true, false, if◌then◌else◌, List, [], ◌∷◌, length, Option, Some, None, Result, Ok, Err, codes}
 use Rattle.std.specs.Str.{bytes_eq}
 use Rattle.pam_base.specs.declared.code.Code.{Code}
@@ -39,21 +55,21 @@ asks_old entry act =
     asks_token true (codes "Password: ") (λ token. act (hash_verified entry.hash token))
 
 -- a user without a password need not give the old one
-abbrev pub by_empty : Bool → Shadow → (Code → Act) → Act
-by_empty true entry act = act returns.Success
-by_empty false entry act = asks_old entry act
+abbrev pub asks_old_unless_empty : Bool → Shadow → (Code → Act) → Act
+asks_old_unless_empty true entry act = act returns.Success
+asks_old_unless_empty false entry act = asks_old entry act
 
-abbrev pub by_early : Bool → Shadow → (Code → Act) → Act
-by_early true entry act = act returns.AuthtokErr
-by_early false entry act = by_empty (is_empty entry.hash) entry act
+abbrev pub unless_too_early : Bool → Shadow → (Code → Act) → Act
+unless_too_early true entry act = act returns.AuthtokErr
+unless_too_early false entry act = asks_old_unless_empty (is_empty entry.hash) entry act
 
 -- root always may
-abbrev pub by_root : Bool → ℕ → Shadow → (Code → Act) → Act
-by_root true today entry act = act returns.Success
-by_root false today entry act = by_early (is_too_early today entry.last_change entry.min) entry act
+abbrev pub unless_caller_is_root : Bool → ℕ → Shadow → (Code → Act) → Act
+unless_caller_is_root true today entry act = act returns.Success
+unless_caller_is_root false today entry act = unless_too_early (is_too_early today entry.last_change entry.min) entry act
 
 unfoldable pub tries_change : ℕ → Shadow → (Code → Act) → Act
-tries_change today entry act = sees_caller (λ caller. by_root (caller == 0) today entry act)
+tries_change today entry act = sees_caller (λ caller. unless_caller_is_root (caller == 0) today entry act)
 
 -- ---- the second pass: the new token
 
@@ -79,12 +95,12 @@ sets_new (Some token) act = sets_item AuthTok token (act (Some token))
 sets_new None act = act None
 
 -- with `use_authtok` the token of an earlier module, else one that is asked for twice
-abbrev pub by_authtok : Bool → (Option (List ℕ) → Act) → Act
-by_authtok true act = sees_items (λ items. act (usable items.auth_tok))
-by_authtok false act = exchanges new_prompts (λ replies. sets_new (same_reply replies) act)
+abbrev pub authtok_or_asks : Bool → (Option (List ℕ) → Act) → Act
+authtok_or_asks true act = sees_items (λ items. act (usable items.auth_tok))
+authtok_or_asks false act = exchanges new_prompts (λ replies. sets_new (same_reply replies) act)
 
 unfoldable pub takes_token : PlainCall → (Option (List ℕ) → Act) → Act
-takes_token call act = by_authtok (has_argument (codes "use_authtok") call.args) act
+takes_token call act = authtok_or_asks (has_argument (codes "use_authtok") call.args) act
 
 -- ---- the second pass: the new hash
 
@@ -106,14 +122,14 @@ abbrev pub write_result : Bool → Code
 write_result true = returns.Success
 write_result false = returns.AuthtokErr
 
-abbrev pub by_text : Option (List ℕ) → (Code → Act) → Act
-by_text (Some text) act = replaces_file (codes "/etc/shadow") text (λ done. act (write_result done))
-by_text None act = act returns.AuthtokErr
+abbrev pub replaces_shadow : Option (List ℕ) → (Code → Act) → Act
+replaces_shadow (Some text) act = replaces_file (codes "/etc/shadow") text (λ done. act (write_result done))
+replaces_shadow None act = act returns.AuthtokErr
 
 -- shadow is read again, and replaced
 unfoldable pub changes_locked : List ℕ → List ℕ → ℕ → (Code → Act) → Act
 changes_locked user hash today act = reads_file (codes "/etc/shadow") account_limit (λ c.
-    by_text (changed_shadow user hash today c) act)
+    replaces_shadow (changed_shadow user hash today c) act)
 
 -- without the lock no file is read, and the result is AUTHTOK_ERR
 abbrev pub if_locked : List ℕ → List ℕ → ℕ → (Code → Act) → Bool → Act
@@ -126,13 +142,13 @@ unfoldable pub changes_shadow : List ℕ → List ℕ → ℕ → (Code → Act)
 changes_shadow user hash today act =
     holds_lock (codes "/etc/.pwd.lock") Record (if_locked user hash today act)
 
-abbrev pub by_token : PlainCall → List ℕ → Option (List ℕ) → (Code → Act) → Act
-by_token call user (Some token) act = sees_clock (λ clock. draws_word (λ word.
+abbrev pub stores_if_taken : PlainCall → List ℕ → Option (List ℕ) → (Code → Act) → Act
+stores_if_taken call user (Some token) act = sees_clock (λ clock. draws_word (λ word.
     changes_shadow user (hashed_token call.args word token) (day_of clock.moment) act))
-by_token call user None act = act returns.AuthtokErr
+stores_if_taken call user None act = act returns.AuthtokErr
 
 unfoldable pub stores_token : PlainCall → List ℕ → Option (List ℕ) → (Code → Act) → Act
-stores_token call user token act = by_token call user token act
+stores_token call user token act = stores_if_taken call user token act
 
 -- ---- both passes
 
@@ -145,19 +161,19 @@ abbrev pub is_kept : PlainCall → ℕ → Shadow → Bool
 is_kept call today entry =
     has_flag call.flags change_expired_authtok && not (asks_for_new (aged today entry))
 
-abbrev pub by_pass : Bool → PlainCall → List ℕ → ℕ → Shadow → (Code → Act) → Act
-by_pass true call user today entry act = tries_change today entry act
-by_pass false call user today entry act =
+abbrev pub checks_or_changes : Bool → PlainCall → List ℕ → ℕ → Shadow → (Code → Act) → Act
+checks_or_changes true call user today entry act = tries_change today entry act
+checks_or_changes false call user today entry act =
     takes_token call (λ token. stores_token call user token act)
 
-abbrev pub by_kept : Bool → PlainCall → List ℕ → ℕ → Shadow → (Code → Act) → Act
-by_kept true call user today entry act = act returns.Success
-by_kept false call user today entry act =
-    by_pass (has_flag call.flags prelim_check) call user today entry act
+abbrev pub unless_token_is_kept : Bool → PlainCall → List ℕ → ℕ → Shadow → (Code → Act) → Act
+unless_token_is_kept true call user today entry act = act returns.Success
+unless_token_is_kept false call user today entry act =
+    checks_or_changes (has_flag call.flags prelim_check) call user today entry act
 
 unfoldable pub changes_entry : PlainCall → List ℕ → Shadow → (Code → Act) → Act
 changes_entry call user entry act = sees_clock (λ clock.
-    by_kept (is_kept call (day_of clock.moment) entry) call user (day_of clock.moment) entry act)
+    unless_token_is_kept (is_kept call (day_of clock.moment) entry) call user (day_of clock.moment) entry act)
 
 unfoldable pub change_by : PlainCall → List ℕ → KnownPassword → (Code → Act) → Act
 change_by call user Unknown act = act returns.UserUnknown

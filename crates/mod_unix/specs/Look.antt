@@ -1,4 +1,9 @@
 -- What is known of a user's password (passwd(5), shadow(5)).
+--
+-- Its steps:
+--   `looks`: passwd is read
+--   `after_passwd`: whether the user has an entry there
+--   `shadow_if_x`: an entry with `x` means that the hash is in shadow
 use Rattle.std.specs.Prelude.{ℕ, Bool, true, false, List, Option, Some, None, Result, Ok, Err, codes}
 use Rattle.std.specs.Str.{bytes_eq}
 use Rattle.account_db.specs.declared.fault.DbFault.{DbFault}
@@ -44,20 +49,20 @@ shadow_in user content.Absent = Unavailable
 shadow_in user content.Unreadable = Unavailable
 
 -- a password field `x` means that the hash is in shadow; any other is the hash
-abbrev pub by_x : Bool → List ℕ → List ℕ → (KnownPassword → Act) → Act
-by_x true user hash act =
+abbrev pub shadow_if_x : Bool → List ℕ → List ℕ → (KnownPassword → Act) → Act
+shadow_if_x true user hash act =
     reads_file (codes "/etc/shadow") account_limit (λ c. act (shadow_in user c))
-by_x false user hash act = act (Plain hash)
+shadow_if_x false user hash act = act (Plain hash)
 
 abbrev pub is_x : List ℕ → Bool
 is_x hash = bytes_eq hash (codes "x")
 
-abbrev pub by_field : List ℕ → Field → (KnownPassword → Act) → Act
-by_field user field.Unreadable act = act Unavailable
-by_field user field.Missing act = act Unknown
-by_field user (field.Holds hash) act = by_x (is_x hash) user hash act
+abbrev pub after_passwd : List ℕ → Field → (KnownPassword → Act) → Act
+after_passwd user field.Unreadable act = act Unavailable
+after_passwd user field.Missing act = act Unknown
+after_passwd user (field.Holds hash) act = shadow_if_x (is_x hash) user hash act
 
 -- what is known of a user's password is looked up
 unfoldable pub looks : List ℕ → (KnownPassword → Act) → Act
 looks user act =
-    reads_file (codes "/etc/passwd") account_limit (λ c. by_field user (field_in user c) act)
+    reads_file (codes "/etc/passwd") account_limit (λ c. after_passwd user (field_in user c) act)

@@ -1,4 +1,7 @@
 -- pam_unix(8).
+--
+-- Its steps:
+--   `unix_act`, `act_of_func`: what each of the six functions does
 use Rattle.std.specs.Prelude.{ℕ, ◌==◌, if◌then◌else◌, List, [], ◌∷◌, Option, Some, None}
 use Rattle.std.specs.List.{find}
 use Rattle.std.specs.Option.{unwrap_or}
@@ -35,16 +38,16 @@ code_in (Some (b ∷ c ∷ cs)) = returns.Success
 abbrev pub kept_code : List NamedData → Code
 kept_code held = code_in (payload_named setcred_return held)
 
-abbrev pub by_func : Func → PlainCall → Act
-by_func Authenticate call = authenticates call keeps_for_setcred
-by_func SetCred call = sees_data (λ held. answers (kept_code held))
-by_func AcctMgmt call = checks_account answers
-by_func ChAuthTok call = changes_token call answers
-by_func OpenSession call = answers returns.Success
-by_func CloseSession call = answers returns.Success
+abbrev pub act_of_func : Func → PlainCall → Act
+act_of_func Authenticate call = authenticates call keeps_for_setcred
+act_of_func SetCred call = sees_data (λ held. answers (kept_code held))
+act_of_func AcctMgmt call = checks_account answers
+act_of_func ChAuthTok call = changes_token call answers
+act_of_func OpenSession call = answers returns.Success
+act_of_func CloseSession call = answers returns.Success
 
 abbrev pub unix_act : PlainCall → Act
-unix_act call = by_func call.func call
+unix_act call = act_of_func call.func call
 
 abbrev pub unix_plays : Plays
 unix_plays = plays_by unix_act

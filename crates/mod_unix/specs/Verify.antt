@@ -1,4 +1,9 @@
 -- Whether a token is the user's (crypt(3), shadow(5)).
+--
+-- Its steps:
+--   `verified`: by what is known of the password
+--   `hash_verified`: a locked hash matches nothing
+--   `hash_compared`: the hash that was made with the user's
 use Rattle.std.specs.Prelude.{ℕ, Bool, true, ◌==◌, ◌||◌, nat_lt, if◌then◌else◌, List, [], ◌∷◌, length, Result, Ok, Err}
 use Rattle.std.specs.Str.{bytes_eq}
 use Rattle.pam_base.specs.declared.code.Code.{Code}
@@ -13,15 +18,15 @@ abbrev pub is_locked : List ℕ → Bool
 is_locked [] = true
 is_locked (b ∷ bs) = b == 33 || b == 42
 
-abbrev pub by_hash : List ℕ → Result (List ℕ) SettingFault → Code
-by_hash hash (Ok made) = if bytes_eq made hash then returns.Success else returns.AuthErr
-by_hash hash (Err fault) = returns.AuthinfoUnavail
+abbrev pub hash_compared : List ℕ → Result (List ℕ) SettingFault → Code
+hash_compared hash (Ok made) = if bytes_eq made hash then returns.Success else returns.AuthErr
+hash_compared hash (Err fault) = returns.AuthinfoUnavail
 
 -- a token is the user's if its hash, with the user's hash as the setting, is the user's hash; a token of more than 512
 -- bytes isn't
 unfoldable pub hash_verified : List ℕ → List ℕ → Code
 hash_verified hash token = if is_locked hash || nat_lt 512 (length token) then returns.AuthErr
-    else by_hash hash (crypted hash token)
+    else hash_compared hash (crypted hash token)
 
 abbrev pub verified : KnownPassword → List ℕ → Code
 verified Unknown token = returns.UserUnknown

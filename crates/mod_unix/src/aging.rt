@@ -1,5 +1,5 @@
 ghost use Rattle.std.specs.Prelude.{◌≡◌, ◌≤◌};
-ghost use Rattle.mod_unix.specs.Aging.{aged, by_age, by_change, day_of, is_past, is_reached};
+ghost use Rattle.mod_unix.specs.Aging.{aged, code_at_age, code_after_change, day_of, is_past, is_reached};
 
 use account_db::Shadow;
 use pam_base::Code;
@@ -19,7 +19,7 @@ pub(crate) fn aged(today: u64, entry: &Shadow) -> Code
     if is_reached(entry.expire, today) {
         return Code::AcctExpired;
     }
-    by_change(today, entry.last_change, entry.max, entry.inactive)
+    code_after_change(today, entry.last_change, entry.max, entry.inactive)
 }
 
 fn is_reached(day: Option<u32>, today: u64) -> bool
@@ -31,8 +31,8 @@ fn is_reached(day: Option<u32>, today: u64) -> bool
     }
 }
 
-fn by_change(today: u64, last: Option<u32>, max: Option<u32>, inactive: Option<u32>) -> Code
-    ensures { result ≡ by_change today last max inactive }
+fn code_after_change(today: u64, last: Option<u32>, max: Option<u32>, inactive: Option<u32>) -> Code
+    ensures { result ≡ code_after_change today last max inactive }
 {
     match last {
         Some(last) => {
@@ -41,15 +41,15 @@ fn by_change(today: u64, last: Option<u32>, max: Option<u32>, inactive: Option<u
             } else if today < u64::from(last) {
                 Code::Success
             } else {
-                by_age(today - u64::from(last), max, inactive)
+                code_at_age(today - u64::from(last), max, inactive)
             }
         }
         None => Code::Success,
     }
 }
 
-fn by_age(age: u64, max: Option<u32>, inactive: Option<u32>) -> Code
-    ensures { result ≡ by_age age max inactive }
+fn code_at_age(age: u64, max: Option<u32>, inactive: Option<u32>) -> Code
+    ensures { result ≡ code_at_age age max inactive }
 {
     match max {
         Some(max) => {

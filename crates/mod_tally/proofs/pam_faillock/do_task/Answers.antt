@@ -1,7 +1,7 @@
 use Rattle.mod_tally.proofs.pam_faillock.do_task.Goals as goal
 
 pub returns-in-Preauth-clause-told : goal.returns-in-Preauth-clause-told
-returns-in-Preauth-clause-told g c = λ tells clock ticks conv. rw c.in-Preauth.is (rw c.in-Preauth.is at (c.by_file.ensures.told tells clock ticks conv))
+returns-in-Preauth-clause-told g c = λ tells clock ticks conv. rw c.in-Preauth.is (rw c.in-Preauth.is at (c.task_on_file.ensures.told tells clock ticks conv))
 
 pub returns-in-AuthFail-clause-told : goal.returns-in-AuthFail-clause-told
 returns-in-AuthFail-clause-told g c = λ tells clock ticks conv. rw c.in-AuthFail.is (rw c.in-AuthFail.is at (c.lock_file.ensures.told tells clock ticks conv))

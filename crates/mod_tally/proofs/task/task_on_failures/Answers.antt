@@ -1,5 +1,5 @@
 use Rattle.std.proofs.Common.{sym, ◌∙◌}
-use Rattle.mod_tally.proofs.task.by_task.Goals as goal
+use Rattle.mod_tally.proofs.task.task_on_failures.Goals as goal
 
 pub returns-then-locked-clause-told : goal.returns-then-locked-clause-told
 returns-then-locked-clause-told g c = λ tells clock ticks conv act known code end rest.

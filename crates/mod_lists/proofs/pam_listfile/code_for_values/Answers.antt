@@ -1,4 +1,4 @@
-use Rattle.mod_lists.proofs.pam_listfile.by_values.Goals as goal
+use Rattle.mod_lists.proofs.pam_listfile.code_for_values.Goals as goal
 
 pub returns-in-Unset-clause-told : goal.returns-in-Unset-clause-told
 returns-in-Unset-clause-told g c = λ tells room clock known. rw (c.in-Unset.is, c.verdict.ensures) (c.act_steps.ensures.answers _ _ _)
@@ -9,4 +9,4 @@ returns-in-Unknown-clause-told g c = λ tells room clock known. rw (c.in-Unknown
 pub returns-clause-told : goal.returns-clause-told
 returns-clause-told g c = λ tells room clock known.
     rw c.in-These.is (c.in_ok-content.ensures.told tells _ clock _ _ _ _
-    (rw (c.by_content.ensures, c.error_answer-error.ensures) (c.act_steps.ensures.answers _ _ _)))
+    (rw (c.file_verdict.ensures, c.error_answer-error.ensures) (c.act_steps.ensures.answers _ _ _)))
