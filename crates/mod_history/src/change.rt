@@ -197,14 +197,7 @@ fn compare(
         return Ok(Code::AuthtokErr);
     };
     let hashes = hashes_of(user, &history);
-    let refused = is_refused(
-        asked.alloc,
-        asked.call,
-        asked.process.caller,
-        token,
-        hash,
-        hashes,
-    )?;
+    let refused = is_refused(asked.call, asked.process.caller, token, hash, hashes);
     if refused {
         refuse_token(asked.alloc, transaction, conv)?;
         return Ok(Code::AuthtokErr);

@@ -138,14 +138,13 @@ fn remember_in_history(
     };
     let hashes = hashes_of(user, &history);
     let refused = is_refused_now(
-        asked.alloc,
         asked.call,
         asked.process.caller,
         token,
         hash,
         earlier,
         hashes,
-    )?;
+    );
     if refused {
         return Ok(None);
     }

@@ -1,4 +1,4 @@
-ghost use Rattle.std.specs.Prelude.{◌≡◌, ◌≤◌, None, IsTrue, IfOk, OnOk, length, false};
+ghost use Rattle.std.specs.Prelude.{◌≡◌, ◌≤◌, None, IsTrue, OnOk, length, false};
 ghost use Rattle.std.specs.List.{list_any};
 ghost use Rattle.std.specs.Str.{bytes_eq};
 ghost use Rattle.item_store.specs.Items.{with_text};
@@ -19,45 +19,40 @@ use pam_room::{Call, Transaction};
 use sha_crypt::crypt;
 use std::alloc::Global;
 
-/// Whether a token is refused: the user has it or had it, and that matters for the caller.
+/// Whether a token is refused: the user has it or had it, and that matters for the caller. Nothing
+/// is allocated, here and below, so a token that was used can't come out as out of memory.
 pub(crate) fn is_refused(
-    alloc: Global,
     call: &Call,
     caller: u32,
     token: &[u8],
     hash: &[u8],
     hashes: &[Text],
-) -> Result<bool, NoMemory>
+) -> bool
     requires { length token.now ≤ 512 }
-    ensures { IfOk result (λ refused. refused ≡ is_refused call.now.args.now caller token.now
-        hash.now hashes.now) }
+    ensures { result ≡ is_refused call.now.args.now caller token.now hash.now hashes.now }
 {
-    if !is_enforced(call, caller) {
-        return Ok(false);
-    }
-    was_used(alloc, token, hash, hashes)
+    is_enforced(call, caller) && was_used(token, hash, hashes)
 }
 
-/// The same, if by the user's earlier hashes it isn't refused: only hashes that are new are compared.
+/// The same, if by the user's earlier hashes it isn't refused: only hashes that are new are
+/// compared.
 pub(crate) fn is_refused_now(
-    alloc: Global,
     call: &Call,
     caller: u32,
     token: &[u8],
     hash: &[u8],
     earlier: &[Text],
     hashes: &[Text],
-) -> Result<bool, NoMemory>
+) -> bool
     requires short { length token.now ≤ 512 }
     requires earlier { is_refused call.now.args.now caller token.now hash.now earlier.now
         ≡ false }
-    ensures { IfOk result (λ refused. refused ≡ is_refused call.now.args.now caller token.now
-        hash.now hashes.now) }
+    ensures { result ≡ is_refused call.now.args.now caller token.now hash.now hashes.now }
 {
     if !is_enforced(call, caller) {
-        return Ok(false);
+        return false;
     }
-    has_new_hash(alloc, token, hash, earlier, hashes)
+    has_new_hash(token, hash, earlier, hashes)
 }
 
 // Whether root, too, may not use a password again.
@@ -69,65 +64,53 @@ fn is_enforced(call: &Call, caller: u32) -> bool
 
 // Whether the user has the token or had it.
 #[tactic(auto, unfolding(crate::specs::Pwhistory::was_used))]
-fn was_used(alloc: Global, token: &[u8], hash: &[u8], hashes: &[Text]) -> Result<bool, NoMemory>
+fn was_used(token: &[u8], hash: &[u8], hashes: &[Text]) -> bool
     requires { length token.now ≤ 512 }
-    ensures { IfOk result (λ used. used ≡ was_used token.now hash.now hashes.now) }
+    ensures { result ≡ was_used token.now hash.now hashes.now }
 {
-    if has_hash(alloc, token, hash)? {
-        return Ok(true);
+    if has_hash(token, hash) {
+        return true;
     }
     let mut rest = hashes;
     while let [earlier, after @ ..] = rest {
-        if has_hash(alloc, token, earlier.bytes())? {
-            return Ok(true);
+        if has_hash(token, earlier.bytes()) {
+            return true;
         }
         rest = after;
     }
-    Ok(false)
+    false
 }
 
 // Whether the user had the token, who by the earlier hashes neither has it nor had it.
 #[tactic(auto, unfolding(crate::specs::Pwhistory::was_used))]
-fn has_new_hash(
-    alloc: Global,
-    token: &[u8],
-    hash: &[u8],
-    earlier: &[Text],
-    hashes: &[Text],
-) -> Result<bool, NoMemory>
+fn has_new_hash(token: &[u8], hash: &[u8], earlier: &[Text], hashes: &[Text]) -> bool
     requires short { length token.now ≤ 512 }
     requires earlier { was_used token.now hash.now earlier.now ≡ false }
-    ensures { IfOk result (λ used. used ≡ was_used token.now hash.now hashes.now) }
+    ensures { result ≡ was_used token.now hash.now hashes.now }
 {
     let mut rest = hashes;
     while let [other, after @ ..] = rest {
-        if is_new_hash(alloc, token, hash, earlier, other.bytes())? {
-            return Ok(true);
+        if is_new_hash(token, hash, earlier, other.bytes()) {
+            return true;
         }
         rest = after;
     }
-    Ok(false)
+    false
 }
 
 // Whether a hash is the token's. One of the earlier ones isn't.
-fn is_new_hash(
-    alloc: Global,
-    token: &[u8],
-    hash: &[u8],
-    earlier: &[Text],
-    other: &[u8],
-) -> Result<bool, NoMemory>
+fn is_new_hash(token: &[u8], hash: &[u8], earlier: &[Text], other: &[u8]) -> bool
     requires short { length token.now ≤ 512 }
     requires earlier { was_used token.now hash.now earlier.now ≡ false }
-    ensures { IfOk result (λ has. has ≡ has_hash token.now other.now) }
+    ensures { result ≡ has_hash token.now other.now }
 {
     if other == hash {
-        return Ok(false);
+        return false;
     }
     if is_among(other, earlier) {
-        return Ok(false);
+        return false;
     }
-    has_hash(alloc, token, other)
+    has_hash(token, other)
 }
 
 fn is_among(hash: &[u8], hashes: &[Text]) -> bool
@@ -137,14 +120,13 @@ fn is_among(hash: &[u8], hashes: &[Text]) -> bool
 }
 
 // Whether the token's hash, under this one as the setting, is this one (`crypt(3)`).
-fn has_hash(alloc: Global, token: &[u8], hash: &[u8]) -> Result<bool, NoMemory>
+fn has_hash(token: &[u8], hash: &[u8]) -> bool
     requires { length token.now ≤ 512 }
-    ensures { IfOk result (λ has. has ≡ has_hash token.now hash.now) }
+    ensures { result ≡ has_hash token.now hash.now }
 {
-    match crypt(alloc, hash, token) {
-        Ok(made) => Ok(made.bytes() == hash),
-        Err(Refuse::NoMemory) => Err(NoMemory),
-        Err(Refuse::Named(_)) => Ok(false),
+    match crypt(hash, token) {
+        Ok(made) => made.bytes() == hash,
+        Err(_) => false,
     }
 }
 

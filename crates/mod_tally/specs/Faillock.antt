@@ -125,6 +125,13 @@ if_taken lock act false = act returns.ServiceErr
 abbrev pub tries_lock : List ℕ → (Code → Act) → Act
 tries_lock lock act = holds_lock lock Whole (if_taken lock act)
 
+-- whether the failures in the file lock the user; acct_mgmt clears them even then
+abbrev pub is_denied : Task → PlainSettings → ℕ → List Failure → Bool
+is_denied Clear s now failures = false
+is_denied Preauth s now failures = is_locked s.deny s.interval s.unlock now failures
+is_denied AuthFail s now failures = is_locked s.deny s.interval s.unlock now failures
+is_denied AuthSucc s now failures = is_locked s.deny s.interval s.unlock now failures
+
 -- with the failures in the file: `preauth`, `authfail`, `authsucc`, acct_mgmt
 abbrev pub task_on_failures : Task → PlainSettings → List ℕ → List ℕ → List Failure → (Code → Act) → Act
 task_on_failures Preauth s file lock failures act = unless_locked s failures (tries_lock lock) act

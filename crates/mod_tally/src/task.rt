@@ -1,11 +1,11 @@
-ghost use Rattle.std.specs.Prelude.{◌≡◌, IsTrue, IfOk, OnErr, ◌∷◌, [], ◌++◌};
+ghost use Rattle.std.specs.Prelude.{◌≡◌, Ok, IsTrue, IfOk, OnErr, ◌∷◌, [], ◌++◌};
 ghost use Rattle.conv_port.specs.Conv.{ConvState};
 ghost use Rattle.pam_outside.specs.Time.{ClockState};
 ghost use Rattle.module_acts.specs.Act.{StepsTo, Yields};
 ghost use Rattle.module_acts.specs.Seen.{scene_seen};
 ghost use Rattle.mod_tally.specs.Settings.{plain_settings};
 ghost use Rattle.mod_tally.specs.Tally.{counting, tally_text};
-ghost use Rattle.mod_tally.specs.Faillock.{task_on_failures, clears, new_failure, tries_lock, writes_tally};
+ghost use Rattle.mod_tally.specs.Faillock.{task_on_failures, clears, is_denied, new_failure, tries_lock, writes_tally};
 
 use crate::counted::{counting_text, is_locked};
 use crate::failure::new_failure;
@@ -18,7 +18,8 @@ use pam_base::{Code, NoMemory, Text};
 use pam_outside::Vault;
 use std::alloc::Global;
 
-/// Does what is to be done with the failures in the file.
+/// Does what is to be done with the failures in the file. If they lock the user, the result is
+/// AUTH_ERR, and never NoMemory: nothing is allocated for that.
 pub(crate) fn task_on_failures(
     job: &Job,
     failures: Failures,
@@ -34,6 +35,8 @@ pub(crate) fn task_on_failures(
         (plain_settings job.now.settings) job.now.file.now job.now.lock.now failures)
         (scene_seen job.now.seen.now conv (vault_holds vault.old) clock)
         (scene_seen job.now.seen.now conv (vault_holds vault.new) clock)) }
+    ensures denied { IsTrue (is_denied job.now.task (plain_settings job.now.settings) moment
+        failures) → result ≡ Ok Code.AuthErr }
 {
     laws::act_steps();
     let locked = is_locked(

@@ -1,9 +1,10 @@
-ghost use Rattle.std.specs.Prelude.{◌≡◌, IsTrue};
+ghost use Rattle.std.specs.Prelude.{◌≡◌, ◌≢◌, None, IsOk, IsTrue, OnErr, codes};
 ghost use Rattle.pam_outside.specs.Files.{VaultState};
 ghost use Rattle.pam_outside.specs.Time.{ClockState};
 ghost use Rattle.pam_room.specs.Plain.{plain_call, plain_process};
 ghost use Rattle.pam_room.specs.State.{PlainProcess};
 ghost use Rattle.module_acts.specs.Returns.{Returns, scene_of_parts};
+ghost use Rattle.module_acts.specs.Arguments.{has_argument};
 ghost use Rattle.module_acts.specs.OnlyTalks.{OnlyTalks};
 ghost use Rattle.mod_unix.specs.Authenticate.{asks_password, authenticates, has_empty_hash, is_open, is_success, verifies_token};
 
@@ -24,7 +25,9 @@ pub(crate) enum Authenticated {
     Unkept(Code),
 }
 
-/// Authenticates the user.
+/// Authenticates the user. If memory runs out, or the user can't be asked, no password was taken:
+/// the comparison allocates nothing, so a wrong password can't come out as out of memory. (With
+/// `try_first_pass` AUTHTOK is compared before the user is asked, which takes memory.)
 pub(crate) fn authenticate(
     alloc: Global,
     call: &Call,
@@ -44,6 +47,8 @@ pub(crate) fn authenticate(
         (plain_process process.now))
         (scene_of_parts transaction.new (conv_holds conv.new) (vault_holds vault.new) clock
         (plain_process process.now)) }
+    ensures refused { transaction.old.items.user ≢ None →
+        OnErr result (transaction.new.items ≡ transaction.old.items) }
     ensures talks { OnlyTalks transaction.old transaction.new }
 {
     laws::talking();
@@ -92,13 +97,16 @@ fn verify_token(
         Returns result (verifies_token (plain_call call.now) look.now)
         (scene_of_parts transaction.old (conv_holds conv.old) vault clock process)
         (scene_of_parts transaction.new (conv_holds conv.new) vault clock process) }
+    ensures first { IsTrue (has_argument (codes "use_first_pass") call.now.args.now) →
+        IsOk result }
+    ensures refused { OnErr result (transaction.new.items ≡ transaction.old.items) }
     ensures talks { OnlyTalks transaction.old transaction.new }
 {
     module_acts::laws::act_steps();
     laws::talking();
     if has_argument(b"use_first_pass", call.args) {
         return match get_item(&transaction.items, ItemName::AuthTok) {
-            Some(token) => Ok(Authenticated::Kept(verify(alloc, look, token)?)),
+            Some(token) => Ok(Authenticated::Kept(verify(look, token))),
             None => Ok(Authenticated::Unkept(Code::AuthErr)),
         };
     }
@@ -106,7 +114,7 @@ fn verify_token(
         return ask_password(alloc, look, transaction, conv);
     }
     let code = match get_item(&transaction.items, ItemName::AuthTok) {
-        Some(token) => verify(alloc, look, token)?,
+        Some(token) => verify(look, token),
         None => return ask_password(alloc, look, transaction, conv),
     };
     if is_success(code) {
@@ -134,11 +142,12 @@ fn ask_password(
         Returns result (asks_password look.now)
         (scene_of_parts transaction.old (conv_holds conv.old) vault clock process)
         (scene_of_parts transaction.new (conv_holds conv.new) vault clock process) }
+    ensures refused { OnErr result (transaction.new.items ≡ transaction.old.items) }
     ensures talks { OnlyTalks transaction.old transaction.new }
 {
     require_token(alloc, transaction, conv, false, b"Password: ")?;
     match get_item(&transaction.items, ItemName::AuthTok) {
-        Some(token) => Ok(Authenticated::Kept(verify(alloc, look, token)?)),
+        Some(token) => Ok(Authenticated::Kept(verify(look, token))),
         None => unreachable!(),
     }
 }

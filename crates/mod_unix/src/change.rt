@@ -230,11 +230,12 @@ fn ask_old(
         Returns result (asks_old entry.now)
         (scene_of_parts transaction.old (conv_holds conv.old) vault clock process)
         (scene_of_parts transaction.new (conv_holds conv.new) vault clock process) }
+    ensures refused { OnErr result (transaction.new.items ≡ transaction.old.items) }
     ensures talks { OnlyTalks transaction.old transaction.new }
 {
     require_token(alloc, transaction, conv, true, b"Password: ")?;
     match get_item(&transaction.items, ItemName::OldAuthTok) {
-        Some(token) => Ok(verify_hash(alloc, entry.hash.bytes(), token)?),
+        Some(token) => Ok(verify_hash(entry.hash.bytes(), token)),
         None => unreachable!(),
     }
 }

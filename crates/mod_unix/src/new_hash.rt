@@ -4,7 +4,7 @@ ghost use Rattle.sha_crypt.specs.Characters.{characters};
 ghost use Rattle.mod_unix.specs.NewHash.{hashed_token, method_text, new_setting, rounds_in, rounds_of, short_number};
 
 use module_acts::has_argument;
-use pam_base::{MAX_TEXT, NoMemory, Refuse, Text, number_in};
+use pam_base::{MAX_TEXT, NoMemory, Text, number_in};
 use pam_room::Call;
 use sha_crypt::{crypt, laws};
 use std::alloc::Global;
@@ -24,12 +24,9 @@ pub(crate) fn hashed_token(
 {
     laws::plain_settings_have_no_fault();
     let setting = new_setting(alloc, call, word)?;
-    match crypt(alloc, setting.bytes(), token) {
-        Ok(hash) => Ok(hash),
-        Err(refused) => match refused {
-            Refuse::NoMemory => Err(NoMemory),
-            Refuse::Named(_) => unreachable!(),
-        },
+    match crypt(setting.bytes(), token) {
+        Ok(hash) => Ok(Text::from_bytes(alloc, hash.bytes())?),
+        Err(_) => unreachable!(),
     }
 }
 

@@ -19,4 +19,4 @@ pub returns-clause-told : goal.returns-clause-told
 unfolding asks_password
 returns-clause-told g c = λ talks vault clock process act known code end rest.
     c.in_ok-require_token.ensures.told talks vault clock process (λ token. act (Kept (verified c.args.look.now token))) known code end
-    (kept c.args.look.now _ c.in-Some.token.now _ act known _ _ _ c.in-Some.ensures c.in_ok-verify-in-Some.ensures rest)
+    (kept c.args.look.now _ c.in-Some.token.now _ act known _ _ _ c.in-Some.ensures c.verify.ensures rest)

@@ -2,9 +2,9 @@ use Rattle.std.proofs.Common.{refl}
 use Rattle.mod_unix.proofs.Passing.{asks, lacks_token, tries, tries_nothing, tries_well, uses_token}
 use Rattle.mod_unix.proofs.authenticate.verify_token.Goals as goal
 
-pub returns-in_ok-verify-in-Some-clause-told : goal.returns-in_ok-verify-in-Some-clause-told
-returns-in_ok-verify-in-Some-clause-told g c = λ talks vault clock process.
-    uses_token c.act_steps.ensures.seeing _ _ _ _ _ _ c.if-has_argument.ensures c.in-Some.ensures c.in_ok-verify-in-Some.ensures refl
+pub returns-in-Some-clause-told : goal.returns-in-Some-clause-told
+returns-in-Some-clause-told g c = λ talks vault clock process.
+    uses_token c.act_steps.ensures.seeing _ _ _ _ _ _ c.if-has_argument.ensures c.in-Some.ensures c.verify.ensures refl
 
 pub returns-in-None-clause-told : goal.returns-in-None-clause-told
 returns-in-None-clause-told g c = λ talks vault clock process.
@@ -20,8 +20,8 @@ returns-in-None-get_item-clause-told g c = λ talks vault clock process.
 
 pub returns-then-is_success-clause-told : goal.returns-then-is_success-clause-told
 returns-then-is_success-clause-told g c = λ talks vault clock process.
-    tries_well c.act_steps.ensures.seeing _ _ _ _ _ _ c.if-has_argument.ensures c.if-not-has_argument.ensures c.in-Some-get_item.ensures c.in_ok-code-in-Some-get_item.ensures c.if-is_success.ensures refl
+    tries_well c.act_steps.ensures.seeing _ _ _ _ _ _ c.if-has_argument.ensures c.if-not-has_argument.ensures c.in-Some-get_item.ensures c.verify-code.ensures c.if-is_success.ensures refl
 
 pub returns-clause-told : goal.returns-clause-told
 returns-clause-told g c = λ talks vault clock process.
-    tries c.act_steps.ensures.seeing _ _ _ _ c.ask_password-2.result (c.ask_password-2.ensures.told talks vault clock process) c.if-has_argument.ensures _ _ c.if-not-has_argument.ensures c.in-Some-get_item.ensures c.in_ok-code-in-Some-get_item.ensures c.if-is_success.ensures
+    tries c.act_steps.ensures.seeing _ _ _ _ c.ask_password-2.result (c.ask_password-2.ensures.told talks vault clock process) c.if-has_argument.ensures _ _ c.if-not-has_argument.ensures c.in-Some-get_item.ensures c.verify-code.ensures c.if-is_success.ensures

@@ -18,4 +18,4 @@ pub returns-clause-told : goal.returns-clause-told
 unfolding asks_old
 returns-clause-told g c = λ talks vault clock process act known code end rest.
     c.in_ok-require_token.ensures.told talks vault clock process (λ token. act (hash_verified c.args.entry.now.hash token)) known code end
-    (verified_so _ _ c.in-Some.token.now _ act known _ _ _ c.in-Some.ensures (rw c.bytes.ensures at c.in_ok-verify_hash-in-Some.ensures) rest)
+    (verified_so _ _ c.in-Some.token.now _ act known _ _ _ c.in-Some.ensures (rw c.bytes.ensures at c.verify_hash.ensures) rest)
