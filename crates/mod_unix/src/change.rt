@@ -173,7 +173,7 @@ fn asks_for_new(code: Code) -> bool
     code == Code::NewAuthtokReqd
 }
 
-// Whether the token may be changed.
+// Whether the token may be changed. If memory runs out, the old one wasn't taken.
 fn try_change(
     alloc: Global,
     today: u64,
@@ -189,6 +189,7 @@ fn try_change(
         (plain_process process.now))
         (scene_of_parts transaction.new (conv_holds conv.new) vault clock
         (plain_process process.now)) }
+    ensures refused { OnErr result (transaction.new.items ≡ transaction.old.items) }
     ensures talks { OnlyTalks transaction.old transaction.new }
 {
     laws::acting();
