@@ -1,5 +1,5 @@
 -- What holds for each command, from what was proved about its run.
-use Rattle.std.proofs.Common.{◌≡◌, ◌≢◌, ◌⊎◌, inl, inr, ℕ, List, IsTrue, Option, Some, None, Result, Ok, Err, IfOk, refl, sym, ap, ◌∙◌, subst, subst₂, arith}
+use Rattle.std.proofs.Common.{◌≡◌, ℕ, List, IsTrue, Option, Some, Result, Ok, Err, IfOk, sym, ◌∙◌, subst, subst₂, arith}
 use Rattle.pam_base.specs.declared.fault.ScriptKind.{ScriptKind}
 use Rattle.pam_outside.specs.Counts.{RisesIf, Rose}
 use Rattle.pam_outside.specs.Streams.{SourceState, SinkState}
@@ -11,6 +11,8 @@ use Rattle.record_reader.specs.declared.ending.Stop.TheVariants.{NoMemory, Write
 use Rattle.cmd_login.specs.cmd_run.specs.Reading.{WritesScript}
 use Rattle.cmd_login.specs.cmd_run.specs.State.{setting_of}
 use Rattle.cmd_wire.specs.frame_stream.specs.declared.fault.FrameFault.{FrameFault}
+use Rattle.cmd_all.specs.declared.exit.Exit.TheVariants as exits
+use Rattle.cmd_all.specs.Exit.{audit_exit, check_exit, exit_status, frames_exit, generate_exit, login_exit, script_exit, tally_exit}
 use Rattle.cmd_all.specs.ByCommand.{Around, AuditsSo, ChecksSo, GeneratesSo, GoesBy, IfAllTold, LogsInSo, Object, ReadCauses, ReadsNone, ReportsFrames, ReportsScript, RunsSo, Setup, TalliesSo, WiresSo}
 use Rattle.cmd_check.specs.declared.finding.Checked.{Checked}
 use Rattle.cmd_check.specs.declared.finding.Checked.TheVariants as founds
@@ -23,13 +25,12 @@ use Rattle.cmd_tally.specs.declared.finding.Tallied.TheVariants as lists
 use Rattle.cmd_wire.specs.frame_stream.specs.declared.fault.FrameFault.TheVariants.{BadFrame, TooManyFrames}
 use Rattle.cmd_audit.specs.declared.finding.Audited.{Audited}
 use Rattle.cmd_audit.specs.declared.finding.Audited.TheVariants as audits_found
-use Rattle.cmd_all.specs.Audit.{audit_status}
-use Rattle.cmd_all.specs.Generate.{IsGenerateStatus, generate_status}
-use Rattle.cmd_all.specs.Login.{IsLoginStatus, login_status}
-use Rattle.cmd_all.specs.Status.{IsCheckStatus, IsTallyStatus, check_status, tally_status}
+use Rattle.cmd_all.specs.Generate.{IsGenerateStatus}
+use Rattle.cmd_all.specs.Login.{IsLoginStatus}
+use Rattle.cmd_all.specs.Status.{IsCheckStatus, IsTallyStatus}
 use Rattle.cmd_all.specs.Command.{Command, runs, checks, logs_in, generates, tallies, audits, wires}
-use Rattle.cmd_all.specs.Run.{Completes, IsStatus, ReadsBy, Runs, opening, status_of}
-use Rattle.cmd_all.specs.Wire.{IsReadThrough, IsWireStatus, ReadsFramesBy, Serves, WireCompletes, wire_status}
+use Rattle.cmd_all.specs.Run.{Completes, IsStatus, ReadsBy, Runs}
+use Rattle.cmd_all.specs.Wire.{IsReadThrough, IsWireStatus, ReadsFramesBy, Serves, WireCompletes}
 use Rattle.cmd_all.proofs.Alone.{is_accepted, is_refused}
 use Rattle.cmd_all.proofs.Telling.{done_of, refused_of, unread_of}
 use Rattle.cmd_all.proofs.Wiring.{answered}
@@ -37,14 +38,16 @@ use Rattle.cmd_all.proofs.Wiring.{answered}
 -- ---- failures
 
 module _ (status before now : ℕ) where
-  pub run_read_fault : (result : Result (Ending ScriptKind) Stop) → status ≡ status_of result → IfOk result (λ ending. RisesIf (has_read_fault (Ok (Some ending))) before now) → status ≡ 5 → Rose before now
+  pub run_read_fault : (result : Result (Ending ScriptKind) Stop) → status ≡ exit_status (script_exit result)
+      → IfOk result (λ ending. RisesIf (has_read_fault (Ok (Some ending))) before now) → status ≡ exit_status exits.ReadFault → Rose before now
   run_read_fault (Ok Done) is rises five = absurd (omega (arith, is, five))
   run_read_fault (Ok ReadFault) is rises five = rises
   run_read_fault (Ok (Refused kind)) is rises five = absurd (omega (arith, is, five))
   run_read_fault (Err NoMemory) is rises five = absurd (omega (arith, is, five))
   run_read_fault (Err WriteFault) is rises five = absurd (omega (arith, is, five))
 
-  pub run_write_fault : (result : Result (Ending ScriptKind) Stop) → status ≡ status_of result → RisesIf (has_write_fault result) before now → status ≡ 6 → Rose before now
+  pub run_write_fault : (result : Result (Ending ScriptKind) Stop) → status ≡ exit_status (script_exit result)
+      → RisesIf (has_write_fault result) before now → status ≡ exit_status exits.WriteFault → Rose before now
   run_write_fault (Ok Done) is rises six = absurd (omega (arith, is, six))
   run_write_fault (Ok ReadFault) is rises six = absurd (omega (arith, is, six))
   run_write_fault (Ok (Refused kind)) is rises six = absurd (omega (arith, is, six))
@@ -97,14 +100,14 @@ module _ (root : List ℕ) (status : ℕ) (setup : Setup) (world : Around) (inpu
 
 module _ {A : Type 0} where
   -- if a command was found, the status isn't 2
-  pub run_not_two : (result : Result (Ending ScriptKind) Stop) → status_of result ≡ 2 → A
+  pub run_not_two : (result : Result (Ending ScriptKind) Stop) → exit_status (script_exit result) ≡ exit_status exits.Usage → A
   run_not_two (Ok Done) is = absurd (omega (arith, is))
   run_not_two (Ok ReadFault) is = absurd (omega (arith, is))
   run_not_two (Ok (Refused kind)) is = absurd (omega (arith, is))
   run_not_two (Err NoMemory) is = absurd (omega (arith, is))
   run_not_two (Err WriteFault) is = absurd (omega (arith, is))
 
-  pub wire_not_two : (result : Result (Ending FrameFault) Stop) → wire_status result ≡ 2 → A
+  pub wire_not_two : (result : Result (Ending FrameFault) Stop) → exit_status (frames_exit result) ≡ exit_status exits.Usage → A
   wire_not_two (Ok Done) is = absurd (omega (arith, is))
   wire_not_two (Ok ReadFault) is = absurd (omega (arith, is))
   wire_not_two (Ok (Refused BadFrame)) is = absurd (omega (arith, is))
@@ -112,7 +115,7 @@ module _ {A : Type 0} where
   wire_not_two (Err NoMemory) is = absurd (omega (arith, is))
   wire_not_two (Err WriteFault) is = absurd (omega (arith, is))
 
-  pub audit_not_two : (result : Result Audited Stop) → audit_status result ≡ 2 → A
+  pub audit_not_two : (result : Result Audited Stop) → exit_status (audit_exit result) ≡ exit_status exits.Usage → A
   audit_not_two (Ok audits_found.Fits) is = absurd (omega (arith, is))
   audit_not_two (Ok audits_found.Differs) is = absurd (omega (arith, is))
   audit_not_two (Ok audits_found.Refused) is = absurd (omega (arith, is))
@@ -123,28 +126,28 @@ module _ {A : Type 0} where
 
 -- the commands that read no input end neither with 2 nor with 5
 abbrev pub IsOther : ℕ → Type 0
-IsOther n = (n ≡ 2 → ⊥) × (n ≡ 5 → ⊥)
+IsOther n = (n ≡ exit_status exits.Usage → ⊥) × (n ≡ exit_status exits.ReadFault → ⊥)
 
-check_other : (result : Result Checked Stop) → IsOther (check_status result)
+check_other : (result : Result Checked Stop) → IsOther (exit_status (check_exit result))
 check_other (Ok founds.Configured) = (λ is. omega (arith, is), λ is. omega (arith, is))
 check_other (Ok founds.Refused) = (λ is. omega (arith, is), λ is. omega (arith, is))
 check_other (Err NoMemory) = (λ is. omega (arith, is), λ is. omega (arith, is))
 check_other (Err WriteFault) = (λ is. omega (arith, is), λ is. omega (arith, is))
 
-login_other : (result : Result Verdict Stop) → IsOther (login_status result)
+login_other : (result : Result Verdict Stop) → IsOther (exit_status (login_exit result))
 login_other (Ok verdicts.Passed) = (λ is. omega (arith, is), λ is. omega (arith, is))
 login_other (Ok verdicts.Refused) = (λ is. omega (arith, is), λ is. omega (arith, is))
 login_other (Ok (verdicts.Denied code)) = (λ is. omega (arith, is), λ is. omega (arith, is))
 login_other (Err NoMemory) = (λ is. omega (arith, is), λ is. omega (arith, is))
 login_other (Err WriteFault) = (λ is. omega (arith, is), λ is. omega (arith, is))
 
-generate_other : (result : Result Generated Stop) → IsOther (generate_status result)
+generate_other : (result : Result Generated Stop) → IsOther (exit_status (generate_exit result))
 generate_other (Ok generations.Written) = (λ is. omega (arith, is), λ is. omega (arith, is))
 generate_other (Ok generations.Refused) = (λ is. omega (arith, is), λ is. omega (arith, is))
 generate_other (Err NoMemory) = (λ is. omega (arith, is), λ is. omega (arith, is))
 generate_other (Err WriteFault) = (λ is. omega (arith, is), λ is. omega (arith, is))
 
-tally_other : (result : Result Tallied Stop) → IsOther (tally_status result)
+tally_other : (result : Result Tallied Stop) → IsOther (exit_status (tally_exit result))
 tally_other (Ok lists.Listed) = (λ is. omega (arith, is), λ is. omega (arith, is))
 tally_other (Ok lists.Damaged) = (λ is. omega (arith, is), λ is. omega (arith, is))
 tally_other (Ok lists.Unread) = (λ is. omega (arith, is), λ is. omega (arith, is))
@@ -172,7 +175,7 @@ module _ (status : ℕ) (input : Object SourceState) where
     pub goes_unread : IsOther status → input.is_kept → GoesBy command status input
     goes_unread other kept = record { words_only = λ two. absurd (other.0 two); input_stays = λ none. kept }
 
-    pub goes_reading : (status ≡ 2 → ⊥) → (ReadsNone found → ⊥) → GoesBy command status input
+    pub goes_reading : (status ≡ exit_status exits.Usage → ⊥) → (ReadsNone found → ⊥) → GoesBy command status input
     goes_reading other reads = record { words_only = λ two. absurd (other two); input_stays = λ none. absurd (reads (subst ReadsNone (sym is) none)) }
 
 -- ---- the command that was asked for is the one that was found

@@ -1,5 +1,5 @@
 -- What the status of a run says, whether it was begun or not.
-use Rattle.std.proofs.Common.{◌≡◌, inl, inr, ℕ, suc, Bool, true, false, ◌&&◌, IsTrue, List, [], ◌∷◌, length, map, Option, Some, None, Result, Ok, Err, refl, sym, ap, ap₂, ◌∙◌, subst, subst₂, arith}
+use Rattle.std.proofs.Common.{◌≡◌, inl, inr, ℕ, suc, Bool, true, false, ◌&&◌, IsTrue, List, [], ◌∷◌, length, map, Option, Result, Ok, Err, refl, sym, ap, ap₂, ◌∙◌, subst, subst₂, arith}
 use Rattle.pam_room.specs.conv_port.specs.Conv.{ConvState}
 use Rattle.data_cleanup.specs.Cleanup.{Notes}
 use Rattle.data_cleanup.specs.Ledger.{PlainLedger}
@@ -20,11 +20,13 @@ use Rattle.cmd_login.specs.cmd_run.specs.Run.{RunTold}
 use Rattle.cmd_login.specs.cmd_run.specs.State.{Setting, RunState, setting_of, state_of}
 use Rattle.cmd_login.specs.cmd_run.specs.Whole.{RunsScript}
 use Rattle.cmd_login.specs.cmd_run.specs.Seen.{Seen}
+use Rattle.cmd_all.specs.declared.exit.Exit.TheVariants as exits
+use Rattle.cmd_all.specs.Exit.{exit_status, script_exit}
 use Rattle.cmd_all.specs.ByCommand.{Setup}
 use Rattle.cmd_all.specs.Login.{at_root}
 use Rattle.cmd_all.specs.Opened.{IsOpened}
 use Rattle.cmd_all.specs.Under.{IsBegunSo}
-use Rattle.cmd_all.specs.Run.{IsDone, IsRefused, IsReset, IsUnread, Runs, opening, status_of, under_root}
+use Rattle.cmd_all.specs.Run.{IsDone, IsRefused, IsReset, IsUnread, Runs, opening, under_root}
 use Rattle.cmd_all.proofs.Statuses.{done_whole, refused_whole, unread_whole}
 
 pub both_left : (a b : Bool) → IsTrue (a && b) → IsTrue a
@@ -108,21 +110,24 @@ module _ (setting : Setting) (start end : RunState) (x y : SourceState) (p q : S
   abbrev NoneYet : Type 0
   NoneYet = StandFor (notes_of setting.players) 17 start.world.process.ledger (lists_of start.slots) []
 
-  done_by : (result : Result Ending Stop) → NoneYet → RunsScript setting result start end x y p q → status_of result ≡ 0 → IsDone setting start end.world x y p q
+  done_by : (result : Result Ending Stop) → NoneYet → RunsScript setting result start end x y p q
+      → exit_status (script_exit result) ≡ exit_status exits.Done → IsDone setting start end.world x y p q
   done_by (Ok Done) none_yet ran is = done_whole setting start end x y p q none_yet ran
   done_by (Ok ReadFault) none_yet ran is = absurd (omega (arith, is))
   done_by (Ok (Refused kind)) none_yet ran is = absurd (omega (arith, is))
   done_by (Err NoMemory) none_yet ran is = absurd (omega (arith, is))
   done_by (Err WriteFault) none_yet ran is = absurd (omega (arith, is))
 
-  refused_by : (result : Result Ending Stop) → NoneYet → RunsScript setting result start end x y p q → status_of result ≡ 7 → IsRefused setting start end.world x y p q
+  refused_by : (result : Result Ending Stop) → NoneYet → RunsScript setting result start end x y p q
+      → exit_status (script_exit result) ≡ exit_status exits.LineRefused → IsRefused setting start end.world x y p q
   refused_by (Ok Done) none_yet ran is = absurd (omega (arith, is))
   refused_by (Ok ReadFault) none_yet ran is = absurd (omega (arith, is))
   refused_by (Ok (Refused kind)) none_yet ran is = refused_whole setting start end x y p q kind none_yet ran
   refused_by (Err NoMemory) none_yet ran is = absurd (omega (arith, is))
   refused_by (Err WriteFault) none_yet ran is = absurd (omega (arith, is))
 
-  unread_by : (result : Result Ending Stop) → NoneYet → RunsScript setting result start end x y p q → status_of result ≡ 5 → IsUnread setting start end.world x y p q
+  unread_by : (result : Result Ending Stop) → NoneYet → RunsScript setting result start end x y p q
+      → exit_status (script_exit result) ≡ exit_status exits.ReadFault → IsUnread setting start end.world x y p q
   unread_by (Ok Done) none_yet ran is = absurd (omega (arith, is))
   unread_by (Ok ReadFault) none_yet ran is = unread_whole setting start end x y p q none_yet ran
   unread_by (Ok (Refused kind)) none_yet ran is = absurd (omega (arith, is))
@@ -130,14 +135,15 @@ module _ (setting : Setting) (start end : RunState) (x y : SourceState) (p q : S
   unread_by (Err WriteFault) none_yet ran is = absurd (omega (arith, is))
 
 module _ (setting : Setting) (status : ℕ) (slots : List PlainSlot) (root : List ℕ) (old new : PlainWorld) (x y : SourceState) (p q : SinkState) where
-  pub done_of : Runs setting status slots root old new x y p q → status ≡ 0 → IsDone setting (opening slots root old) new x y p q
+  pub done_of : Runs setting status slots root old new x y p q → status ≡ exit_status exits.Done → IsDone setting (opening slots root old) new x y p q
   done_of (inl b) is = subst (λ (w : PlainWorld). IsDone setting (opening slots root old) w x y p q) (sym b.world_is) (done_by setting (opening slots root old) b.end x y p q b.result b.none_yet b.runs (sym b.is ∙ is))
   done_of (inr n) is = absurd (omega (arith, n.0, is))
 
-  pub refused_of : Runs setting status slots root old new x y p q → status ≡ 7 → IsRefused setting (opening slots root old) new x y p q
+  pub refused_of : Runs setting status slots root old new x y p q → status ≡ exit_status exits.LineRefused
+      → IsRefused setting (opening slots root old) new x y p q
   refused_of (inl b) is = subst (λ (w : PlainWorld). IsRefused setting (opening slots root old) w x y p q) (sym b.world_is) (refused_by setting (opening slots root old) b.end x y p q b.result b.none_yet b.runs (sym b.is ∙ is))
   refused_of (inr n) is = absurd (omega (arith, n.0, is))
 
-  pub unread_of : Runs setting status slots root old new x y p q → status ≡ 5 → IsUnread setting (opening slots root old) new x y p q
+  pub unread_of : Runs setting status slots root old new x y p q → status ≡ exit_status exits.ReadFault → IsUnread setting (opening slots root old) new x y p q
   unread_of (inl b) is = subst (λ (w : PlainWorld). IsUnread setting (opening slots root old) w x y p q) (sym b.world_is) (unread_by setting (opening slots root old) b.end x y p q b.result b.none_yet b.runs (sym b.is ∙ is))
   unread_of (inr n) is = absurd (omega (arith, n.0, is))

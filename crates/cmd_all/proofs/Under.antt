@@ -25,18 +25,21 @@ use Rattle.cmd_wire.specs.frame_stream.specs.declared.fault.FrameFault.TheVarian
 use Rattle.cmd_wire.specs.Ends.{IsEndOfRun as IsEndOfFrames}
 use Rattle.cmd_wire.specs.Reading.{ReadsFrames}
 use Rattle.cmd_wire.specs.Whole.{Completes as FramesComplete, RunsAnswered}
+use Rattle.cmd_all.specs.declared.exit.Exit.TheVariants as exits
+use Rattle.cmd_all.specs.Exit.{exit_status, frames_exit, script_exit}
 use Rattle.cmd_all.specs.ByCommand.{Around, ReadCauses, RunsSo, Setup, WiresSo, WriteCauses}
-use Rattle.cmd_all.specs.Run.{Completes as CompletesBy, ReadsBy, Runs, opening, status_of}
-use Rattle.cmd_all.specs.Under.{IsBegunSo, ReadsOrNot, RunsOrNot, RunsUnder}
-use Rattle.cmd_all.specs.Wire.{ReadsFramesBy, Serves, wire_status}
+use Rattle.cmd_all.specs.Run.{Completes as CompletesBy, ReadsBy, Runs, opening}
+use Rattle.cmd_all.specs.Under.{ReadsOrNot, RunsOrNot, RunsUnder}
+use Rattle.cmd_all.specs.Wire.{ReadsFramesBy, Serves}
 use Rattle.cmd_all.proofs.Alone.{nothing_read}
 use Rattle.cmd_all.proofs.Commands.{run_read_fault, run_write_fault, runs_so, wires_so}
 use Rattle.cmd_all.proofs.Wiring.{completes_by, no_fault_read, no_frame_read, read_by, through}
 
 -- ---- a script
 
-module _ (result : Result (Ending ScriptKind) Stop) (status before now : ℕ) (is : status ≡ status_of result) where
-  no_fault : (r : Result (Ending ScriptKind) Stop) → IfOk r (λ ending. RisesIf (has_read_fault (Ok (Some ending))) before now) → (status_of r ≡ 0) ⊎ (status_of r ≡ 7) → now ≡ before
+module _ (result : Result (Ending ScriptKind) Stop) (status before now : ℕ) (is : status ≡ exit_status (script_exit result)) where
+  no_fault : (r : Result (Ending ScriptKind) Stop) → IfOk r (λ ending. RisesIf (has_read_fault (Ok (Some ending))) before now)
+      → (exit_status (script_exit r) ≡ exit_status exits.Done) ⊎ (exit_status (script_exit r) ≡ exit_status exits.LineRefused) → now ≡ before
   no_fault (Ok Done) rises either = rises
   no_fault (Ok (Refused kind)) rises either = rises
   no_fault (Ok ReadFault) rises (inl e) = absurd (omega (arith, e))
@@ -46,20 +49,23 @@ module _ (result : Result (Ending ScriptKind) Stop) (status before now : ℕ) (i
   no_fault (Err WriteFault) rises (inl e) = absurd (omega (arith, e))
   no_fault (Err WriteFault) rises (inr e) = absurd (omega (arith, e))
 
-  run_no_read_fault : IfOk result (λ ending. RisesIf (has_read_fault (Ok (Some ending))) before now) → (status ≡ 0) ⊎ (status ≡ 7) → now ≡ before
-  run_no_read_fault rises either = no_fault result rises (subst (λ (n : ℕ). (n ≡ 0) ⊎ (n ≡ 7)) is either)
+  run_no_read_fault : IfOk result (λ ending. RisesIf (has_read_fault (Ok (Some ending))) before now)
+      → (status ≡ exit_status exits.Done) ⊎ (status ≡ exit_status exits.LineRefused) → now ≡ before
+  run_no_read_fault rises either = no_fault result rises (subst (λ (n : ℕ). (n ≡ exit_status exits.Done) ⊎ (n ≡ exit_status exits.LineRefused)) is either)
 
-  no_failed_write : (r : Result (Ending ScriptKind) Stop) → RisesIf (has_write_fault r) before now → (status_of r ≡ 6 → ⊥) → now ≡ before
+  no_failed_write : (r : Result (Ending ScriptKind) Stop) → RisesIf (has_write_fault r) before now
+      → (exit_status (script_exit r) ≡ exit_status exits.WriteFault → ⊥) → now ≡ before
   no_failed_write (Ok Done) rises other = rises
   no_failed_write (Ok ReadFault) rises other = rises
   no_failed_write (Ok (Refused kind)) rises other = rises
   no_failed_write (Err NoMemory) rises other = rises
   no_failed_write (Err WriteFault) rises other = absurd (other refl)
 
-  run_no_write_fault : RisesIf (has_write_fault result) before now → status ≢ 6 → now ≡ before
+  run_no_write_fault : RisesIf (has_write_fault result) before now → status ≢ exit_status exits.WriteFault → now ≡ before
   run_no_write_fault rises other = no_failed_write result rises (λ six. other (is ∙ six))
 
-module _ (setting : Setting) (result : Result (Ending ScriptKind) Stop) (status : ℕ) (is : status ≡ status_of result) (slots : List PlainSlot) (root : List ℕ) (old new : PlainWorld) (x y : SourceState) (p q : SinkState) where
+module _ (setting : Setting) (result : Result (Ending ScriptKind) Stop) (status : ℕ) (is : status ≡ exit_status (script_exit result))
+    (slots : List PlainSlot) (root : List ℕ) (old new : PlainWorld) (x y : SourceState) (p q : SinkState) where
   script_told : NumbersStandApart → RunsOrNot RunsScript setting result (opening slots root old) old new x y p q → Runs setting status slots root old new x y p q
   script_told apart (inl b) = inl (record {
     result = result;
@@ -73,21 +79,25 @@ module _ (setting : Setting) (result : Result (Ending ScriptKind) Stop) (status 
       steps = apart.steps setting (opening slots root old) bytes ended;
     };
   })
-  script_told apart (inr n) = inr (is ∙ ap status_of n.0, n.1)
+  script_told apart (inr n) = inr (is ∙ ap exit_status (ap script_exit n.0), n.1)
 
-module _ (result : Result (Ending ScriptKind) Stop) (status : ℕ) (is : status ≡ status_of result) where
-  by_either : (result ≡ Ok Done) ⊎ (result ≡ Err NoMemory) → (status ≡ 0) ⊎ (status ≡ 4)
-  by_either (inl e) = inl (is ∙ ap status_of e)
-  by_either (inr e) = inr (is ∙ ap status_of e)
+module _ (result : Result (Ending ScriptKind) Stop) (status : ℕ) (is : status ≡ exit_status (script_exit result)) where
+  by_either : (result ≡ Ok Done) ⊎ (result ≡ Err NoMemory) → (status ≡ exit_status exits.Done) ⊎ (status ≡ exit_status exits.NoMemory)
+  by_either (inl e) = inl (is ∙ ap exit_status (ap script_exit e))
+  by_either (inr e) = inr (is ∙ ap exit_status (ap script_exit e))
 
   script_completes : (input : List ℕ) (R W : Type 0) → Completes result input R W → CompletesBy status input R W
   script_completes input R W complete = λ accepted no_read no_write. by_either (complete accepted no_read no_write)
 
-script_read : (result : Result (Ending ScriptKind) Stop) (status : ℕ) → status ≡ status_of result → (x y : SourceState) → ReadsOrNot ReadsScript result x y → ReadsBy status x y
+script_read : (result : Result (Ending ScriptKind) Stop) (status : ℕ) → status ≡ exit_status (script_exit result) → (x y : SourceState)
+    → ReadsOrNot ReadsScript result x y → ReadsBy status x y
 script_read result status is x y (inl r) = record { result = result; is = is; reads = r }
-script_read result status is x y (inr n) = subst (λ (z : SourceState). ReadsBy status x z) (sym n.1) (nothing_read status x (is ∙ ap status_of n.0))
+script_read result status is x y (inr n) =
+    subst (λ (z : SourceState). ReadsBy status x z) (sym n.1) (nothing_read status x (is ∙ ap exit_status (ap script_exit n.0)))
 
-module _ (root : List ℕ) (result : Result (Ending ScriptKind) Stop) (status : ℕ) (is : status ≡ status_of result) (setup : Setup) (world : Around) (input : Object SourceState) (output : Object SinkState) (u : RunsUnder RunsScript ReadsScript Completes IsEndOfRun root result setup world input output) where
+module _ (root : List ℕ) (result : Result (Ending ScriptKind) Stop) (status : ℕ) (is : status ≡ exit_status (script_exit result)) (setup : Setup)
+    (world : Around) (input : Object SourceState) (output : Object SinkState)
+    (u : RunsUnder RunsScript ReadsScript Completes IsEndOfRun root result setup world input output) where
   pub script_so : NumbersStandApart → (IsTrue output.tells → ReportsRun as_it_is script_last setup.players result setup.slots output.old output.new) → RunsSo root status setup world input output
   script_so apart reports =
       runs_so root status setup world input output
@@ -116,7 +126,8 @@ module _ (root : List ℕ) (result : Result (Ending ScriptKind) Stop) (status : 
 -- ---- frames
 
 module _ (before now : ℕ) where
-  failed_read : (r : Result (Ending FrameFault) Stop) → IfOk r (λ ending. RisesIf (has_read_fault (Ok (Some ending))) before now) → wire_status r ≡ 5 → Rose before now
+  failed_read : (r : Result (Ending FrameFault) Stop) → IfOk r (λ ending. RisesIf (has_read_fault (Ok (Some ending))) before now)
+      → exit_status (frames_exit r) ≡ exit_status exits.ReadFault → Rose before now
   failed_read (Ok Done) rises five = absurd (omega (arith, five))
   failed_read (Ok ReadFault) rises five = rises
   failed_read (Ok (Refused BadFrame)) rises five = absurd (omega (arith, five))
@@ -124,7 +135,8 @@ module _ (before now : ℕ) where
   failed_read (Err NoMemory) rises five = absurd (omega (arith, five))
   failed_read (Err WriteFault) rises five = absurd (omega (arith, five))
 
-  failed_write : (r : Result (Ending FrameFault) Stop) → RisesIf (has_write_fault r) before now → wire_status r ≡ 6 → Rose before now
+  failed_write : (r : Result (Ending FrameFault) Stop) → RisesIf (has_write_fault r) before now
+      → exit_status (frames_exit r) ≡ exit_status exits.WriteFault → Rose before now
   failed_write (Ok Done) rises six = absurd (omega (arith, six))
   failed_write (Ok ReadFault) rises six = absurd (omega (arith, six))
   failed_write (Ok (Refused BadFrame)) rises six = absurd (omega (arith, six))
@@ -132,23 +144,29 @@ module _ (before now : ℕ) where
   failed_write (Err NoMemory) rises six = absurd (omega (arith, six))
   failed_write (Err WriteFault) rises six = rises
 
-  no_write_failed : (r : Result (Ending FrameFault) Stop) → RisesIf (has_write_fault r) before now → (wire_status r ≡ 6 → ⊥) → now ≡ before
+  no_write_failed : (r : Result (Ending FrameFault) Stop) → RisesIf (has_write_fault r) before now
+      → (exit_status (frames_exit r) ≡ exit_status exits.WriteFault → ⊥) → now ≡ before
   no_write_failed (Ok Done) rises other = rises
   no_write_failed (Ok ReadFault) rises other = rises
   no_write_failed (Ok (Refused kind)) rises other = rises
   no_write_failed (Err NoMemory) rises other = rises
   no_write_failed (Err WriteFault) rises other = absurd (other refl)
 
-module _ (setting : Setting) (result : Result (Ending FrameFault) Stop) (status : ℕ) (is : status ≡ wire_status result) (slots : List PlainSlot) (root : List ℕ) (old new : PlainWorld) (x y : SourceState) (p q : SinkState) where
+module _ (setting : Setting) (result : Result (Ending FrameFault) Stop) (status : ℕ) (is : status ≡ exit_status (frames_exit result))
+    (slots : List PlainSlot) (root : List ℕ) (old new : PlainWorld) (x y : SourceState) (p q : SinkState) where
   frames_told : RunsOrNot RunsAnswered setting result (opening slots root old) old new x y p q → Serves setting status slots root old new x y p q
   frames_told (inl b) = inl (record { result = result; is = is; end = b.end; world_is = b.world_is; answers = b.runs.answered })
-  frames_told (inr n) = inr (is ∙ ap wire_status n.0, n.1)
+  frames_told (inr n) = inr (is ∙ ap exit_status (ap frames_exit n.0), n.1)
 
-frames_read : (result : Result (Ending FrameFault) Stop) (status : ℕ) → status ≡ wire_status result → (x y : SourceState) → ReadsOrNot ReadsFrames result x y → ReadsFramesBy status x y
+frames_read : (result : Result (Ending FrameFault) Stop) (status : ℕ) → status ≡ exit_status (frames_exit result) → (x y : SourceState)
+    → ReadsOrNot ReadsFrames result x y → ReadsFramesBy status x y
 frames_read result status is x y (inl r) = read_by result status is x y r
-frames_read result status is x y (inr n) = subst (λ (z : SourceState). ReadsFramesBy status x z) (sym n.1) (no_frame_read status x (is ∙ ap wire_status n.0))
+frames_read result status is x y (inr n) =
+    subst (λ (z : SourceState). ReadsFramesBy status x z) (sym n.1) (no_frame_read status x (is ∙ ap exit_status (ap frames_exit n.0)))
 
-module _ (root : List ℕ) (result : Result (Ending FrameFault) Stop) (status : ℕ) (is : status ≡ wire_status result) (setup : Setup) (world : Around) (input : Object SourceState) (output : Object SinkState) (u : RunsUnder RunsAnswered ReadsFrames FramesComplete IsEndOfFrames root result setup world input output) where
+module _ (root : List ℕ) (result : Result (Ending FrameFault) Stop) (status : ℕ) (is : status ≡ exit_status (frames_exit result)) (setup : Setup)
+    (world : Around) (input : Object SourceState) (output : Object SinkState)
+    (u : RunsUnder RunsAnswered ReadsFrames FramesComplete IsEndOfFrames root result setup world input output) where
   pub frames_so : (IsTrue output.tells → ReportsRun answer_of nothing_last setup.players result setup.slots output.old output.new) → WiresSo root status setup world input output
   frames_so reports =
       wires_so root status setup world input output

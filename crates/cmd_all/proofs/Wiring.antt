@@ -1,5 +1,5 @@
 -- What the status of a run of frames says.
-use Rattle.std.proofs.Common.{◌≡◌, ◌⊎◌, inl, inr, ℕ, ◌<◌, if◌then◌else◌, List, [], ◌∷◌, ◌++◌, length, Option, Some, None, Result, Ok, Err, IfOk, refl, sym, ap, ◌∙◌, subst, subst₂, arith}
+use Rattle.std.proofs.Common.{◌≡◌, ◌⊎◌, inl, inr, ℕ, ◌<◌, if◌then◌else◌, List, [], ◌∷◌, ◌++◌, length, Option, Some, None, Result, Ok, Err, IfOk, refl, sym, ap, ◌∙◌, subst, arith}
 use Rattle.std.specs.Int.{w16, to_be_bytes}
 use Rattle.std.specs.Prelude.{nat_eq}
 use Rattle.pam_outside.specs.Streams.{SourceState, SinkState}
@@ -18,23 +18,28 @@ use Rattle.cmd_wire.specs.frame_stream.specs.declared.fault.FrameFault.TheVarian
 use Rattle.cmd_login.specs.cmd_run.specs.State.{Setting}
 use Rattle.cmd_wire.specs.Reading.{EndsAtBytes, ReadsFrames}
 use Rattle.cmd_wire.specs.Whole.{Answers, Completes}
+use Rattle.cmd_all.specs.declared.exit.Exit.TheVariants as exits
+use Rattle.cmd_all.specs.Exit.{exit_status, frames_exit}
 use Rattle.cmd_all.specs.Run.{opening}
-use Rattle.cmd_all.specs.Wire.{AnswersBy, IsReadThrough, IsWireStatus, ReadsFramesBy, Serves, WireCompletes, wire_status}
+use Rattle.cmd_all.specs.Wire.{AnswersBy, IsReadThrough, IsWireStatus, ReadsFramesBy, Serves, WireCompletes}
 
 -- ---- the ending of a status
 
 abbrev ending_of : ℕ → Option (Ending FrameFault)
 ending_of n =
-    if nat_eq n 0 then Some Done else if nat_eq n 5 then Some ReadFault
-    else if nat_eq n 13 then Some (Refused BadFrame) else if nat_eq n 14 then Some (Refused TooManyFrames) else None
+    if nat_eq n (exit_status exits.Done) then Some Done
+    else if nat_eq n (exit_status exits.ReadFault) then Some ReadFault
+    else if nat_eq n (exit_status exits.BadFrame) then Some (Refused BadFrame)
+    else if nat_eq n (exit_status exits.TooManyFrames) then Some (Refused TooManyFrames) else None
 
-found_again : (ending : Ending FrameFault) → ending_of (wire_status (Ok ending)) ≡ Some ending
+found_again : (ending : Ending FrameFault) → ending_of (exit_status (frames_exit (Ok ending))) ≡ Some ending
 found_again Done = refl
 found_again ReadFault = refl
 found_again (Refused BadFrame) = refl
 found_again (Refused TooManyFrames) = refl
 
-is_ending : (result : Result (Ending FrameFault) Stop) (ending : Ending FrameFault) → wire_status result ≡ wire_status (Ok ending) → result ≡ Ok ending
+is_ending : (result : Result (Ending FrameFault) Stop) (ending : Ending FrameFault)
+    → exit_status (frames_exit result) ≡ exit_status (frames_exit (Ok ending)) → result ≡ Ok ending
 is_ending (Ok found) ending same =
     let e : Some found ≡ Some ending = sym (found_again found) ∙ ap ending_of same ∙ found_again ending in
     let f : found ≡ ending = cc in
@@ -46,14 +51,14 @@ is_ending (Err WriteFault) ending same =
     let e : None ≡ Some ending = ap ending_of same ∙ found_again ending in
     absurd (cc)
 
-no_ending : {A : Type 0} (status : ℕ) (ending : Ending FrameFault) → status ≡ 4 → status ≡ wire_status (Ok ending) → A
+no_ending : {A : Type 0} (status : ℕ) (ending : Ending FrameFault) → status ≡ exit_status exits.NoMemory → status ≡ exit_status (frames_exit (Ok ending)) → A
 no_ending status ending four is =
     let e : Err NoMemory ≡ Ok ending = is_ending (Err NoMemory) ending (sym four ∙ is) in
     absurd (cc)
 
 -- ---- the statuses of other commands
 
-not_seven : {A : Type 0} (result : Result (Ending FrameFault) Stop) → wire_status result ≡ 7 → A
+not_seven : {A : Type 0} (result : Result (Ending FrameFault) Stop) → exit_status (frames_exit result) ≡ exit_status exits.LineRefused → A
 not_seven (Ok Done) is = absurd (omega (arith, is))
 not_seven (Ok ReadFault) is = absurd (omega (arith, is))
 not_seven (Ok (Refused BadFrame)) is = absurd (omega (arith, is))
@@ -61,12 +66,14 @@ not_seven (Ok (Refused TooManyFrames)) is = absurd (omega (arith, is))
 not_seven (Err NoMemory) is = absurd (omega (arith, is))
 not_seven (Err WriteFault) is = absurd (omega (arith, is))
 
-pub no_fault_read : (status before now : ℕ) → IsWireStatus status → (IsReadThrough status → now ≡ before) → (status ≡ 0) ⊎ (status ≡ 7) → now ≡ before
+pub no_fault_read : (status before now : ℕ) → IsWireStatus status → (IsReadThrough status → now ≡ before)
+    → (status ≡ exit_status exits.Done) ⊎ (status ≡ exit_status exits.LineRefused) → now ≡ before
 no_fault_read status before now known through (inl zero) = through (inl zero)
 no_fault_read status before now known through (inr seven) = not_seven known.0 (sym known.1 ∙ seven)
 
 -- a source that was read to its end, or to what is refused, didn't fail
-through_by : (result : Result (Ending FrameFault) Stop) (before now : ℕ) → IfOk result (λ ending. RisesIf (has_read_fault (Ok (Some ending))) before now) → IsReadThrough (wire_status result) → now ≡ before
+through_by : (result : Result (Ending FrameFault) Stop) (before now : ℕ)
+    → IfOk result (λ ending. RisesIf (has_read_fault (Ok (Some ending))) before now) → IsReadThrough (exit_status (frames_exit result)) → now ≡ before
 through_by (Ok Done) before now rises is = rises
 through_by (Ok (Refused BadFrame)) before now rises is = rises
 through_by (Ok (Refused TooManyFrames)) before now rises is = rises
@@ -80,7 +87,8 @@ through_by (Err WriteFault) before now rises (inl is) = absurd (omega (arith, is
 through_by (Err WriteFault) before now rises (inr (inl is)) = absurd (omega (arith, is))
 through_by (Err WriteFault) before now rises (inr (inr is)) = absurd (omega (arith, is))
 
-pub through : (result : Result (Ending FrameFault) Stop) (status : ℕ) → status ≡ wire_status result → (before now : ℕ) → IfOk result (λ ending. RisesIf (has_read_fault (Ok (Some ending))) before now)
+pub through : (result : Result (Ending FrameFault) Stop) (status : ℕ) → status ≡ exit_status (frames_exit result) → (before now : ℕ)
+    → IfOk result (λ ending. RisesIf (has_read_fault (Ok (Some ending))) before now)
     → IsReadThrough status → now ≡ before
 through result status is before now rises read = through_by result before now rises (subst IsReadThrough is read)
 
@@ -97,7 +105,7 @@ module _ (setting : Setting) (status : ℕ) (slots : List PlainSlot) (root : Lis
 
 -- ---- what the bytes say
 
-module _ (result : Result (Ending FrameFault) Stop) (status : ℕ) (is : status ≡ wire_status result) where
+module _ (result : Result (Ending FrameFault) Stop) (status : ℕ) (is : status ≡ exit_status (frames_exit result)) where
   pub read_by : (x y : SourceState) → ReadsFrames result x y → ReadsFramesBy status x y
   read_by x y r = record {
     taken = r.taken;
@@ -108,9 +116,10 @@ module _ (result : Result (Ending FrameFault) Stop) (status : ℕ) (is : status 
     looks = r.looks;
   }
 
-  by_either : (ending : Ending FrameFault) → (result ≡ Ok ending) ⊎ (result ≡ Err NoMemory) → (status ≡ wire_status (Ok ending)) ⊎ (status ≡ 4)
-  by_either ending (inl e) = inl (is ∙ ap wire_status e)
-  by_either ending (inr e) = inr (is ∙ ap wire_status e)
+  by_either : (ending : Ending FrameFault) → (result ≡ Ok ending) ⊎ (result ≡ Err NoMemory)
+      → (status ≡ exit_status (frames_exit (Ok ending))) ⊎ (status ≡ exit_status exits.NoMemory)
+  by_either ending (inl e) = inl (is ∙ ap exit_status (ap frames_exit e))
+  by_either ending (inr e) = inr (is ∙ ap exit_status (ap frames_exit e))
 
   pub completes_by : (input : List ℕ) (R W : Type 0) → Completes result input R W → WireCompletes status input R W
   completes_by input R W complete = λ steps rest fault bytes spells no_read no_write. by_either _ (complete steps rest fault bytes spells no_read no_write)
@@ -129,7 +138,7 @@ nothing_is_open = record {
   parts = refl;
 }
 
-pub no_frame_read : (status : ℕ) (x : SourceState) → status ≡ 4 → ReadsFramesBy status x x
+pub no_frame_read : (status : ℕ) (x : SourceState) → status ≡ exit_status exits.NoMemory → ReadsFramesBy status x x
 no_frame_read status x four = record {
   taken = [];
   source = refl;

@@ -29,13 +29,15 @@ use Rattle.cmd_login.specs.cmd_run.specs.State.{Setting, setting_of}
 use Rattle.cmd_tally.specs.Tally.{tally_of}
 use Rattle.cmd_audit.specs.Audit.{audit_of}
 use Rattle.cmd_audit.specs.Transcript.{Takes}
+use Rattle.cmd_all.specs.declared.exit.Exit.TheVariants.{Done, Usage, ConfigRefused, ReadFault, WriteFault, LineRefused}
 use Rattle.cmd_all.specs.Audit.{AuditsBy, IsAuditStatus, ReadsAudited}
-use Rattle.cmd_all.specs.Command.{Command, runs, checks, logs_in, generates, tallies, audits, wires}
+use Rattle.cmd_all.specs.Command.{Command, runs, audits, wires}
+use Rattle.cmd_all.specs.Exit.{exit_status, frames_exit, script_exit}
 use Rattle.cmd_all.specs.Generate.{GeneratesBy, IsGenerateStatus}
 use Rattle.cmd_all.specs.Login.{IsLoginStatus, LogsInBy, ShowsLogin}
-use Rattle.cmd_all.specs.Run.{Completes, HasRefused, IsAccepted, IsDone, IsRefused, IsStatus, IsUnread, ReadsBy, Runs, opening, status_of}
+use Rattle.cmd_all.specs.Run.{Completes, HasRefused, IsAccepted, IsDone, IsRefused, IsStatus, IsUnread, ReadsBy, Runs, opening}
 use Rattle.cmd_all.specs.Status.{CallsOnce, ChecksBy, CountsUnread, FindsBy, FindsTally, IsCheckStatus, IsTallyStatus, TalliesBy, WritesUsage}
-use Rattle.cmd_all.specs.Wire.{AnswersBy, IsReadThrough, IsWireStatus, ReadsFramesBy, Serves, WireCompletes, wire_status}
+use Rattle.cmd_all.specs.Wire.{AnswersBy, IsReadThrough, IsWireStatus, ReadsFramesBy, Serves, WireCompletes}
 
 -- ---- what a command gets, and what it leaves
 
@@ -95,12 +97,12 @@ IfAllTold setup world input output Holds =
 -- code of a stack call, and what is held after it, are those to which the lines lead that its report lists.
 pub record ReportsScript (status : ℕ) (setup : Setup) (p q : SinkState) : Type 0 where
   pub result : Result (Ending ScriptKind) Stop
-  pub is : status ≡ status_of result
+  pub is : status ≡ exit_status (script_exit result)
   pub reports : ReportsRun as_it_is script_last setup.players result setup.slots p q
 
 pub record ReportsFrames (status : ℕ) (setup : Setup) (p q : SinkState) : Type 0 where
   pub result : Result (Ending FrameFault) Stop
-  pub is : status ≡ wire_status result
+  pub is : status ≡ exit_status (frames_exit result)
   pub reports : ReportsRun answer_of nothing_last setup.players result setup.slots p q
 
 -- ---- run ROOT
@@ -109,16 +111,16 @@ pub record RunsSo (root : List ℕ) (status : ℕ) (setup : Setup) (world : Arou
     (input : Object SourceState) (output : Object SinkState) : Type 0 where
   -- If all objects are modelled: with status 0 the whole script was read, its report is written, and the world is the one
   -- after it.
-  pub done : IfAllTold setup world input output (λ setting. status ≡ 0
+  pub done : IfAllTold setup world input output (λ setting. status ≡ exit_status Done
       → IsDone setting (opening setup.slots root world.old) world.new input.old input.new output.old
       output.new)
   -- With status 7 the whole script is refused for the line that the report ends with. At most a buffer was read with
   -- that line: the bytes read before it hold no line that is refused.
-  pub refused : IfAllTold setup world input output (λ setting. status ≡ 7
+  pub refused : IfAllTold setup world input output (λ setting. status ≡ exit_status LineRefused
       → IsRefused setting (opening setup.slots root world.old) world.new input.old input.new
       output.old output.new)
   -- With status 5 the lines that were completely read are reported.
-  pub unread : IfAllTold setup world input output (λ setting. status ≡ 5
+  pub unread : IfAllTold setup world input output (λ setting. status ≡ exit_status ReadFault
       → IsUnread setting (opening setup.slots root world.old) world.new input.old input.new
       output.old output.new)
   -- With any status, including 4 and 6: what was read and written, how often, and the world after
@@ -132,8 +134,10 @@ pub record RunsSo (root : List ℕ) (status : ℕ) (setup : Setup) (world : Arou
   pub complete : IsTrue input.tells → Completes status input.old.left
       (Rose input.faults_before input.faults_after) (Rose output.faults_before output.faults_after)
   pub reads : IsTrue input.tells → ReadsBy status input.old input.new
-  pub accepted : IsTrue input.tells → status ≡ 0 → IsAccepted input.old.left input.new.left
-  pub has_refused : IsTrue input.tells → status ≡ 7 → HasRefused input.old.left
+  pub accepted : IsTrue input.tells → status ≡ exit_status Done
+      → IsAccepted input.old.left input.new.left
+  pub has_refused : IsTrue input.tells → status ≡ exit_status LineRefused
+      → HasRefused input.old.left
   pub writes : IsTrue output.tells → WritesScript output.old output.new
   pub reports : IsTrue output.tells → ReportsScript status setup output.old output.new
 
@@ -209,8 +213,9 @@ pub record AuditsSo (root service : List ℕ) (status : ℕ) (world : Around)
   pub audit_takes : IsTrue input.tells → Takes input.old input.new
   pub audit_reads : IsTrue input.tells → ReadsAudited status input.old.left input.new.left
   pub audit_writes : IsTrue output.tells → WritesText output.old output.new
-  pub audit_refused : status ≡ 3 → input.is_kept
-  pub audit_no_read_fault : status ≢ 5 → input.faults_after ≡ input.faults_before
+  pub audit_refused : status ≡ exit_status ConfigRefused → input.is_kept
+  pub audit_no_read_fault : status ≢ exit_status ReadFault
+      → input.faults_after ≡ input.faults_before
 
 -- ---- wire ROOT
 
@@ -236,7 +241,7 @@ pub record WiresSo (root : List ℕ) (status : ℕ) (setup : Setup) (world : Aro
 
 pub record ShowsUsage (status : ℕ) (world : Around) (output : Object SinkState) : Type 0 where
   pub usage : IsTrue output.tells → WritesUsage status output.old output.new
-  pub usage_status : (status ≡ 2) ⊎ (status ≡ 6)
+  pub usage_status : (status ≡ exit_status Usage) ⊎ (status ≡ exit_status WriteFault)
   pub usage_stays : world.is_kept
 
 -- ---- any command
@@ -250,17 +255,18 @@ ReadsNone command = Unit {0}
 
 -- only a usage error has the status 2, and the other commands leave the input as it was
 pub record GoesBy (command : Option Command) (status : ℕ) (input : Object SourceState) : Type 0 where
-  pub words_only : status ≡ 2 → command ≡ None
+  pub words_only : status ≡ exit_status Usage → command ≡ None
   pub input_stays : ReadsNone command → input.is_kept
 
 -- The causes of a status, with real objects too. What is modelled before the run is modelled after it.
 pub record ReadCauses (status : ℕ) (input : Object SourceState) : Type 0 where
-  pub read_fault : status ≡ 5 → Rose input.faults_before input.faults_after
-  pub no_read_fault : (status ≡ 0) ⊎ (status ≡ 7) → input.faults_after ≡ input.faults_before
+  pub read_fault : status ≡ exit_status ReadFault → Rose input.faults_before input.faults_after
+  pub no_read_fault : (status ≡ exit_status Done) ⊎ (status ≡ exit_status LineRefused)
+      → input.faults_after ≡ input.faults_before
   pub source_tells : input.tells_after ≡ input.tells
 
 pub record WriteCauses (status : ℕ) (world : Around) (output : Object SinkState) : Type 0 where
-  pub write_fault : status ≡ 6 → Rose output.faults_before output.faults_after
-  pub no_write_fault : status ≢ 6 → output.faults_after ≡ output.faults_before
+  pub write_fault : status ≡ exit_status WriteFault → Rose output.faults_before output.faults_after
+  pub no_write_fault : status ≢ exit_status WriteFault → output.faults_after ≡ output.faults_before
   pub sink_tells : output.tells_after ≡ output.tells
   pub world_tells : world.tells_after ≡ world.tells

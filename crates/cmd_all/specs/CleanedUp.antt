@@ -14,8 +14,7 @@ use Rattle.cmd_login.specs.Ends.{IsEndOfLogin}
 use Rattle.cmd_login.specs.cmd_run.specs.Ends.{EndsAre, IsEndOfRun}
 use Rattle.cmd_wire.specs.Ends.{IsEndOfRun as IsEndOfWire}
 use Rattle.cmd_all.specs.Command.{Command, runs, logs_in, generates, wires}
-use Rattle.cmd_all.specs.Generate.{generate_status}
-use Rattle.cmd_all.specs.Login.{login_status}
+use Rattle.cmd_all.specs.Exit.{exit_status, generate_exit, login_exit}
 
 -- All data that were set were cleaned up exactly once: the cleanup records are those that sets and ends of transactions
 -- make due, in their order, each with its status, and all data have one. The cleanup log is in order: each record has
@@ -32,13 +31,13 @@ pub record IsCleanedUp (Is : ℕ → ℕ → Type 0) (note : Notes) (ledger : Pl
 
 -- an end of a login with this status
 abbrev pub EndsLogin : ℕ → ℕ → ℕ → Type 0
-EndsLogin status number ended = (result : Result Verdict Stop) × (status ≡ login_status result)
-    × IsEndOfLogin result number ended
+EndsLogin status number ended = (result : Result Verdict Stop)
+    × (status ≡ exit_status (login_exit result)) × IsEndOfLogin result number ended
 
 -- an end of a generation with this status
 abbrev pub EndsGenerate : ℕ → ℕ → ℕ → Type 0
 EndsGenerate status number ended = (result : Result Generated Stop)
-    × (status ≡ generate_status result) × IsEndOfGenerate result number ended
+    × (status ≡ exit_status (generate_exit result)) × IsEndOfGenerate result number ended
 
 -- Which ends there can be, by the command and the exit status. In a run whose script is modelled,
 -- each transaction was ended with the status that one of the script's lines asks for, for that

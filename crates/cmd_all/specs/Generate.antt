@@ -1,37 +1,31 @@
 -- Lines generated from a seed, by the status with which the program ends (this project's own).
-use Rattle.std.specs.Prelude.{◌≡◌, ◌⊎◌, ℕ, List, Result, Ok, Err}
+use Rattle.std.specs.Prelude.{◌≡◌, ◌⊎◌, ℕ, List, Result}
 use Rattle.pam_outside.specs.Streams.{SinkState}
 use Rattle.pam_room.specs.State.{PlainWorld}
 use Rattle.cmd_check.specs.pam_library.specs.Slots.{PlainSlot}
 use Rattle.record_reader.specs.declared.ending.Stop.{Stop}
-use Rattle.record_reader.specs.declared.ending.Stop.TheVariants.{NoMemory, WriteFault}
 use Rattle.cmd_generate.specs.declared.generating.Generated.{Generated as GenerateResult}
-use Rattle.cmd_generate.specs.declared.generating.Generated.TheVariants.{Written, Refused}
 use Rattle.cmd_generate.specs.Generated.{Generates, Generation, generation}
 use Rattle.cmd_login.specs.cmd_run.specs.State.{RunState, Setting, state_of}
-
--- 0 if the line is written, 3 if a file or the service is refused
-abbrev pub generate_status : Result GenerateResult Stop → ℕ
-generate_status (Ok Written) = 0
-generate_status (Ok Refused) = 3
-generate_status (Err NoMemory) = 4
-generate_status (Err WriteFault) = 6
+use Rattle.cmd_all.specs.declared.exit.Exit.TheVariants.{NoMemory}
+use Rattle.cmd_all.specs.Exit.{exit_status, generate_exit}
 
 abbrev pub IsGenerateStatus : ℕ → Type 0
-IsGenerateStatus n = (result : Result GenerateResult Stop) × (n ≡ generate_status result)
+IsGenerateStatus n =
+    (result : Result GenerateResult Stop) × (n ≡ exit_status (generate_exit result))
 
 -- the line of a generation is written, or a prefix of it, and the world is the one after it
 pub record IsGenerated (status : ℕ) (g : Generation) (world : PlainWorld) (p q : SinkState) : Type
     0 where
   pub result : Result GenerateResult Stop
-  pub is : status ≡ generate_status result
+  pub is : status ≡ exit_status (generate_exit result)
   pub end : RunState
   pub world_is : world ≡ end.world
   pub generates : Generates result g end p q
 
 -- an allocation for the slots failed, and nothing happened
 pub record IsNotGenerated (status : ℕ) (old new : PlainWorld) (p q : SinkState) : Type 0 where
-  pub is : status ≡ 4
+  pub is : status ≡ exit_status NoMemory
   pub world : new ≡ old
   pub sink : q ≡ p
 

@@ -1,5 +1,6 @@
 pub mod Command
 pub mod Asked
+pub mod Exit
 pub mod Run
 pub mod Login
 pub mod Generate

@@ -1,27 +1,19 @@
 -- A login under a root, by the status with which the program ends (this project's own).
-use Rattle.std.specs.Prelude.{◌≡◌, ◌⊎◌, ℕ, List, Option, Result, Ok, Err}
+use Rattle.std.specs.Prelude.{◌≡◌, ◌⊎◌, ℕ, List, Option, Result}
 use Rattle.pam_outside.specs.Streams.{SinkState}
 use Rattle.pam_room.specs.State.{PlainWorld}
 use Rattle.cmd_check.specs.pam_library.specs.Slots.{PlainSlot}
 use Rattle.record_reader.specs.declared.ending.Stop.{Stop}
-use Rattle.record_reader.specs.declared.ending.Stop.TheVariants.{NoMemory, WriteFault}
 use Rattle.cmd_login.specs.declared.attempt.Verdict.{Verdict}
-use Rattle.cmd_login.specs.declared.attempt.Verdict.TheVariants.{Passed, Denied, Refused}
 use Rattle.cmd_login.specs.Login.{login_of}
 use Rattle.cmd_login.specs.Reported.{Reports, SaysLogin}
 use Rattle.cmd_login.specs.Told.{LogsIn, SaysVerdict, WritesLines}
 use Rattle.cmd_login.specs.cmd_run.specs.State.{Setting, RunState, state_of}
-
--- 0 if the user was let in, 3 if the configuration is refused, 8 if the login is denied
-abbrev pub login_status : Result Verdict Stop → ℕ
-login_status (Ok Passed) = 0
-login_status (Ok Refused) = 3
-login_status (Err NoMemory) = 4
-login_status (Err WriteFault) = 6
-login_status (Ok (Denied code)) = 8
+use Rattle.cmd_all.specs.declared.exit.Exit.TheVariants.{NoMemory}
+use Rattle.cmd_all.specs.Exit.{exit_status, login_exit}
 
 abbrev pub IsLoginStatus : ℕ → Type 0
-IsLoginStatus n = (result : Result Verdict Stop) × (n ≡ login_status result)
+IsLoginStatus n = (result : Result Verdict Stop) × (n ≡ exit_status (login_exit result))
 
 -- the world under a root
 abbrev pub at_root : List ℕ → PlainWorld → PlainWorld
@@ -39,14 +31,14 @@ entry slots root w = state_of slots (at_root root w)
 pub record IsLogin (setting : Setting) (status : ℕ) (service : List ℕ) (user : Option (List ℕ))
     (start : RunState) (world : PlainWorld) (p q : SinkState) : Type 0 where
   pub result : Result Verdict Stop
-  pub is : status ≡ login_status result
+  pub is : status ≡ exit_status (login_exit result)
   pub end : RunState
   pub world_is : world ≡ end.world
   pub logs_in : LogsIn setting (login_of setting service user start) result start end p q
 
 -- an allocation for the root or the slots failed, and nothing happened
 pub record IsNoLogin (status : ℕ) (old new : PlainWorld) (p q : SinkState) : Type 0 where
-  pub is : status ≡ 4
+  pub is : status ≡ exit_status NoMemory
   pub world : new ≡ old
   pub sink : q ≡ p
 
@@ -62,6 +54,6 @@ LogsInBy setting status slots root service user old new p q =
 pub record ShowsLogin (service : List ℕ) (user : Option (List ℕ)) (status : ℕ) (p q : SinkState) : Type
     0 where
   pub result : Result Verdict Stop
-  pub is : status ≡ login_status result
+  pub is : status ≡ exit_status (login_exit result)
   pub shows : WritesLines SaysVerdict result p q
   pub reports : Reports (SaysLogin service user) result p q

@@ -1,5 +1,5 @@
 -- A run of a script under a root, by the status with which the program ends (this project's own).
-use Rattle.std.specs.Prelude.{◌≡◌, ◌⊎◌, ℕ, ◌≤◌, Bool, true, false, List, [], ◌++◌, length, Some, None, Result, Ok, Err}
+use Rattle.std.specs.Prelude.{◌≡◌, ◌⊎◌, ℕ, ◌≤◌, Bool, true, false, List, [], ◌++◌, length, Some, None, Result}
 use Rattle.data_cleanup.specs.Stands.{StandFor}
 use Rattle.pam_base.specs.declared.fault.ScriptKind.{ScriptKind}
 use Rattle.pam_outside.specs.Streams.{SourceState, SinkState}
@@ -9,7 +9,6 @@ use Rattle.cmd_check.specs.pam_library.specs.Slots.{PlainSlot, handle_limit, lis
 use Rattle.record_reader.specs.LineTurns.{Ending}
 use Rattle.record_reader.specs.declared.ending.Ending.TheVariants.{Done, ReadFault, Refused}
 use Rattle.record_reader.specs.declared.ending.Stop.{Stop}
-use Rattle.record_reader.specs.declared.ending.Stop.TheVariants.{NoMemory, WriteFault}
 use Rattle.record_reader.specs.LineRun.{Run, run_of}
 use Rattle.data_cleanup.specs.Due.{Event}
 use Rattle.cmd_login.specs.cmd_run.specs.Events.{AreDue, run_events}
@@ -19,6 +18,8 @@ use Rattle.cmd_login.specs.cmd_run.specs.State.{Setting, RunState, state_of}
 use Rattle.cmd_login.specs.cmd_run.specs.Step.{line_step}
 use Rattle.cmd_login.specs.cmd_run.specs.Closings.{all_closed}
 use Rattle.cmd_login.specs.cmd_run.specs.Whole.{RunsScript, ending_status, last_words}
+use Rattle.cmd_all.specs.declared.exit.Exit.TheVariants as exits
+use Rattle.cmd_all.specs.Exit.{exit_status, script_exit}
 
 -- the world under a root, at the time 0 and with the random word 0
 abbrev pub under_root : List ℕ → PlainWorld → PlainWorld
@@ -93,13 +94,6 @@ pub record IsUnread (setting : Setting) (start : RunState) (world : PlainWorld) 
 
 -- ---- by any status
 
-abbrev pub status_of : Result Ending Stop → ℕ
-status_of (Ok Done) = 0
-status_of (Err NoMemory) = 4
-status_of (Ok ReadFault) = 5
-status_of (Err WriteFault) = 6
-status_of (Ok (Refused kind)) = 7
-
 -- an allocation for the root or the slots failed, and nothing happened
 pub record IsNotBegun (old new : PlainWorld) (x y : SourceState) (p q : SinkState) : Type 0 where
   pub world : new ≡ old
@@ -120,7 +114,7 @@ pub record StandsSideBySide (setting : Setting) (start : RunState) (bytes : List
 pub record IsBegun (setting : Setting) (status : ℕ) (start : RunState) (world : PlainWorld)
     (x y : SourceState) (p q : SinkState) : Type 0 where
   pub result : Result Ending Stop
-  pub is : status ≡ status_of result
+  pub is : status ≡ exit_status (script_exit result)
   pub end : RunState
   pub world_is : world ≡ end.world
   pub runs : RunsScript setting result start end x y p q
@@ -133,16 +127,16 @@ abbrev pub Runs : Setting → ℕ → List PlainSlot → List ℕ → PlainWorld
     → SourceState → SinkState → SinkState → Type 0
 Runs setting status slots root old new x y p q =
     IsBegun setting status (opening slots root old) new x y p q
-    ⊎ ((status ≡ 4) × IsNotBegun old new x y p q)
+    ⊎ ((status ≡ exit_status exits.NoMemory) × IsNotBegun old new x y p q)
 
 -- if no line of a modelled script is refused and nothing failed, it is run, or out of memory
 abbrev pub Completes : ℕ → List ℕ → Type 0 → Type 0 → Type 0
 Completes status script read_failed write_failed =
     refused_in script true ≡ None → (read_failed → ⊥) → (write_failed → ⊥)
-    → (status ≡ 0) ⊎ (status ≡ 4)
+    → (status ≡ exit_status exits.Done) ⊎ (status ≡ exit_status exits.NoMemory)
 
 abbrev pub IsStatus : ℕ → Type 0
-IsStatus n = (result : Result Ending Stop) × (n ≡ status_of result)
+IsStatus n = (result : Result Ending Stop) × (n ≡ exit_status (script_exit result))
 
 -- ---- if only source or sink is modelled
 
@@ -150,7 +144,7 @@ IsStatus n = (result : Result Ending Stop) × (n ≡ status_of result)
 -- allocation failed took nothing.
 pub record ReadsBy (status : ℕ) (x y : SourceState) : Type 0 where
   pub result : Result Ending Stop
-  pub is : status ≡ status_of result
+  pub is : status ≡ exit_status (script_exit result)
   pub reads : ReadsScript result x y
 
 -- status 0 says that no line of the whole script is refused, which was read to its end; status 7

@@ -1,39 +1,29 @@
 -- A run of a front end's frames under a root, by the status with which the program ends (this
 -- project's own).
-use Rattle.std.specs.Prelude.{◌≡◌, ◌⊎◌, ℕ, ◌+◌, ◌≤◌, true, List, ◌++◌, length, Option, Result, Ok, Err}
+use Rattle.std.specs.Prelude.{◌≡◌, ◌⊎◌, ℕ, ◌+◌, ◌≤◌, true, List, ◌++◌, length, Option, Result, Ok}
 use Rattle.pam_base.specs.declared.call.Step.{Step}
 use Rattle.pam_outside.specs.Streams.{SourceState, SinkState}
 use Rattle.pam_room.specs.State.{PlainWorld}
 use Rattle.cmd_check.specs.pam_library.specs.Slots.{PlainSlot}
 use Rattle.cmd_wire.specs.pam_wire.specs.Frame.{AreBytes}
 use Rattle.record_reader.specs.declared.ending.Ending.{Ending}
-use Rattle.record_reader.specs.declared.ending.Ending.TheVariants.{Done, ReadFault, Refused}
 use Rattle.record_reader.specs.declared.ending.Stop.{Stop}
-use Rattle.record_reader.specs.declared.ending.Stop.TheVariants.{NoMemory, WriteFault}
 use Rattle.cmd_wire.specs.frame_stream.specs.declared.fault.FrameFault.{FrameFault}
-use Rattle.cmd_wire.specs.frame_stream.specs.declared.fault.FrameFault.TheVariants.{BadFrame, TooManyFrames}
 use Rattle.cmd_wire.specs.frame_stream.specs.Spelled.{Spells}
 use Rattle.cmd_login.specs.cmd_run.specs.State.{RunState, Setting}
 use Rattle.cmd_wire.specs.Reading.{LooksBefore, SpellsTo}
 use Rattle.cmd_wire.specs.Whole.{Answers, AnswersAll, ending_by}
+use Rattle.cmd_all.specs.declared.exit.Exit.TheVariants.{Done, NoMemory, BadFrame, TooManyFrames}
+use Rattle.cmd_all.specs.Exit.{exit_status, frames_exit}
 use Rattle.cmd_all.specs.Run.{IsNotBegun, opening}
 
--- 0 if the input ends after a frame, 5 if reading it fails, 13 at a bad frame, 14 at one frame too
--- many
-abbrev pub wire_status : Result (Ending FrameFault) Stop → ℕ
-wire_status (Ok Done) = 0
-wire_status (Err NoMemory) = 4
-wire_status (Ok ReadFault) = 5
-wire_status (Err WriteFault) = 6
-wire_status (Ok (Refused BadFrame)) = 13
-wire_status (Ok (Refused TooManyFrames)) = 14
-
 abbrev pub IsWireStatus : ℕ → Type 0
-IsWireStatus n = (result : Result (Ending FrameFault) Stop) × (n ≡ wire_status result)
+IsWireStatus n = (result : Result (Ending FrameFault) Stop) × (n ≡ exit_status (frames_exit result))
 
 -- the input was read to its end, or to what is refused in it
 abbrev pub IsReadThrough : ℕ → Type 0
-IsReadThrough n = (n ≡ 0) ⊎ ((n ≡ 13) ⊎ (n ≡ 14))
+IsReadThrough n =
+    (n ≡ exit_status Done) ⊎ ((n ≡ exit_status BadFrame) ⊎ (n ≡ exit_status TooManyFrames))
 
 -- ---- if all objects are modelled
 
@@ -42,7 +32,7 @@ IsReadThrough n = (n ≡ 0) ⊎ ((n ≡ 13) ⊎ (n ≡ 14))
 pub record IsServed (setting : Setting) (status : ℕ) (start : RunState) (world : PlainWorld)
     (x y : SourceState) (p q : SinkState) : Type 0 where
   pub result : Result (Ending FrameFault) Stop
-  pub is : status ≡ wire_status result
+  pub is : status ≡ exit_status (frames_exit result)
   pub end : RunState
   pub world_is : world ≡ end.world
   pub answers : Answers setting result start end x y p q
@@ -53,7 +43,7 @@ abbrev pub Serves : Setting → ℕ → List PlainSlot → List ℕ → PlainWor
     → SourceState → SinkState → SinkState → Type 0
 Serves setting status slots root old new x y p q =
     IsServed setting status (opening slots root old) new x y p q
-    ⊎ ((status ≡ 4) × IsNotBegun old new x y p q)
+    ⊎ ((status ≡ exit_status NoMemory) × IsNotBegun old new x y p q)
 
 -- the run ended so: all steps that the bytes taken spell are answered, and the implicit ends after them
 pub record IsAnswered (setting : Setting) (ending : Ending FrameFault) (start : RunState)
@@ -66,7 +56,7 @@ pub record IsAnswered (setting : Setting) (ending : Ending FrameFault) (start : 
 abbrev pub AnswersBy : Setting → ℕ → RunState → PlainWorld → SourceState → SourceState → SinkState
     → SinkState → Type 0
 AnswersBy setting status start world x y p q =
-    (ending : Ending FrameFault) → status ≡ wire_status (Ok ending)
+    (ending : Ending FrameFault) → status ≡ exit_status (frames_exit (Ok ending))
     → IsAnswered setting ending start world x y p q
 
 -- ---- if only the source is modelled
@@ -79,7 +69,7 @@ pub record ReadsFramesBy (status : ℕ) (x y : SourceState) : Type 0 where
   pub source : x.left ≡ taken ++ y.left
   pub reads : y.calls ≤ x.calls + length taken + 1
   pub ends : y.reads_at_end ≤ x.reads_at_end + 1
-  pub by : (ending : Ending FrameFault) → status ≡ wire_status (Ok ending)
+  pub by : (ending : Ending FrameFault) → status ≡ exit_status (frames_exit (Ok ending))
       → SpellsTo ending taken y.left
   pub looks : LooksBefore taken
 
@@ -89,4 +79,5 @@ abbrev pub WireCompletes : ℕ → List ℕ → Type 0 → Type 0 → Type 0
 WireCompletes status input read_failed write_failed =
     (steps : List Step) (rest : List ℕ) (fault : Option FrameFault) → AreBytes input
     → Spells input true steps rest fault → (read_failed → ⊥) → (write_failed → ⊥)
-    → (status ≡ wire_status (Ok (ending_by fault))) ⊎ (status ≡ 4)
+    → (status ≡ exit_status (frames_exit (Ok (ending_by fault))))
+    ⊎ (status ≡ exit_status NoMemory)

@@ -2,43 +2,43 @@ ghost use Rattle.std.specs.Prelude.{◌≡◌, length};
 ghost use Rattle.pam_room.specs.Module.{notes_of};
 ghost use Rattle.cmd_all.specs.ByCommand.{GeneratesSo, IsReady, WriteCauses, object_of};
 ghost use Rattle.cmd_all.specs.CleanedUp.{EndsGenerate, IsCleanedUp};
-ghost use Rattle.cmd_all.specs.Generate.{generate_status};
+ghost use Rattle.cmd_all.specs.Exit.{exit_status};
 
 use crate::desk::{Desk, DeskTold};
+use crate::exit::{Exit, generate_exit};
 use crate::opening::library_of;
 use crate::operand::GenerateArgs;
 use crate::outside::{Outside, OutsideTold};
-use cmd_generate::{Generated, generate};
+use cmd_generate::generate;
 use fail_delay::DelayRule;
 use pam_base::NoMemory;
 use pam_outside::Sink;
 use pam_room::World;
-use record_reader::Stop;
 use std::alloc::Global;
 
-/// Generates a service, and authenticates with it. Returns the exit status.
+/// Generates a service, and authenticates with it. Returns how that ended.
 pub(crate) fn generate_lines<K: Sink>(
     alloc: Global,
     generate_args: GenerateArgs,
     out: &mut K,
     world: &mut World,
     desk: Desk,
-) -> u8
+) -> Exit
     requires { IsReady (length desk.convs.items) (length desk.mods.items)
         (DelayRule.pre desk.delay) (DelayRule.post desk.delay) world.old.process.ledger }
-    ensures generate { GeneratesSo generate_args.seed generate_args.lines result
+    ensures generate { GeneratesSo generate_args.seed generate_args.lines (exit_status result)
         (⟦<Desk as DeskTold>⟧.given desk)
         (⟦<Outside as OutsideTold>⟧.around world.old world.new)
         (object_of K.sink_tells K.sink_holds K.sink_faults out.old out.new) }
-    ensures write_causes { WriteCauses result
+    ensures write_causes { WriteCauses (exit_status result)
         (⟦<Outside as OutsideTold>⟧.around world.old world.new)
         (object_of K.sink_tells K.sink_holds K.sink_faults out.old out.new) }
-    ensures cleaned_up { IsCleanedUp (EndsGenerate result)
+    ensures cleaned_up { IsCleanedUp (EndsGenerate (exit_status result))
         (notes_of (⟦<Desk as DeskTold>⟧.given desk).players) world.new.process.ledger }
 {
     cmd_login::cmd_run::laws::proceeding_stands();
     match library_of(alloc, desk, &world.process.ledger) {
-        Err(NoMemory) => status_of_generate(Err(Stop::NoMemory)),
+        Err(NoMemory) => Exit::NoMemory,
         Ok(library) => {
             let mut library = library;
             let generated = generate(
@@ -50,18 +50,7 @@ pub(crate) fn generate_lines<K: Sink>(
                 world,
             );
             library.dismiss();
-            status_of_generate(generated)
+            generate_exit(generated)
         }
-    }
-}
-
-fn status_of_generate(generated: Result<Generated, Stop>) -> u8
-    ensures { result ≡ generate_status generated }
-{
-    match generated {
-        Ok(Generated::Written) => 0,
-        Ok(Generated::Refused) => 3,
-        Err(Stop::NoMemory) => 4,
-        Err(Stop::WriteFault) => 6,
     }
 }

@@ -1,11 +1,12 @@
 //! The program `pamsess` over any objects: what its arguments ask for, and each command with its exit status.
 //!
 //! Begin at program.rt; command.rt reads the arguments, stream.rt, login.rt and generation.rt run the commands that need
-//! a library, which opening.rt makes, and files.rt those that only read files.
+//! a library, which opening.rt makes, and files.rt those that only read files. exit.rt has the table of exit statuses.
 #![tactic(auto)]
 
 mod command;
 mod desk;
+mod exit;
 mod files;
 mod generation;
 mod login;
@@ -13,12 +14,12 @@ mod opening;
 mod operand;
 mod outside;
 mod program;
-mod status;
 mod stream;
 mod usage;
 
 pub use cmd_login::cmd_run::TimeOfDay;
 pub use cmd_tally::mod_tally;
 pub use desk::{Desk, DeskTold};
+pub use exit::Exit;
 pub use outside::{Outside, OutsideTold};
 pub use program::pamsess;

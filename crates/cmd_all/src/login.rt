@@ -4,20 +4,20 @@ ghost use Rattle.pam_base.specs.ServiceName.{is_service_name};
 ghost use Rattle.pam_room.specs.Module.{notes_of};
 ghost use Rattle.cmd_all.specs.ByCommand.{IsReady, LogsInSo, WriteCauses, object_of};
 ghost use Rattle.cmd_all.specs.CleanedUp.{EndsLogin, IsCleanedUp};
-ghost use Rattle.cmd_all.specs.Login.{login_status};
+ghost use Rattle.cmd_all.specs.Exit.{exit_status};
 
 use crate::desk::{Desk, DeskTold, with_terminal};
+use crate::exit::{Exit, login_exit};
 use crate::opening::library_under;
 use crate::outside::{Outside, OutsideTold};
-use cmd_login::{Verdict, login};
+use cmd_login::login;
 use fail_delay::DelayRule;
 use pam_base::NoMemory;
 use pam_outside::Sink;
 use pam_room::World;
-use record_reader::Stop;
 use std::alloc::Global;
 
-/// Logs a user in with a service under a root, at the terminal of `desk`. Returns the exit status.
+/// Logs a user in with a service under a root, at the terminal of `desk`. Returns how the login ended.
 pub(crate) fn log_in<K: Sink>(
     alloc: Global,
     root: &[u8],
@@ -26,18 +26,19 @@ pub(crate) fn log_in<K: Sink>(
     out: &mut K,
     world: &mut World,
     desk: Desk,
-) -> u8
+) -> Exit
     requires service { IsTrue (is_service_name service.now) }
     requires ready { IsReady (length desk.convs.items) (length desk.mods.items)
         (DelayRule.pre desk.delay) (DelayRule.post desk.delay) world.old.process.ledger }
-    ensures login { LogsInSo root.now service.now (option_copied user.entry) result
+    ensures login { LogsInSo root.now service.now (option_copied user.entry)
+        (exit_status result)
         (⟦<Desk as DeskTold>⟧.at_terminal desk)
         (⟦<Outside as OutsideTold>⟧.around world.old world.new)
         (object_of K.sink_tells K.sink_holds K.sink_faults out.old out.new) }
-    ensures write_causes { WriteCauses result
+    ensures write_causes { WriteCauses (exit_status result)
         (⟦<Outside as OutsideTold>⟧.around world.old world.new)
         (object_of K.sink_tells K.sink_holds K.sink_faults out.old out.new) }
-    ensures cleaned_up { IsCleanedUp (EndsLogin result)
+    ensures cleaned_up { IsCleanedUp (EndsLogin (exit_status result))
         (notes_of (⟦<Desk as DeskTold>⟧.given desk).players) world.new.process.ledger }
 {
     cmd_login::cmd_run::laws::proceeding_stands();
@@ -59,26 +60,14 @@ pub(crate) fn log_in<K: Sink>(
     match library_under(alloc, root, desk, world) {
         Err(NoMemory) => {
             drop(time);
-            status_of_login(Err(Stop::NoMemory))
+            Exit::NoMemory
         }
         Ok(library) => {
             let mut library = library;
             let verdict = login(alloc, &mut library, service, user, &time, out, world);
             drop(time);
             library.dismiss();
-            status_of_login(verdict)
+            login_exit(verdict)
         }
-    }
-}
-
-fn status_of_login(verdict: Result<Verdict, Stop>) -> u8
-    ensures { result ≡ login_status verdict }
-{
-    match verdict {
-        Ok(Verdict::Passed) => 0,
-        Ok(Verdict::Refused) => 3,
-        Err(Stop::NoMemory) => 4,
-        Err(Stop::WriteFault) => 6,
-        Ok(Verdict::Denied(_)) => 8,
     }
 }

@@ -8,11 +8,11 @@ ghost use Rattle.cmd_all.specs.Command.{audits, checks, command_of, generates, l
 
 use crate::command::{Command, command_in};
 use crate::desk::{Desk, DeskTold};
+use crate::exit::{frames_exit, script_exit};
 use crate::files::{audit_service, check_service, tally_user};
 use crate::generation::generate_lines;
 use crate::login::log_in;
 use crate::outside::{Outside, OutsideTold};
-use crate::status::{status_of_frames, status_of_script};
 use crate::stream::run_under;
 use crate::usage::write_usage;
 use cmd_login::cmd_run::Script;
@@ -40,23 +40,7 @@ use std::alloc::Global;
 /// - `wire ROOT` does what `run` does for the frames of a front end, at most 65,536 calls, and writes an answer to
 ///   each before it reads the next one.
 ///
-/// No argument may be empty or begin with `-`. The exit status is returned:
-///
-/// - 0: the script or the frames were read to their end, the configuration is printed, the login was granted, the
-///   line is written, the failures are listed, or the transcript fits
-/// - 2: the arguments are not a command, so only the usage line is written
-/// - 3: the configuration is refused, or a generated file couldn't be stored
-/// - 4: an allocation failed
-/// - 5: reading the script, the frames or the transcript failed
-/// - 6: a write failed, and what is written is a prefix of a report
-/// - 7: a line of the script is refused
-/// - 8: the login was denied
-/// - 9: the tally is damaged
-/// - 10: the tally can't be read
-/// - 11: the transcript doesn't fit
-/// - 12: the transcript has more than 1,048,576 bytes
-/// - 13: a frame is malformed, or the input ends within one
-/// - 14: another byte follows 65,536 frames
+/// No argument may be empty or begin with `-`. The exit status is returned, that of an `Exit`.
 ///
 /// Whatever it returns, every transaction that is open is ended before: with SUCCESS, BUF_ERR (4), SYSTEM_ERR (5 and
 /// 6) or ABORT (7, 13 and 14).
@@ -134,14 +118,16 @@ pub fn pamsess<S: Source, K: Sink>(
         (notes_of (⟦<Desk as DeskTold>⟧.given desk).players) world.new.process.ledger }
 {
     match command_in(words) {
-        None => write_usage(out),
+        None => write_usage(out).status(),
         Some(Command::Run(root)) => {
             cmd_login::cmd_run::laws::numbers_stand_side_by_side();
-            status_of_script(run_under::<Script, S, K>(alloc, root, script, out, world, desk))
+            script_exit(run_under::<Script, S, K>(alloc, root, script, out, world, desk)).status()
         }
-        Some(Command::Check(root, service)) => check_service(alloc, root, service, out, world),
+        Some(Command::Check(root, service)) => check_service(
+            alloc, root, service, out, world,
+        ).status(),
         Some(Command::Login(target)) => {
-            log_in(alloc, target.root, target.service, None, out, world, desk)
+            log_in(alloc, target.root, target.service, None, out, world, desk).status()
         }
         Some(Command::LoginAs(target, user)) => log_in(
             alloc,
@@ -151,20 +137,21 @@ pub fn pamsess<S: Source, K: Sink>(
             out,
             world,
             desk,
-        ),
+        )
+        .status(),
         Some(Command::Generate(generate_args)) => generate_lines(
             alloc,
             generate_args,
             out,
             world,
             desk,
-        ),
-        Some(Command::Tally(root, user)) => tally_user(alloc, root, user, out, world),
+        ).status(),
+        Some(Command::Tally(root, user)) => tally_user(alloc, root, user, out, world).status(),
         Some(Command::Audit(root, service)) => {
-            audit_service(alloc, root, service, script, out, world)
+            audit_service(alloc, root, service, script, out, world).status()
         }
         Some(Command::Wire(root)) => {
-            status_of_frames(run_under::<Frames, S, K>(alloc, root, script, out, world, desk))
+            frames_exit(run_under::<Frames, S, K>(alloc, root, script, out, world, desk)).status()
         }
     }
 }

@@ -1,4 +1,5 @@
-use Rattle.std.proofs.Common.{◌∙◌, refl}
+use Rattle.std.proofs.Common.{◌∙◌, ap, refl}
+use Rattle.cmd_all.specs.Exit.{exit_status}
 use Rattle.cmd_all.proofs.Cleaning.{cleaned_at, nothing_since}
 use Rattle.cmd_all.proofs.LoggingIn.{ends_login, logs_in_not, logs_in_so}
 use Rattle.cmd_all.proofs.Telling.{both_left, both_right}
@@ -8,7 +9,7 @@ pub library_under-requires : goal.library_under-requires
 library_under-requires g c = rw (c.with_terminal-desk.ensures.sixteen, c.with_terminal-desk.ensures.mods, c.with_terminal-desk.ensures.delay) c.requires.ready
 
 pub returns-in-Err-clause-login : goal.returns-in-Err-clause-login
-returns-in-Err-clause-login g c = logs_in_not _ _ _ _ _ _ _ c.status_of_login.ensures c.in-Err.ensures.stays refl
+returns-in-Err-clause-login g c = logs_in_not _ _ _ _ _ _ _ refl c.in-Err.ensures.stays refl
 
 pub returns-in-Err-clause-cleaned_up : goal.returns-in-Err-clause-cleaned_up
 returns-in-Err-clause-cleaned_up g c = nothing_since _ _ _ _ c.in-Err.ensures.stays c.requires.ready.no_births c.requires.ready.no_receipts
@@ -17,12 +18,12 @@ pub returns-in-Ok-clause-login : goal.returns-in-Ok-clause-login
 returns-in-Ok-clause-login g c =
     logs_in_so _ _ _ _ _ _ _ _ _ _ c.login-verdict.result c.in-Ok.ensures.opened c.with_terminal-desk.ensures.players c.with_terminal-desk.ensures.slots
     (λ both. both_right _ _ (c.with_terminal-desk.ensures.tells ∙ both))
-    (λ number given. rw c.with_terminal-desk.ensures.delay given) c.library_under.ensures.tells c.status_of_login-in-Ok.ensures
+    (λ number given. rw c.with_terminal-desk.ensures.delay given) c.library_under.ensures.tells (ap exit_status c.login_exit.ensures)
     (λ both number gives all sink. c.login-verdict.ensures.told (both_left _ _ (c.with_terminal-desk.ensures.tells ∙ both)) number gives all sink)
-    (λ sink. record { result = c.login-verdict.result; is = c.status_of_login-in-Ok.ensures; shows = c.login-verdict.ensures.shows sink; reports = c.login-verdict.ensures.reports sink })
+    (λ sink. record { result = c.login-verdict.result; is = ap exit_status c.login_exit.ensures; shows = c.login-verdict.ensures.shows sink; reports = c.login-verdict.ensures.reports sink })
 
 pub returns-in-Ok-clause-cleaned_up : goal.returns-in-Ok-clause-cleaned_up
 returns-in-Ok-clause-cleaned_up g c =
     rw c.with_terminal-desk.ensures.players at
-    (cleaned_at _ _ (ends_login c.login-verdict.result _ c.status_of_login-in-Ok.ensures) _ _ _ _ _ _ (c.proceeding_stands.ensures _) c.in-Ok.ensures.opened refl refl refl
+    (cleaned_at _ _ (ends_login c.login-verdict.result _ (ap exit_status c.login_exit.ensures)) _ _ _ _ _ _ (c.proceeding_stands.ensures _) c.in-Ok.ensures.opened refl refl refl
     c.login-verdict.ensures.went c.login-verdict.ensures.none_open)
