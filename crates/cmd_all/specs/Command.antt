@@ -5,6 +5,8 @@ use Rattle.std.specs.declared.alloc.Global.{Global}
 use Rattle.cmd_tally.specs.mod_tally.specs.Faillock.{is_no_file}
 use Rattle.pam_base.specs.Number.{number_of_word}
 use Rattle.pam_base.specs.ServiceName.{is_service_name}
+use Rattle.cmd_all.specs.declared.command.Name.{Name}
+use Rattle.cmd_all.specs.declared.command.Name.TheVariants.{Run, Check, Login, Generate, Tally, Audit, Wire}
 
 -- what the program is asked for
 pub data Command : Type 0 where
@@ -35,32 +37,8 @@ is_service word = is_operand word && is_service_name word
 abbrev pub is_user : List ℕ → Bool
 is_user word = is_operand word && not (is_no_file word)
 
--- ROOT
-abbrev pub run_command : List (String Global) → Option Command
-run_command (root ∷ []) = if is_operand (string_bytes root) then Some (runs (string_bytes root))
-    else None
-run_command operands = None
-
--- ROOT SERVICE
-abbrev pub check_command : List (String Global) → Option Command
-check_command (root ∷ service ∷ []) =
-    if is_operand (string_bytes root) && is_service (string_bytes service)
-    then Some (checks (string_bytes root) (string_bytes service)) else None
-check_command operands = None
-
--- ROOT SERVICE [USER]
 abbrev pub is_target : List ℕ → List ℕ → Bool
 is_target root service = is_operand root && is_operand service && is_service_name service
-
-abbrev pub login_command : List (String Global) → Option Command
-login_command (root ∷ service ∷ []) =
-    if is_target (string_bytes root) (string_bytes service)
-    then Some (logs_in (string_bytes root) (string_bytes service) None) else None
-login_command (root ∷ service ∷ user ∷ []) =
-    if is_operand (string_bytes user) then (if is_target (string_bytes root) (string_bytes service)
-    then Some (logs_in (string_bytes root) (string_bytes service) (Some (string_bytes user)))
-    else None) else None
-login_command operands = None
 
 -- a number in decimal digits without a leading zero, of at most 32 bits
 abbrev pub begins_with_zero : List ℕ → Bool
@@ -70,51 +48,53 @@ begins_with_zero digits = false
 abbrev pub number_operand : List ℕ → Option ℕ
 number_operand word = if begins_with_zero word then None else number_of_word word
 
--- SEED LINES, from 1 to 4,096 lines
+-- from 1 to 4,096 lines
 abbrev pub lines_command : Option ℕ → Option ℕ → Option Command
 lines_command (Some seed) (Some lines) = if nat_le 1 lines && nat_le lines 4096
     then Some (generates seed lines) else None
 lines_command seed lines = None
 
-abbrev pub generate_command : List (String Global) → Option Command
-generate_command (seed ∷ lines ∷ []) =
-    lines_command (number_operand (string_bytes seed)) (number_operand (string_bytes lines))
-generate_command operands = None
+-- the command of this name
+abbrev pub name_in : List ℕ → Option Name
+name_in word =
+    if bytes_eq word (codes "run") then Some Run
+    else if bytes_eq word (codes "check") then Some Check
+    else if bytes_eq word (codes "login") then Some Login
+    else if bytes_eq word (codes "generate") then Some Generate
+    else if bytes_eq word (codes "tally") then Some Tally
+    else if bytes_eq word (codes "audit") then Some Audit
+    else if bytes_eq word (codes "wire") then Some Wire
+    else None
 
--- ROOT USER
-abbrev pub tally_command : List (String Global) → Option Command
-tally_command (root ∷ user ∷ []) =
+-- what a command asks for with these operands, in the order of pamsess(1)
+abbrev pub command_with : Option Name → List (String Global) → Option Command
+command_with (Some Run) (root ∷ []) =
+    if is_operand (string_bytes root) then Some (runs (string_bytes root)) else None
+command_with (Some Check) (root ∷ service ∷ []) =
+    if is_operand (string_bytes root) && is_service (string_bytes service)
+    then Some (checks (string_bytes root) (string_bytes service)) else None
+command_with (Some Login) (root ∷ service ∷ []) =
+    if is_target (string_bytes root) (string_bytes service)
+    then Some (logs_in (string_bytes root) (string_bytes service) None) else None
+command_with (Some Login) (root ∷ service ∷ user ∷ []) =
+    if is_operand (string_bytes user) && is_target (string_bytes root) (string_bytes service)
+    then Some (logs_in (string_bytes root) (string_bytes service) (Some (string_bytes user)))
+    else None
+command_with (Some Generate) (seed ∷ lines ∷ []) =
+    lines_command (number_operand (string_bytes seed)) (number_operand (string_bytes lines))
+command_with (Some Tally) (root ∷ user ∷ []) =
     if is_operand (string_bytes root) && is_user (string_bytes user)
     then Some (tallies (string_bytes root) (string_bytes user)) else None
-tally_command operands = None
-
--- ROOT SERVICE
-abbrev pub audit_command : List (String Global) → Option Command
-audit_command (root ∷ service ∷ []) =
+command_with (Some Audit) (root ∷ service ∷ []) =
     if is_operand (string_bytes root) && is_service (string_bytes service)
     then Some (audits (string_bytes root) (string_bytes service)) else None
-audit_command operands = None
-
--- ROOT
-abbrev pub wire_command : List (String Global) → Option Command
-wire_command (root ∷ []) =
+command_with (Some Wire) (root ∷ []) =
     if is_operand (string_bytes root) then Some (wires (string_bytes root)) else None
-wire_command operands = None
-
-abbrev pub named_command : List ℕ → List (String Global) → Option Command
-named_command command operands =
-    if bytes_eq command (codes "run") then run_command operands
-    else if bytes_eq command (codes "check") then check_command operands
-    else if bytes_eq command (codes "login") then login_command operands
-    else if bytes_eq command (codes "generate") then generate_command operands
-    else if bytes_eq command (codes "tally") then tally_command operands
-    else if bytes_eq command (codes "audit") then audit_command operands
-    else if bytes_eq command (codes "wire") then wire_command operands
-    else None
+command_with name operands = None
 
 abbrev pub command_of : List (String Global) → Option Command
 command_of [] = None
-command_of (command ∷ operands) = named_command (string_bytes command) operands
+command_of (command ∷ operands) = command_with (name_in (string_bytes command)) operands
 
 abbrev pub usage : List ℕ
 usage = codes "usage: pamsess run ROOT | check ROOT SERVICE | login ROOT SERVICE [USER] | generate SEED LINES | tally ROOT USER | audit ROOT SERVICE | wire ROOT\n"

@@ -1,5 +1,5 @@
 ghost use Rattle.std.specs.Prelude.{◌≡◌, false, IfNone, IfSome, string_bytes};
-ghost use Rattle.cmd_all.specs.Command.{audit_command, check_command, lines_command, generate_command, is_operand, is_target, is_service, is_user, login_command, number_operand, command_of, run_command, tally_command, wire_command};
+ghost use Rattle.cmd_all.specs.Command.{command_of, is_operand, is_service, is_target, is_user, lines_command, name_in, number_operand};
 ghost use Rattle.cmd_all.specs.Asked.{IsTarget, asked};
 
 use crate::operand::{GenerateArgs, Target};
@@ -28,52 +28,60 @@ pub enum Command<'a> {
     Wire(&'a [u8]),
 }
 
+/// The commands, by their names.
+#[derive(Clone, Copy)]
+pub enum Name {
+    Run,
+    Check,
+    Login,
+    Generate,
+    Tally,
+    Audit,
+    Wire,
+}
+
 /// What the arguments ask for; None if they are not a command.
 pub fn command_in(words: &[String]) -> Option<Command<'_>>
     ensures { asked result ≡ command_of words.now }
 {
     let (command, operands) = words.split_first()?;
-    match command.as_str() {
-        "run" => run_command(operands),
-        "check" => check_command(operands),
-        "login" => login_command(operands),
-        "generate" => generate_command(operands),
-        "tally" => tally_command(operands),
-        "audit" => audit_command(operands),
-        "wire" => wire_command(operands),
-        _ => None,
-    }
-}
-
-fn run_command(operands: &[String]) -> Option<Command<'_>>
-    ensures { asked result ≡ run_command operands.now }
-{
-    match operands {
-        [root] if is_operand(root.as_bytes()) => Some(Command::Run(root.as_bytes())),
-        _ => None,
-    }
-}
-
-fn check_command(operands: &[String]) -> Option<Command<'_>>
-    ensures { asked result ≡ check_command operands.now }
-{
-    match operands {
-        [root, service] if is_operand(root.as_bytes()) && is_service(service.as_bytes()) => {
+    match (name_in(command)?, operands) {
+        (Name::Run, [root]) if is_operand(root.as_bytes()) => Some(Command::Run(root.as_bytes())),
+        (Name::Check, [root, service])
+            if is_operand(root.as_bytes()) && is_service(service.as_bytes()) => {
             Some(Command::Check(root.as_bytes(), service.as_bytes()))
         }
+        (Name::Login, [root, service]) => Some(Command::Login(target_in(root, service)?)),
+        (Name::Login, [root, service, user]) if is_operand(user.as_bytes()) => Some(
+            Command::LoginAs(target_in(root, service)?, user.as_bytes()),
+        ),
+        (Name::Generate, [seed, lines]) => lines_command(
+            number_operand(seed.as_bytes()),
+            number_operand(lines.as_bytes()),
+        ),
+        (Name::Tally, [root, user]) if is_operand(root.as_bytes()) && is_user(user.as_bytes()) => {
+            Some(Command::Tally(root.as_bytes(), user.as_bytes()))
+        }
+        (Name::Audit, [root, service])
+            if is_operand(root.as_bytes()) && is_service(service.as_bytes()) => {
+            Some(Command::Audit(root.as_bytes(), service.as_bytes()))
+        }
+        (Name::Wire, [root]) if is_operand(root.as_bytes()) => Some(Command::Wire(root.as_bytes())),
         _ => None,
     }
 }
 
-fn login_command(operands: &[String]) -> Option<Command<'_>>
-    ensures { asked result ≡ login_command operands.now }
+fn name_in(command: &String) -> Option<Name>
+    ensures { result ≡ name_in (string_bytes command.now) }
 {
-    match operands {
-        [root, service] => Some(Command::Login(target_in(root, service)?)),
-        [root, service, user] if is_operand(user.as_bytes()) => Some(Command::LoginAs(
-            target_in(root, service)?,
-            user.as_bytes(),
-        )),
+    match command.as_str() {
+        "run" => Some(Name::Run),
+        "check" => Some(Name::Check),
+        "login" => Some(Name::Login),
+        "generate" => Some(Name::Generate),
+        "tally" => Some(Name::Tally),
+        "audit" => Some(Name::Audit),
+        "wire" => Some(Name::Wire),
         _ => None,
     }
 }
@@ -90,18 +98,6 @@ fn target_in<'a>(root: &'a String, service: &'a String) -> Option<Target<'a>>
         Some(Target { root, service })
     } else {
         None
-    }
-}
-
-fn generate_command(operands: &[String]) -> Option<Command<'_>>
-    ensures { asked result ≡ generate_command operands.now }
-{
-    match operands {
-        [seed, lines] => lines_command(
-            number_operand(seed.as_bytes()),
-            number_operand(lines.as_bytes()),
-        ),
-        _ => None,
     }
 }
 
@@ -123,37 +119,6 @@ fn number_operand(word: &[u8]) -> Option<u32>
     match word {
         [b'0', _, ..] => None,
         digits => number_in(digits),
-    }
-}
-
-fn tally_command(operands: &[String]) -> Option<Command<'_>>
-    ensures { asked result ≡ tally_command operands.now }
-{
-    match operands {
-        [root, user] if is_operand(root.as_bytes()) && is_user(user.as_bytes()) => {
-            Some(Command::Tally(root.as_bytes(), user.as_bytes()))
-        }
-        _ => None,
-    }
-}
-
-fn audit_command(operands: &[String]) -> Option<Command<'_>>
-    ensures { asked result ≡ audit_command operands.now }
-{
-    match operands {
-        [root, service] if is_operand(root.as_bytes()) && is_service(service.as_bytes()) => {
-            Some(Command::Audit(root.as_bytes(), service.as_bytes()))
-        }
-        _ => None,
-    }
-}
-
-fn wire_command(operands: &[String]) -> Option<Command<'_>>
-    ensures { asked result ≡ wire_command operands.now }
-{
-    match operands {
-        [root] if is_operand(root.as_bytes()) => Some(Command::Wire(root.as_bytes())),
-        _ => None,
     }
 }
 
