@@ -54,11 +54,11 @@ module _ (path bytes at : List ℕ) (f : File) where
   put_by fs false e below = put_later (file_at at (file_put path bytes fs)) (file_at at fs) (bytes_eq f.path at) refl e below
 
 -- what is at a path after a file was set
-put_at : (path bytes at : List ℕ) (files : List File) → file_at at (file_put path bytes files) ≡ cond (bytes_eq path at) (Some bytes) (file_at at files)
+pub put_at : (path bytes at : List ℕ) (files : List File) → file_at at (file_put path bytes files) ≡ cond (bytes_eq path at) (Some bytes) (file_at at files)
 put_at path bytes at [] = refl
 put_at path bytes at (f ∷ fs) = put_by path bytes at f fs (bytes_eq f.path path) refl (put_at path bytes at fs)
 
-not_there : (path at : List ℕ) → path ≢ at → (t : Bool) → bytes_eq path at ≡ t → bytes_eq path at ≡ false
+pub not_there : (path at : List ℕ) → path ≢ at → (t : Bool) → bytes_eq path at ≡ t → bytes_eq path at ≡ false
 not_there path at other true e = absurd (other ((bytes_eq-Decides path at).0 e))
 not_there path at other false e = e
 

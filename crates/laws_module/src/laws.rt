@@ -1,4 +1,5 @@
 ghost use Rattle.laws_module.specs.Others.{OthersDontMatter};
+ghost use Rattle.laws_module.specs.OwnEntry.{FilesStayUnlessChanged, OtherEntriesStay, OthersDontMatterToChange, OthersDontMatterUnlessChanged};
 ghost use Rattle.laws_module.specs.Password.{LetInHasPassword};
 ghost use Rattle.laws_module.specs.Tallies.{OtherFilesStay, OtherTalliesDontMatter};
 
@@ -18,6 +19,30 @@ pub fn who_pam_unix_lets_in_has_the_password()
 pub fn other_users_dont_matter()
     ensures { OthersDontMatter }
 {}
+
+/// Nor do they matter to any other function of pam_unix. With other files that agree for the user
+/// in the same way, acct_mgmt, setcred, open_session and close_session return the same code, do the
+/// same to the transaction, and leave files that agree. So do both passes of chauthtok: they ask
+/// the same, take the same locks, and leave the user the same entry; if both shadows have room for
+/// a new hash of the user, and the time is one that a clock gives.
+pub fn other_entries_dont_matter()
+    ensures unless_changed { OthersDontMatterUnlessChanged }
+    ensures change { OthersDontMatterToChange }
+{
+    account_db::laws::new_hash_is_read();
+    sha_crypt::laws::hash_fits_a_field();
+}
+
+/// And they stay: each call of pam_unix, a change of token too, leaves every other user's entry of
+/// shadow as it was, if shadow can be read, and every other file, even if accesses fail. The time
+/// is one that a clock gives. All functions except chauthtok leave all files.
+pub fn other_entries_stay()
+    ensures entries { OtherEntriesStay }
+    ensures files { FilesStayUnlessChanged }
+{
+    account_db::laws::new_hash_is_read();
+    sha_crypt::laws::hash_fits_a_field();
+}
 
 /// Other users' tallies, and shadow, don't matter to pam_faillock: with other files that have the
 /// same passwd and the same tally of the user, each call returns the same code, does the same to
