@@ -1,6 +1,6 @@
 -- That what other users do meanwhile doesn't matter (the statement is this project's own).
 use Rattle.std.specs.Prelude.{◌≡◌, ◌≢◌, ℕ, List, [], ◌∷◌, Some, codes}
-use Rattle.pam_base.specs.declared.call.Func.TheVariants.{Authenticate}
+use Rattle.pam_base.specs.declared.call.Func.{Func}
 use Rattle.pam_base.specs.declared.code.Code.{Code}
 use Rattle.pam_outside.specs.Files.{File}
 use Rattle.pam_outside.specs.Paths.{path_of}
@@ -12,49 +12,58 @@ use Rattle.pam_handle.specs.StackCalls.{stack_call}
 use Rattle.mod_tally.specs.Faillock.{tally_name}
 use Rattle.laws_denial.specs.Kept_out.{EachLine}
 use Rattle.laws_module.specs.Others.{IsShadow}
-use Rattle.laws_user.specs.Calls.{EndAlike, IsOwnLine, with_files}
+use Rattle.laws_user.specs.Calls.{EndAlike, IsOwnLine, stack_run, with_files}
+use Rattle.laws_user.specs.Users.{HasRoomFor, IsTimely}
 
--- an authentication: its flags, USER, its transaction, and the world of its process
-pub record Login : Type 0 where
+-- a call that runs a stack: its function and flags, USER, its transaction, and the world of its
+-- process
+pub record UserCall : Type 0 where
+  pub func : Func
   pub flags : ℕ
   pub user : List ℕ
   pub handle : PlainHandle
   pub world : PlainWorld
 
--- it is over a stack whose lines keep to the user's own entries, and this is its USER
-pub record IsOwn (players : List Player) (folder : List ℕ) (l : Login) : Type 0 where
-  pub lines : EachLine (IsOwnLine players folder) 1 l.handle.stacks.auth
-  pub user_is : l.handle.room.transaction.items.user ≡ Some l.user
+-- it is over a stack whose lines keep to the user's own entries, this is its USER, and its time is
+-- one that a clock gives
+pub record IsOwn (players : List Player) (folder : List ℕ) (c : UserCall) : Type 0 where
+  pub lines : EachLine (IsOwnLine players c.func folder) 1 (stack_run c.func c.handle)
+  pub user_is : c.handle.room.transaction.items.user ≡ Some c.user
+  pub is_timely : IsTimely c.func c.world.clock.moment
 
--- no file that a user's authentication looks at is this one
+-- no file that a user's call looks at is this one
 pub record IsElsewhere (folder user root path : List ℕ) : Type 0 where
   pub passwd : path ≢ path_of root (codes "/etc/passwd")
   pub shadow : path ≢ path_of root (codes "/etc/shadow")
   pub tally : path ≢ path_of root (tally_name folder user)
 
 module _ (players : List Player) (number_of : Code → ℕ → ℕ) where
-  abbrev pub files_behind : Login → List File
-  files_behind l =
-      (stack_call players number_of Authenticate l.flags l.handle l.world).world.vault.files
+  abbrev pub files_behind : UserCall → List File
+  files_behind c =
+      (stack_call players number_of c.func c.flags c.handle c.world).world.vault.files
 
-  -- Authentications of others, in whatever processes, lead from files to files: each finds them as
-  -- the one before left them. Their tallies are elsewhere.
-  abbrev pub OthersLogIn : List ℕ → List ℕ → List ℕ → List File → List Login → List File → Type 0
-  OthersLogIn folder user root before [] after = after ≡ before
-  OthersLogIn folder user root before (l ∷ ls) after =
-      IsOwn players folder l × (l.world.vault.files ≡ before) × (l.world.process.root ≡ root)
-      × IsElsewhere folder user root (path_of root (tally_name folder l.user))
-      × OthersLogIn folder user root (files_behind l) ls after
+  -- Calls of others, in whatever processes, lead from files to files: each finds them as the one
+  -- before left them. Their tallies are elsewhere.
+  abbrev pub OthersCall : List ℕ → List ℕ → List ℕ → List File → List UserCall → List File → Type
+      0
+  OthersCall folder user root before [] after = after ≡ before
+  OthersCall folder user root before (c ∷ cs) after =
+      IsOwn players folder c × (c.world.vault.files ≡ before) × (c.world.process.root ≡ root)
+      × IsElsewhere folder user root (path_of root (tally_name folder c.user))
+      × OthersCall folder user root (files_behind c) cs after
 
--- Whoever else authenticates meanwhile, whether they get in or fail: a user's authentication
--- returns the same and leaves the same, if shadow can be read.
-abbrev pub LoginsDontMatter : Type 0
-LoginsDontMatter =
-    (players : List Player) (number_of : Code → ℕ → ℕ) (folder : List ℕ) (l : Login)
-    (entries : List Shadow) (others : List Login) (after : List File) →
-    let root = l.world.process.root in
-    IsOwn players folder l → IsShadow root l.world.vault.files entries →
-    path_of root (tally_name folder l.user) ≢ path_of root (codes "/etc/shadow") →
-    OthersLogIn players number_of folder l.user root l.world.vault.files others after →
-    EndAlike folder l.user (stack_call players number_of Authenticate l.flags l.handle l.world)
-    (stack_call players number_of Authenticate l.flags l.handle (with_files after l.world))
+-- Whoever else logs in or changes a token meanwhile, whether they succeed or fail: a user's call
+-- returns the same and leaves the same, if shadow can be read, and for a change of token has room
+-- before and after.
+abbrev pub CallsDontMatter : Type 0
+CallsDontMatter =
+    (players : List Player) (number_of : Code → ℕ → ℕ) (folder : List ℕ) (c : UserCall)
+    (entries : List Shadow) (others : List UserCall) (after : List File) →
+    let root = c.world.process.root in
+    IsOwn players folder c → IsShadow root c.world.vault.files entries →
+    HasRoomFor c.func c.user root c.world.vault.files → HasRoomFor c.func c.user root after →
+    path_of root (tally_name folder c.user) ≢ path_of root (codes "/etc/shadow") →
+    OthersCall players number_of folder c.user root c.world.vault.files others after →
+    EndAlike c.func folder c.user
+    (stack_call players number_of c.func c.flags c.handle c.world)
+    (stack_call players number_of c.func c.flags c.handle (with_files after c.world))

@@ -1,4 +1,4 @@
-//! Only laws on what users have to do with each other: nothing, for an authentication by pam_unix and pam_faillock.
+//! Only laws on what users have to do with each other: nothing, for each call over pam_unix and pam_faillock.
 #![tactic(auto)]
 
 pub mod laws;
