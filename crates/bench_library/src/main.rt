@@ -5,16 +5,15 @@
 #![tactic(auto)]
 
 ghost use Rattle.std.specs.Prelude.{IfOk};
-ghost use Rattle.pam_handle.specs.Plain.{plain_handle};
-ghost use Rattle.pam_handle.specs.Ready.{IsReadyFor};
+ghost use Rattle.pam_handle.specs.Around.{IsReady};
 
 use conv_port::{Conv, QueueConv};
 use fail_delay::DelayFn;
 use mod_basic::Permit;
 use pam_base::{Code, NoMemory, Numbers, Text};
-use pam_handle::{Gear, GearTold, Handle, StartCache};
+use pam_handle::{CallTold, Calls, Gear, Handle, StartCache};
 use pam_outside::{FixedClock, MemVault, NapSum, Vault};
-use pam_room::{Module, Process, Room, RoomTold, World, WorldTold};
+use pam_room::{Module, Process, World};
 use std::alloc::Global;
 use std::process::ExitCode;
 use std::{env, io};
@@ -109,12 +108,8 @@ fn authenticate(
     handle: &mut Handle,
     passes: u32,
 ) -> Result<u32, NoMemory>
-    requires { IsReadyFor (⟦<Gear as GearTold>⟧.players gear.now)
-        (plain_handle ⟦<Room as RoomTold>⟧.plain handle.old)
-        (⟦<World as WorldTold>⟧.plain world.old).process }
-    ensures { IsReadyFor (⟦<Gear as GearTold>⟧.players gear.now)
-        (plain_handle ⟦<Room as RoomTold>⟧.plain handle.new)
-        (⟦<World as WorldTold>⟧.plain world.new).process }
+    requires { IsReady (⟦<Calls as CallTold>⟧.seen gear.now handle.old world.old) }
+    ensures { IsReady (⟦<Calls as CallTold>⟧.seen gear.now handle.new world.new) }
 {
     let mut count = 0u32;
     for _ in 0..passes {

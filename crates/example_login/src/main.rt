@@ -3,8 +3,7 @@
 #![tactic(auto)]
 
 ghost use Rattle.std.specs.Prelude.{◌≡◌, Ok};
-ghost use Rattle.pam_handle.specs.Plain.{plain_handle};
-ghost use Rattle.pam_handle.specs.Ready.{IsReadyFor};
+ghost use Rattle.pam_handle.specs.Around.{IsReady};
 ghost use Rattle.pam_handle.specs.StackCalled.{StackCalled};
 ghost use Rattle.example_login.specs.LetIn.{IsLetIn, IsSameWorld};
 
@@ -12,13 +11,13 @@ mod card;
 mod guest;
 
 use card::Card;
-use fail_delay::{DelayFn, DelayTold};
+use fail_delay::DelayFn;
 use guest::Guest;
 use mod_basic::{Permit, Probe};
 use pam_base::{Code, ESTABLISH_CRED, NoMemory, Text, code_name, code_number};
-use pam_handle::{Gear, GearTold, Handle, StartCache};
+use pam_handle::{CallTold, Calls, Gear, Handle, StartCache};
 use pam_outside::set_moment;
-use pam_room::{Module, Process, Room, RoomTold, World, WorldTold};
+use pam_room::{Module, Process, World};
 use std::alloc::Global;
 use std::io;
 use std::process::ExitCode;
@@ -71,17 +70,10 @@ fn let_in(
     world: &mut World,
     handle: &mut Handle,
 ) -> Result<Code, NoMemory>
-    requires ready { IsReadyFor (⟦<Gear as GearTold>⟧.players gear.now)
-        (plain_handle ⟦<Room as RoomTold>⟧.plain handle.old)
-        (⟦<World as WorldTold>⟧.plain world.old).process }
-    ensures ready { IsReadyFor (⟦<Gear as GearTold>⟧.players gear.now)
-        (plain_handle ⟦<Room as RoomTold>⟧.plain handle.new)
-        (⟦<World as WorldTold>⟧.plain world.new).process }
-    ensures let_in { result ≡ Ok Code.Success → IsLetIn (λ func flags.
-        StackCalled func flags (⟦<Gear as GearTold>⟧.players gear.now)
-        (⟦<DelayFn as DelayTold>⟧.delay_is gear.now.delay)
-        ⟦<Room as RoomTold>⟧.tells ⟦<Room as RoomTold>⟧.plain
-        ⟦<World as WorldTold>⟧.tells ⟦<World as WorldTold>⟧.plain (Ok Code.Success))
+    requires ready { IsReady (⟦<Calls as CallTold>⟧.seen gear.now handle.old world.old) }
+    ensures ready { IsReady (⟦<Calls as CallTold>⟧.seen gear.now handle.new world.new) }
+    ensures let_in { result ≡ Ok Code.Success → IsLetIn (λ func flags h k w v.
+        StackCalled func flags (Ok Code.Success) (⟦<Calls as CallTold>⟧.around gear.now h k w v))
         IsSameWorld handle.old handle.new world.old world.new }
 {
     set_time(rt, world);

@@ -330,6 +330,11 @@ module _ (func : Func) (h new : PlainHandle) (room : PlainRoom) (later : Option 
 pub not_false : (b : Bool) → b ≡ true → b ≡ false → ⊥
 not_false b t f = false_true (sym f ∙ t)
 
+-- an authentication isn't refused
+pub not_refused : (func : Func) (flags : ℕ) → is_refused_for_flags func flags ≡ true → func ≡ Authenticate → ⊥
+not_refused ChAuthTok flags e is = (cc)
+not_refused func flags e is = false_true e
+
 pub same_call : (c : Called) (h : PlainHandle) (w : PlainWorld) (code : Code) → c ≡ called code h w → CallsAs c code h w
 same_call c h w code e = subst (λ (x : Called). CallsAs x code h w) (sym e) (record { code_is = refl; handle_is = refl; world_is = refl })
 

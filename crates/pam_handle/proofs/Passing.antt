@@ -1,8 +1,9 @@
 -- A pass over a chain with an array of cached codes is a pass over a stack with a function from rule numbers to codes.
-use Rattle.std.proofs.Common.{◌≡◌, ℕ, zero, suc, List, [], ◌∷◌, ◌++◌, Option, Some, None, Result, Ok, Err, IfOk, OnErr, ◌⊎◌, Bool, true, false, length, map, refl, sym, ◌∙◌, ap, subst}
+use Rattle.std.proofs.Common.{◌≡◌, ℕ, zero, suc, List, [], ◌∷◌, ◌++◌, Option, Some, None, Result, Ok, Err, IfOk, OnErr, ◌⊎◌, inl, inr, Bool, true, false, is_some, IsTrue, length, map, refl, sym, ◌∙◌, ap, subst}
 use Rattle.std.proofs.Math.Path.{fun_ext}
 use Rattle.std.proofs.lemmas.List.{length-map}
 use Rattle.pam_base.specs.declared.code.Code.{Code}
+use Rattle.pam_base.specs.declared.code.Code.TheVariants.{Incomplete}
 use Rattle.pam_base.specs.declared.call.Func.{Func}
 use Rattle.pam_base.specs.declared.fault.NoMemory.{NoMemory}
 use Rattle.dispatch_core.specs.control_words.specs.Stack.{Stack}
@@ -15,9 +16,9 @@ use Rattle.dispatch_core.specs.handler_chain.specs.Route.{KeptAnswers}
 use Rattle.dispatch_core.specs.AnyWorld.{GoesSoundly}
 use Rattle.dispatch_core.specs.Failing.{StopsAt}
 use Rattle.dispatch_core.specs.Lines.{answers_by, names_of}
-use Rattle.dispatch_core.specs.Passes.{by_place, paused_after, KeepsAfter, KeepsAll, LeavesAs}
+use Rattle.dispatch_core.specs.Passes.{by_place, kept_failed, paused_after, KeepsAfter, KeepsAll, LeavesAs}
 use Rattle.dispatch_core.specs.declared.request.PassRequest.{PassRequest}
-use Rattle.dispatch_core.specs.pam_room.specs.State.{PlainProcess, PlainRoom, PlainTransaction, PlainWorld, State}
+use Rattle.dispatch_core.specs.pam_room.specs.State.{PlainProcess, PlainTransaction, State}
 use Rattle.dispatch_core.specs.pam_room.specs.Module.{Breaks, Player, Plays, Note, notes_of, player_of}
 use Rattle.dispatch_core.specs.pam_room.specs.Stays.{IsReady}
 use Rattle.dispatch_core.specs.Calls.{answers_held, cached_after, passed_by}
@@ -25,7 +26,9 @@ use Rattle.dispatch_core.specs.Trail.{ByTrail, seen_in}
 use Rattle.dispatch_core.specs.pam_room.specs.declared.visits.Visit.{Visit as Visited}
 use Rattle.dispatch_core.specs.handler_chain.specs.Retell.{replaying, telling}
 use Rattle.pam_handle.specs.Pass.{PassesTo, kept_answers, passed}
-use Rattle.pam_handle.specs.Passes.{PassGives}
+use Rattle.pam_handle.specs.Around.{Around, all_tell, state_in}
+use Rattle.pam_handle.specs.Passes.{PassGives, stack_for}
+use Rattle.pam_handle.specs.Stopping.{PassedNothing, passing}
 
 none_by_place : (place : ℕ) → by_place None place ≡ None
 none_by_place zero = refl
@@ -109,13 +112,14 @@ pass_told (Ok code) found players func flags kind old new stack past s paused st
     (subst (λ (ps : List Player). LeavesAs kind (pass_after kind (by_place old) (answers_by ps func flags) stack past s) old code new paused state) e l)
 pass_told (Err none) found players func flags kind old new stack past s paused state e l = tt
 
--- the line at which a pass stopped
-pub pass_stopped : (result : Result Code NoMemory) (found players : List Player) (func : Func) (flags : ℕ) (kind : PassKind) (old : Answers) (stack : Stack) (past : List Code) (tells : Bool) (s t : State) (U : Type 0) → found ≡ players
-    → OnErr result (U ⊎ StopsAt found func flags stack kind (by_place old) past tells s t) → OnErr result (U ⊎ StopsAt players func flags stack kind (answers_held (kept_answers old)) past tells s t)
-pass_stopped (Ok code) found players func flags kind old stack past tells s t U e stops = tt
-pass_stopped (Err none) found players func flags kind old stack past tells s t U e stops =
-    subst (λ (ps : List Player). U ⊎ StopsAt ps func flags stack kind (answers_held (kept_answers old)) past tells s t) e
-    (subst (λ (kept : KeptAnswers). U ⊎ StopsAt found func flags stack kind kept past tells s t) (held_by_place old) stops)
+-- the line at which a pass stopped, or nothing happened
+pub pass_stopped : (result : Result Code NoMemory) (found players : List Player) (func : Func) (flags : ℕ) (kind : PassKind) (old : Answers) (stack : Stack) (past : List Code) (tells : Bool) (s t : State) (U V : Type 0) → found ≡ players → (U → V)
+    → OnErr result (U ⊎ StopsAt found func flags stack kind (by_place old) past tells s t) → OnErr result (V ⊎ StopsAt players func flags stack kind (answers_held (kept_answers old)) past tells s t)
+pass_stopped (Ok code) found players func flags kind old stack past tells s t U V e f stops = tt
+pass_stopped (Err none) found players func flags kind old stack past tells s t U V e f (inl u) = inl (f u)
+pass_stopped (Err none) found players func flags kind old stack past tells s t U V e f (inr at) =
+    inr (subst (λ (ps : List Player). StopsAt ps func flags stack kind (answers_held (kept_answers old)) past tells s t) e
+    (subst (λ (kept : KeptAnswers). StopsAt found func flags stack kind kept past tells s t) (held_by_place old) at))
 
 pub names_given : {M : Type 0} (result : Result (List (List ℕ)) NoMemory) (label : M → List ℕ) (plays : M → Plays) (note : M → Note) (breaks : M → Breaks) (found mods : List M)
     → found ≡ mods
@@ -123,9 +127,18 @@ pub names_given : {M : Type 0} (result : Result (List (List ℕ)) NoMemory) (lab
 names_given (Ok names) label plays note breaks found mods e n = n ∙ ap (map label) e ∙ sym (names_of_players label plays note breaks mods)
 names_given (Err none) label plays note breaks found mods e n = tt
 
--- what a pass over a stack gives, with another name for the stack
-pub gives_over : {C W : Type 0} {players : List Player} {request : PassRequest} {tells : Bool} {cached later : Answers} {past : List Code} {pausing : Option (List Code)} {result : Result Code NoMemory}
-    {old new : PlainRoom} {w v : PlainWorld} {conv next : C} {before after : W} (stack other : Stack) → other ≡ stack
-    → PassGives players request stack tells cached later past pausing result old new w v conv next before after
-    → PassGives players request other tells cached later past pausing result old new w v conv next before after
-gives_over stack other is g = rw is g
+-- what a pass over a stack gives, which is the stack of its call
+pub pass_gives : (request : PassRequest) (cached later : Answers) (past : List Code) (pausing : Option (List Code)) (result : Result Code NoMemory) (a : Around) (stack : Stack) → stack_for request a ≡ stack
+    → (IsTrue (all_tell a.old) → IfOk result (λ code. PassesTo (passed a.old.players request.func request.flags request.kind (kept_answers cached) stack past (state_in a.old)) code (kept_answers later) pausing (state_in a.new)))
+    → IfOk result (λ code. ByTrail request.kind (answers_held (kept_answers cached)) stack past a.old.handle.room.transaction.trail a.new.handle.room.transaction.trail (λ w told. PassesTo (passed_by request.kind (kept_answers cached) w) code (kept_answers later) pausing told))
+    → IfOk result (λ code. IsTrue (is_some pausing) → code ≡ Incomplete) → OnErr result (later ≡ kept_failed request.kind cached) → OnErr result (pausing ≡ None)
+    → OnErr result (PassedNothing (passing a) ⊎ StopsAt a.old.players request.func request.flags stack request.kind (answers_held (kept_answers cached)) past (all_tell a.old) (state_in a.old) (state_in a.new))
+    → PassGives request cached later past pausing result a
+pass_gives request cached later past pausing result a stack is told trail put_off kept paused stopped = record {
+  told = λ all. subst (λ (k : Stack). IfOk result (λ code. PassesTo (passed a.old.players request.func request.flags request.kind (kept_answers cached) k past (state_in a.old)) code (kept_answers later) pausing (state_in a.new))) (sym is) (told all);
+  by_trail = subst (λ (k : Stack). IfOk result (λ code. ByTrail request.kind (answers_held (kept_answers cached)) k past a.old.handle.room.transaction.trail a.new.handle.room.transaction.trail (λ w seen. PassesTo (passed_by request.kind (kept_answers cached) w) code (kept_answers later) pausing seen))) (sym is) trail;
+  put_off = put_off;
+  kept = kept;
+  paused = paused;
+  stopped = subst (λ (k : Stack). OnErr result (PassedNothing (passing a) ⊎ StopsAt a.old.players request.func request.flags k request.kind (answers_held (kept_answers cached)) past (all_tell a.old) (state_in a.old) (state_in a.new))) (sym is) stopped;
+}

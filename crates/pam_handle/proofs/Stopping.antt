@@ -1,5 +1,5 @@
 -- The line at which a call ran out of memory, by the line at which its pass did.
-use Rattle.std.proofs.Common.{◌≡◌, ◌⊎◌, inl, inr, ℕ, Bool, true, false, IsTrue, List, [], length, Option, Some, None, Result, Ok, Err, OnErr, sym, subst}
+use Rattle.std.proofs.Common.{◌≡◌, ◌⊎◌, inl, inr, ℕ, true, false, IsTrue, List, [], length, Option, Some, None, Result, Ok, Err, OnErr, sym, subst}
 use Rattle.pam_base.specs.declared.code.Code.{Code}
 use Rattle.pam_base.specs.declared.call.Func.{Func}
 use Rattle.pam_base.specs.declared.call.Func.TheVariants.{Authenticate, SetCred, AcctMgmt, OpenSession, CloseSession, ChAuthTok}
@@ -8,20 +8,17 @@ use Rattle.frozen_chain.specs.Kept.{Answers}
 use Rattle.dispatch_core.specs.AnyWorld.{GoesSoundly}
 use Rattle.dispatch_core.specs.AnswersSoFar.{past_of}
 use Rattle.dispatch_core.specs.Calls as calls
-use Rattle.dispatch_core.specs.Calls.{Held, answers_held, held}
-use Rattle.dispatch_core.specs.Failing.{IsUntouched, StopsAt}
+use Rattle.dispatch_core.specs.Calls.{answers_held, held}
+use Rattle.dispatch_core.specs.Failing.{StopsAt}
 use Rattle.dispatch_core.specs.Pending.{Pending, first_in, past_in}
-use Rattle.dispatch_core.specs.pam_room.specs.Module.{Player, notes_of}
+use Rattle.dispatch_core.specs.pam_room.specs.Module.{notes_of}
 use Rattle.dispatch_core.specs.pam_room.specs.State.{PlainRoom, PlainWorld, State, state_of}
-use Rattle.dispatch_core.specs.service_load.specs.Stacks.{Stacks}
-use Rattle.dispatch_core.specs.handler_chain.specs.declared.pass_kind.PassKind.TheVariants.{Follow}
 use Rattle.dispatch_core.specs.handler_chain.specs.Route.{KeptAnswers}
-use Rattle.pam_handle.specs.Handle.{PlainHandle}
+use Rattle.pam_handle.specs.Around.{Around}
 use Rattle.pam_handle.specs.Pass.{PassesTo, kept_answers}
-use Rattle.pam_handle.specs.Passes.{StopsIn, is_followed, is_second, kind_of, stack_at, stack_type}
-use Rattle.pam_handle.specs.StackCalled.{Stops}
+use Rattle.pam_handle.specs.Passes.{is_followed, is_second, kind_of, stack_at, stack_type}
 use Rattle.pam_handle.specs.StackCalls.{asking_by, flags_seen}
-use Rattle.pam_handle.specs.Stopping.{PassedNothing, StopsInUpdate, first_kept, room_begun, room_failed}
+use Rattle.pam_handle.specs.Stopping.{PassedNothing, Passing, Stops, StopsIn, StopsInChange, StopsInUpdate, StopsLater, first_kept, passing, room_begun, room_failed}
 use Rattle.pam_handle.proofs.Going.{followed}
 
 false_true : false ≡ true → ⊥
@@ -32,97 +29,121 @@ pub on_err_from : {P Q : Type 0} (result : Result Code NoMemory) → (P → Q) �
 on_err_from (Ok code) f p = tt
 on_err_from (Err none) f p = f p
 
-passed_nothing : {World Conv : Type 0} {start end : PlainRoom} {conv later : Conv} {before after : World} → IsUntouched start end conv later before after → PassedNothing start end before after
-passed_nothing u = record { room = u.room; world = u.world }
+-- in the first pass of a call
+abbrev pub FirstStops : Func → ℕ → List Code → Passing → Type 0
+FirstStops func flags past p = PassedNothing p
+    ⊎ StopsAt p.players func (flags_seen func false flags) (stack_at p.stacks (stack_type func)) (kind_of func (first_kept func p.held))
+    (answers_held (first_kept func p.held)) past p.tells p.start p.end
 
-module _ {World : Type 0} (players : List Player) (flags : ℕ) (stacks : Stacks) (tells : Bool) (h : Held) (past : List Code) where
-  -- in the first pass of a call
-  abbrev pub FirstStops : {Conv : Type 0} → Func → State → State → Conv → Conv → World → World → Type 0
-  FirstStops func start end conv later before after = IsUntouched start.room end.room conv later before after
-      ⊎ StopsAt players func (flags_seen func false flags) (stack_at stacks (stack_type func)) (kind_of func (first_kept func h)) (answers_held (first_kept func h)) past tells start end
+once : (func : Func) (flags : ℕ) (first : Answers) (past : List Code) (p : Passing) → is_second func first ≡ false → FirstStops func flags past p
+    → StopsIn func flags (kept_answers first) past p
+once ChAuthTok flags (Some cells) past p begins s = absurd (false_true (sym begins))
+once ChAuthTok flags None past p begins (inl u) = inl u
+once ChAuthTok flags None past p begins (inr t) = inr (inl t)
+once Authenticate flags first past p begins s = s
+once SetCred flags first past p begins s = s
+once AcctMgmt flags first past p begins s = s
+once OpenSession flags first past p begins s = s
+once CloseSession flags first past p begins s = s
 
-  once : {Conv : Type 0} (func : Func) (first : Answers) (start end : State) (conv later : Conv) (before after : World)
-      → is_second func first ≡ false → FirstStops func start end conv later before after
-      → StopsIn func players flags stacks tells h (kept_answers first) past start end before after
-  once ChAuthTok (Some cells) start end conv later before after begins s = absurd (false_true (sym begins))
-  once ChAuthTok None start end conv later before after begins (inl u) = inl (passed_nothing u)
-  once ChAuthTok None start end conv later before after begins (inr t) = inr (inl t)
-  once Authenticate first start end conv later before after begins (inl u) = inl (passed_nothing u)
-  once Authenticate first start end conv later before after begins (inr t) = inr t
-  once SetCred first start end conv later before after begins (inl u) = inl (passed_nothing u)
-  once SetCred first start end conv later before after begins (inr t) = inr t
-  once AcctMgmt first start end conv later before after begins (inl u) = inl (passed_nothing u)
-  once AcctMgmt first start end conv later before after begins (inr t) = inr t
-  once OpenSession first start end conv later before after begins (inl u) = inl (passed_nothing u)
-  once OpenSession first start end conv later before after begins (inr t) = inr t
-  once CloseSession first start end conv later before after begins (inl u) = inl (passed_nothing u)
-  once CloseSession first start end conv later before after begins (inr t) = inr t
-
-  pub stops_once : {Conv : Type 0} (result : Result Code NoMemory) (func : Func) (first : Answers) (start end : State) (conv later : Conv) (before after : World)
-      → is_second func first ≡ false → OnErr result (FirstStops func start end conv later before after)
-      → OnErr result (StopsIn func players flags stacks tells h (kept_answers first) past start end before after)
-  stops_once result func first start end conv later before after begins = on_err_from result (once func first start end conv later before after begins)
+pub stops_once : (result : Result Code NoMemory) (func : Func) (flags : ℕ) (first : Answers) (past : List Code) (p : Passing)
+    → is_second func first ≡ false → OnErr result (FirstStops func flags past p) → OnErr result (StopsIn func flags (kept_answers first) past p)
+stops_once result func flags first past p begins = on_err_from result (once func flags first past p begins)
 
 -- in the second pass of a change of token
-abbrev pub SecondStops : {World Conv : Type 0} → List Player → ℕ → Stacks → Bool → Option KeptAnswers → List Code → State → State → Conv → Conv → World → World → Type 0
-SecondStops players flags stacks tells first past start end conv later before after = IsUntouched start.room end.room conv later before after
-    ⊎ StopsAt players ChAuthTok (flags_seen ChAuthTok true flags) stacks.password Follow (answers_held first) past tells start end
+pub stops_second : (result : Result Code NoMemory) (func : Func) (flags : ℕ) (first : Answers) (past : List Code) (p : Passing)
+    → is_second func first ≡ true → OnErr result (StopsInUpdate flags (kept_answers first) past p)
+    → OnErr result (StopsIn func flags (kept_answers first) past p)
+stops_second result ChAuthTok flags None past p is s = absurd (false_true is)
+stops_second result ChAuthTok flags (Some cells) past p is s = s
+stops_second result func flags first past p is s = absurd (false_true is)
 
-update : {World Conv : Type 0} (players : List Player) (flags : ℕ) (stacks : Stacks) (tells : Bool) (first : Option KeptAnswers) (past : List Code) (start end : State) (conv later : Conv) (before after : World)
-    → SecondStops players flags stacks tells first past start end conv later before after → StopsInUpdate players flags stacks.password tells first past start end before after
-update players flags stacks tells first past start end conv later before after (inl u) = inl (passed_nothing u)
-update players flags stacks tells first past start end conv later before after (inr t) = inr t
+update_by : (flags : ℕ) (first : Option KeptAnswers) (past : List Code) (p : Passing) (K : Type 0) → (p.world_is_kept → K)
+    → StopsInUpdate flags first past p → StopsInUpdate flags first past (record p { world_is_kept = K })
+update_by flags first past p K kept (inl u) = inl (u.0, kept u.1)
+update_by flags first past p K kept (inr t) = inr t
 
-module _ {World : Type 0} (players : List Player) (flags : ℕ) (stacks : Stacks) (tells : Bool) (h : Held) (past : List Code) where
-  pub stops_second : {Conv : Type 0} (result : Result Code NoMemory) (func : Func) (first : Answers) (start end : State) (conv later : Conv) (before after : World)
-      → is_second func first ≡ true → OnErr result (SecondStops players flags stacks tells (kept_answers first) past start end conv later before after)
-      → OnErr result (StopsIn func players flags stacks tells h (kept_answers first) past start end before after)
-  stops_second result ChAuthTok None start end conv later before after is s = absurd (false_true is)
-  stops_second result ChAuthTok (Some cells) start end conv later before after is s = on_err_from result (update players flags stacks tells (kept_answers (Some cells)) past start end conv later before after) s
-  stops_second result func first start end conv later before after is s = absurd (false_true is)
-
-  pub stops_twice : {Conv : Type 0} (result : Result Code NoMemory) (func : Func) (first : Answers) (code : Code) (kept : Option KeptAnswers) (paused : Option (List Code)) (start between end : State) (conv later : Conv) (before behind after : World)
-      → is_second func first ≡ false → is_followed func code ≡ true → paused ≡ None
-      → (IsTrue tells → PassesTo (calls.first_pass (asking_by players flags) stacks func past h start) code kept paused between)
-      → GoesSoundly (notes_of players) (length players) start.room.transaction between.room.transaction start.world.process between.world.process
-      → OnErr result (SecondStops players flags stacks tells kept (past_of paused) between end conv later behind after)
-      → OnErr result (StopsIn func players flags stacks tells h (kept_answers first) past start end before after)
-  stops_twice result ChAuthTok (Some cells) code kept paused start between end conv later before behind after begins follows over checked sound s = absurd (false_true (sym begins))
-  stops_twice result ChAuthTok None code kept paused start between end conv later before behind after begins follows over checked sound s = on_err_from result (λ t. inr (inr (record {
-    between = between;
-    behind = behind;
-    first = kept;
-    checked = λ told. subst (λ (k : Code). PassesTo (calls.first_pass (asking_by players flags) stacks ChAuthTok past h start) k kept None between) (followed ChAuthTok code follows).1
-        (subst (λ (o : Option (List Code)). PassesTo (calls.first_pass (asking_by players flags) stacks ChAuthTok past h start) code kept o between) over (checked told));
-    sound = sound;
-    update = update players flags stacks tells kept [] between end conv later behind after
-        (subst (λ (o : Option (List Code)). SecondStops players flags stacks tells kept (past_of o) between end conv later behind after) over t);
-  }))) s
-  stops_twice result func first code kept paused start between end conv later before behind after begins follows over checked sound s = absurd (false_true follows)
+-- after a first pass with SUCCESS
+pub stops_twice : (result : Result Code NoMemory) (func : Func) (flags : ℕ) (first : Answers) (past : List Code) (p : Passing) (code : Code)
+    (kept : Option KeptAnswers) (paused : Option (List Code)) (between : State) (L : Type 0)
+    → is_second func first ≡ false → is_followed func code ≡ true → paused ≡ None
+    → (IsTrue p.tells → PassesTo (calls.first_pass (asking_by p.players flags) p.stacks func past p.held p.start) code kept paused between)
+    → GoesSoundly (notes_of p.players) (length p.players) p.start.room.transaction between.room.transaction p.start.world.process between.world.process
+    → (L → p.end.world ≡ between.world)
+    → OnErr result (StopsInUpdate flags kept (past_of paused) (record p { start = between; world_is_kept = L }))
+    → OnErr result (StopsIn func flags (kept_answers first) past p)
+stops_twice result ChAuthTok flags (Some cells) past p code kept paused between L begins follows over checked sound same s = absurd (false_true (sym begins))
+stops_twice result ChAuthTok flags None past p code kept paused between L begins follows over checked sound same s = on_err_from result (λ t. inr (inr (record {
+  between = between;
+  first = kept;
+  checked = λ told. subst (λ (k : Code). PassesTo (calls.first_pass (asking_by p.players flags) p.stacks ChAuthTok past p.held p.start) k kept None between)
+      (followed ChAuthTok code follows).1
+      (subst (λ (o : Option (List Code)). PassesTo
+      (calls.first_pass (asking_by p.players flags) p.stacks ChAuthTok past p.held p.start) code kept o between) over (checked told));
+  sound = sound;
+  update = update_by flags kept [] (record p { start = between; world_is_kept = L }) (p.end.world ≡ between.world) same
+      (subst (λ (o : Option (List Code)). StopsInUpdate flags kept (past_of o) (record p { start = between; world_is_kept = L })) over t);
+}))) s
+stops_twice result func flags first past p code kept paused between L begins follows over checked sound same s = absurd (false_true follows)
 
 -- ---- the whole call
 
-module _ {World : Type 0} (players : List Player) (flags : ℕ) (tells : Bool) (old new : PlainHandle) (plain : World → PlainWorld) (before after : World) (room : PlainRoom) (q : Option Pending) where
-  abbrev StopsThere : Func → Type 0
-  StopsThere func = StopsIn func players flags old.stacks tells (held old.authenticated old.opened q) (first_in old.pending) (past_in old.pending)
-      (state_of (room_begun func old) (plain before)) (state_of room (plain after)) before after
+-- it doesn't matter which call was pending, and why the world is the very same
+module _ (p : Passing) (pending : Option Pending) (K : Type 0) (kept : p.world_is_kept → K) where
+  abbrev kept_as : Passing
+  kept_as = record p { held = record p.held { pending = pending }; world_is_kept = K }
 
-  there : (func : Func) → new.room ≡ room_failed func room → StopsThere func → Stops func players flags tells old new (plain before) (plain after) before after
-  there Authenticate ended s = record { room = room; ended = ended; stopped = s }
-  there SetCred ended s = record { room = room; ended = ended; stopped = s }
-  there AcctMgmt ended s = record { room = room; ended = ended; stopped = s }
-  there OpenSession ended s = record { room = room; ended = ended; stopped = s }
-  there CloseSession ended s = record { room = room; ended = ended; stopped = s }
-  there ChAuthTok ended s = record { room = room; ended = ended; stopped = s }
+  nothing_as : PassedNothing p → PassedNothing kept_as
+  nothing_as u = (u.0, kept u.1)
 
--- after its passes a call left the world as it was
-pub stops_call : {World : Type 0} (result : Result Code NoMemory) (players : List Player) (func : Func) (flags : ℕ) (tells : Bool) (old new : PlainHandle) (plain : World → PlainWorld) (before mid after : World)
-    (start room : PlainRoom) (given : List Code) (first : Option KeptAnswers) (q : Option Pending)
-    → start ≡ room_begun func old → given ≡ past_in old.pending → first ≡ first_in old.pending → OnErr result (new.room ≡ room_failed func room) → OnErr result (after ≡ mid)
-    → OnErr result (StopsIn func players flags old.stacks tells (held old.authenticated old.opened q) first given (state_of start (plain before)) (state_of room (plain mid)) before mid)
-    → OnErr result (Stops func players flags tells old new (plain before) (plain after) before after)
-stops_call (Ok code) players func flags tells old new plain before mid after start room given first q begun g f ended same s = tt
-stops_call {World} (Err none) players func flags tells old new plain before mid after start room given first q begun g f ended same s =
-    there players flags tells old new plain before after room q func ended
-    (subst (λ (x : World). StopsIn func players flags old.stacks tells (held old.authenticated old.opened q) (first_in old.pending) (past_in old.pending) (state_of (room_begun func old) (plain before)) (state_of room (plain x)) before x) (sym same)
-    (rw (← begun, ← g, ← f) s))
+  later_as : (flags : ℕ) (past : List Code) → StopsLater flags past p → StopsLater flags past kept_as
+  later_as flags past s = record { between = s.between; first = s.first; checked = s.checked; sound = s.sound; update = s.update }
+
+  change_as : (flags : ℕ) (first : Option KeptAnswers) (past : List Code) → StopsInChange flags first past p → StopsInChange flags first past kept_as
+  change_as flags None past (inl u) = inl (nothing_as u)
+  change_as flags None past (inr (inl t)) = inr (inl t)
+  change_as flags None past (inr (inr s)) = inr (inr (later_as flags past s))
+  change_as flags (Some first) past (inl u) = inl (nothing_as u)
+  change_as flags (Some first) past (inr t) = inr t
+
+  stops_as : (func : Func) (flags : ℕ) (first : Option KeptAnswers) (past : List Code) → StopsIn func flags first past p → StopsIn func flags first past kept_as
+  stops_as ChAuthTok flags first past s = change_as flags first past s
+  stops_as Authenticate flags first past (inl u) = inl (nothing_as u)
+  stops_as Authenticate flags first past (inr t) = inr t
+  stops_as SetCred flags first past (inl u) = inl (nothing_as u)
+  stops_as SetCred flags first past (inr t) = inr t
+  stops_as AcctMgmt flags first past (inl u) = inl (nothing_as u)
+  stops_as AcctMgmt flags first past (inr t) = inr t
+  stops_as OpenSession flags first past (inl u) = inl (nothing_as u)
+  stops_as OpenSession flags first past (inr t) = inr t
+  stops_as CloseSession flags first past (inl u) = inl (nothing_as u)
+  stops_as CloseSession flags first past (inr t) = inr t
+
+-- the passes of a call: the room in which they begin and the call that was pending, the room and the world in which they
+-- end, and that the world is the very same
+abbrev pub passed_in : Around → PlainRoom → Option Pending → PlainRoom → PlainWorld → Type 0 → Passing
+passed_in a start pending end world kept = record (passing a) {
+  held = held a.old.handle.authenticated a.old.handle.opened pending;
+  start = state_of start a.old.world;
+  end = state_of end world;
+  world_is_kept = kept;
+}
+
+-- if it ran out of memory, a call left the world as its passes did
+pub stops_call : (result : Result Code NoMemory) (func : Func) (flags : ℕ) (a : Around) (start room : PlainRoom) (q : Option Pending) (given : List Code)
+    (first : Option KeptAnswers) (mid : PlainWorld) (L : Type 0)
+    → start ≡ room_begun func a.old.handle → given ≡ past_in a.old.handle.pending → first ≡ first_in a.old.handle.pending
+    → OnErr result (a.new.handle.room ≡ room_failed func room) → OnErr result (a.new.world ≡ mid) → OnErr result (L → a.world_is_kept)
+    → OnErr result (StopsIn func flags first given (passed_in a start q room mid L)) → OnErr result (Stops func flags a)
+stops_call (Ok code) func flags a start room q given first mid L begun g f ended same kept s = tt
+stops_call (Err none) func flags a start room q given first mid L begun g f ended same kept s = record {
+  room = room;
+  ended = ended;
+  stopped = stops_as (passed_in a (room_begun func a.old.handle) q room a.new.world L) a.old.handle.pending a.world_is_kept kept func flags
+      (first_in a.old.handle.pending) (past_in a.old.handle.pending)
+      (subst (λ (w : PlainWorld). StopsIn func flags (first_in a.old.handle.pending) (past_in a.old.handle.pending)
+      (passed_in a (room_begun func a.old.handle) q room w L)) (sym same)
+      (subst (λ (k : Option KeptAnswers). StopsIn func flags k (past_in a.old.handle.pending) (passed_in a (room_begun func a.old.handle) q room mid L)) f
+      (subst (λ (k : List Code). StopsIn func flags first k (passed_in a (room_begun func a.old.handle) q room mid L)) g
+      (subst (λ (r : PlainRoom). StopsIn func flags first given (passed_in a r q room mid L)) begun s))));
+}

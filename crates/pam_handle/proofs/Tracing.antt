@@ -7,21 +7,28 @@ use Rattle.pam_base.specs.declared.fault.NoMemory.{NoMemory}
 use Rattle.frozen_chain.specs.Kept.{Answers}
 use Rattle.dispatch_core.specs.AnswersSoFar.{past_of}
 use Rattle.dispatch_core.specs.Calls as calls
-use Rattle.dispatch_core.specs.Calls.{Asking, Held, Went, held, went}
+use Rattle.dispatch_core.specs.Calls.{Asking, Held, Went, answers_held, held, passed_by, went}
 use Rattle.dispatch_core.specs.Pending.{Pending, first_in, past_in, pending_after}
-use Rattle.dispatch_core.specs.Trail.{seen_in, seen_of}
+use Rattle.dispatch_core.specs.Trail.{ByTrail, seen_in, seen_of}
+use Rattle.dispatch_core.specs.control_words.specs.Stack.{Stack}
 use Rattle.dispatch_core.specs.pam_room.specs.declared.visits.Visit.{Visit}
 use Rattle.dispatch_core.specs.service_load.specs.Stacks.{Stacks}
+use Rattle.dispatch_core.specs.handler_chain.specs.declared.pass_kind.PassKind.{PassKind}
 use Rattle.dispatch_core.specs.handler_chain.specs.declared.pass_kind.PassKind.TheVariants.{Follow}
 use Rattle.dispatch_core.specs.handler_chain.specs.Retell.{Seen, Telling, telling}
 use Rattle.dispatch_core.specs.handler_chain.specs.Route.{KeptAnswers}
 use Rattle.pam_handle.specs.Handle.{PlainHandle}
-use Rattle.pam_handle.specs.Pass.{kept_answers}
-use Rattle.pam_handle.specs.Passes.{PassesByTrail, authenticated_with, is_followed, is_second, kind_of, opened_with, stack_at, stack_type}
+use Rattle.pam_handle.specs.Pass.{PassesTo, kept_answers}
+use Rattle.pam_handle.specs.Passes.{authenticated_with, is_followed, is_second, kind_of, opened_with, stack_at, stack_type}
 use Rattle.pam_handle.specs.StackCalls.{held_in}
 use Rattle.pam_handle.specs.Stopping.{first_kept}
 use Rattle.pam_handle.specs.Trail.{CallsByTrail, as_traced}
 use Rattle.pam_handle.proofs.Going.{first_passes, goes_once, goes_second, goes_twice}
+
+-- a pass by the lines that it added to the trace
+abbrev pub PassesByTrail : PassKind → Option KeptAnswers → Stack → List Code → List Visit → List Visit → Code → Option KeptAnswers → Option (List Code) → Type 0
+PassesByTrail kind kept stack past before after code later paused =
+    ByTrail kind (answers_held kept) stack past before after (λ w told. PassesTo (passed_by kind kept w) code later paused told)
 
 -- the first pass of a call
 abbrev pub FirstByTrail : Func → Stacks → List Code → Held → List Visit → List Visit → Code → Option KeptAnswers → Option (List Code) → Type 0

@@ -16,6 +16,7 @@ pub mod End
 pub mod AnyWorld
 pub mod Plain
 pub mod Ready
+pub mod Around
 pub mod Stopping
 pub mod Trail
 pub mod Passes

@@ -8,15 +8,12 @@ use Rattle.pam_base.specs.declared.call.Func.TheVariants.{Authenticate, SetCred,
 use Rattle.pam_base.specs.declared.fault.NoMemory.{NoMemory}
 use Rattle.frozen_chain.specs.Kept.{Answers}
 use Rattle.dispatch_core.specs.declared.request.PassRequest.{PassRequest}
-use Rattle.dispatch_core.specs.Calls.{Held, answers_held, call_after, following, held, passed_by, went}
-use Rattle.dispatch_core.specs.Failing.{IsUntouched, StopsAt}
+use Rattle.dispatch_core.specs.Calls.{answers_held, call_after, following, held, passed_by, went}
+use Rattle.dispatch_core.specs.Failing.{StopsAt}
 use Rattle.dispatch_core.specs.Passes.{kept_failed}
-use Rattle.dispatch_core.specs.Pending.{pending_after}
+use Rattle.dispatch_core.specs.Pending.{Pending, pending_after}
 use Rattle.dispatch_core.specs.Trail.{ByTrail}
 use Rattle.dispatch_core.specs.control_words.specs.Stack.{Stack}
-use Rattle.dispatch_core.specs.pam_room.specs.Module.{Player}
-use Rattle.dispatch_core.specs.pam_room.specs.State.{PlainRoom, PlainWorld, State, state_of}
-use Rattle.dispatch_core.specs.pam_room.specs.declared.visits.Visit.{Visit}
 use Rattle.dispatch_core.specs.service_load.specs.Stacks.{Stacks}
 use Rattle.dispatch_core.specs.service_load.specs.declared.rule_type.RuleType.{RuleType}
 use Rattle.dispatch_core.specs.service_load.specs.declared.rule_type.RuleType.TheVariants.{Auth, Account, Password, Session}
@@ -24,10 +21,10 @@ use Rattle.dispatch_core.specs.handler_chain.specs.declared.pass_kind.PassKind.{
 use Rattle.dispatch_core.specs.handler_chain.specs.declared.pass_kind.PassKind.TheVariants as kinds
 use Rattle.dispatch_core.specs.handler_chain.specs.Route.{KeptAnswers}
 use Rattle.pam_handle.specs.AnyWorld.{LeavesAuthenticated, LeavesOpened, authenticated_failed, opened_failed}
-use Rattle.pam_handle.specs.Handle.{PlainHandle}
+use Rattle.pam_handle.specs.Around.{Around, all_tell, state_in}
 use Rattle.pam_handle.specs.Pass.{PassesTo, kept_answers, passed}
 use Rattle.pam_handle.specs.StackCalls.{asking_by, flags_seen, held_in}
-use Rattle.pam_handle.specs.Stopping.{PassedNothing, StopsInChange, first_kept, first_kind, first_stack}
+use Rattle.pam_handle.specs.Stopping.{PassedNothing, StopsIn, passing}
 use Rattle.pam_handle.specs.Trail.{CallsByTrail, as_traced}
 
 -- ---- the stack, the cached codes and the kind of a pass
@@ -101,70 +98,58 @@ is_followed func code = false
 
 -- ---- one pass
 
--- a pass by the lines that it added to the trace
-abbrev pub PassesByTrail : PassKind → Option KeptAnswers → Stack → List Code → List Visit
-    → List Visit → Code → Option KeptAnswers → Option (List Code) → Type 0
-PassesByTrail kind kept stack past before after code later paused =
-    ByTrail kind (answers_held kept) stack past before after (λ w told.
-    PassesTo (passed_by kind kept w) code later paused told)
+-- the stack of a pass
+abbrev pub stack_for : PassRequest → Around → Stack
+stack_for request a = stack_at a.old.handle.stacks (stack_type request.func)
 
--- A pass over a stack has returned: its cached codes before and after it, the codes of its earlier calls, and those to
--- resume with.
-pub record PassGives {Conv World : Type 0} (players : List Player) (request : PassRequest)
-    (stack : Stack) (tells : Bool) (cached later : Answers) (past : List Code)
-    (pausing : Option (List Code)) (result : Result Code NoMemory) (old new : PlainRoom)
-    (w v : PlainWorld) (conv next : Conv) (before after : World) : Type 0 where
-  pub told : IsTrue tells → IfOk result (λ code. PassesTo
-      (passed players request.func request.flags request.kind (kept_answers cached) stack past
-      (state_of old w)) code (kept_answers later) pausing (state_of new v))
-  pub by_trail : IfOk result (λ code. PassesByTrail request.kind (kept_answers cached) stack past
-      old.transaction.trail new.transaction.trail code (kept_answers later) pausing)
+-- A pass has returned: its cached codes before and after it, the codes of its earlier calls, and those to resume with.
+pub record PassGives (request : PassRequest) (cached later : Answers) (past : List Code)
+    (pausing : Option (List Code)) (result : Result Code NoMemory) (a : Around) : Type 0 where
+  pub told : IsTrue (all_tell a.old) → IfOk result (λ code. PassesTo
+      (passed a.old.players request.func request.flags request.kind (kept_answers cached)
+      (stack_for request a) past (state_in a.old)) code (kept_answers later) pausing
+      (state_in a.new))
+  pub by_trail : IfOk result (λ code. ByTrail request.kind (answers_held (kept_answers cached))
+      (stack_for request a) past a.old.handle.room.transaction.trail
+      a.new.handle.room.transaction.trail (λ w told. PassesTo
+      (passed_by request.kind (kept_answers cached) w) code (kept_answers later) pausing told))
   pub put_off : IfOk result (λ code. IsTrue (is_some pausing) → code ≡ codes.Incomplete)
   pub kept : OnErr result (later ≡ kept_failed request.kind cached)
   pub paused : OnErr result (pausing ≡ None)
-  pub stopped : OnErr result (IsUntouched old new conv next before after
-      ⊎ StopsAt players request.func request.flags stack request.kind
-      (answers_held (kept_answers cached)) past tells (state_of old w) (state_of new v))
+  pub stopped : OnErr result (PassedNothing (passing a)
+      ⊎ StopsAt a.old.players request.func request.flags (stack_for request a) request.kind
+      (answers_held (kept_answers cached)) past (all_tell a.old) (state_in a.old) (state_in a.new))
 
 -- ---- all passes that are left of a call
 
--- where they ran out of memory
-abbrev pub StopsIn : {World : Type 0} → Func → List Player → ℕ → Stacks → Bool → Held
-    → Option KeptAnswers → List Code → State → State → World → World → Type 0
-StopsIn ChAuthTok players flags stacks tells h first past start end before after =
-    StopsInChange players flags stacks.password tells first past start end before after
-StopsIn func players flags stacks tells h first past start end before after =
-    PassedNothing start.room end.room before after
-    ⊎ StopsAt players func (flags_seen func false flags) (first_stack func stacks)
-    (first_kind func h) (answers_held (first_kept func h)) past tells start end
-
--- They have returned: `first` is what the first pass of a change of token had cached, and `later` what it has cached
--- now, if the second one is to be resumed.
-pub record PassesGive {World : Type 0} (players : List Player) (func : Func) (flags : ℕ)
-    (tells : Bool) (first later : Option KeptAnswers) (past : List Code)
-    (pausing : Option (List Code)) (result : Result Code NoMemory) (old new : PlainHandle)
-    (w v : PlainWorld) (before after : World) : Type 0 where
-  pub told : IsTrue tells → IfOk result (λ code.
-      call_after (asking_by players flags) old.stacks func past first (held_in old)
-      (state_of old.room w)
-      ≡ went code (held new.authenticated new.opened (pending_after func later pausing))
-      (state_of new.room v))
+-- They have returned. They began with the codes of a pending call, or with none; `later` is what the first pass of a
+-- change of token has cached, if the second one is to be resumed.
+pub record PassesGive (flags : ℕ) (begun : Pending) (later : Option KeptAnswers)
+    (pausing : Option (List Code)) (result : Result Code NoMemory) (a : Around) : Type 0 where
+  pub told : IsTrue (all_tell a.old) → IfOk result (λ code.
+      call_after (asking_by a.old.players flags) a.old.handle.stacks begun.func begun.past
+      begun.first (held_in a.old.handle) (state_in a.old)
+      ≡ went code (held a.new.handle.authenticated a.new.handle.opened
+      (pending_after begun.func later pausing)) (state_in a.new))
   pub by_trail : IfOk result (λ code. CallsByTrail
-      (λ s. call_after as_traced old.stacks func past first (held_in old) s)
-      old.room.transaction.trail new.room.transaction.trail code
-      (held new.authenticated new.opened (pending_after func later pausing)))
+      (λ s. call_after as_traced a.old.handle.stacks begun.func begun.past begun.first
+      (held_in a.old.handle) s)
+      a.old.handle.room.transaction.trail a.new.handle.room.transaction.trail code
+      (held a.new.handle.authenticated a.new.handle.opened
+      (pending_after begun.func later pausing)))
   pub put_off : IfOk result (λ code. IsTrue (is_some pausing) → code ≡ codes.Incomplete)
   pub paused : OnErr result (pausing ≡ None)
-  pub stopped : OnErr result (StopsIn func players flags old.stacks tells (held_in old) first past
-      (state_of old.room w) (state_of new.room v) before after)
-  pub authenticated : OnErr result
-      (new.authenticated ≡ authenticated_failed func old.authenticated)
-  pub opened : OnErr result (new.opened ≡ opened_failed func old.opened)
+  pub stopped : OnErr result (StopsIn begun.func flags begun.first begun.past (passing a))
+  pub authenticated : OnErr result (a.new.handle.authenticated
+      ≡ authenticated_failed begun.func a.old.handle.authenticated)
+  pub opened : OnErr result (a.new.handle.opened
+      ≡ opened_failed begun.func a.old.handle.opened)
   -- in every case
-  pub leaves_authenticated : LeavesAuthenticated func old.authenticated new.authenticated
-  pub leaves_opened : LeavesOpened func old.opened new.opened
-  pub others : new ≡ record old {
-    room = new.room;
-    authenticated = new.authenticated;
-    opened = new.opened;
+  pub leaves_authenticated : LeavesAuthenticated begun.func a.old.handle.authenticated
+      a.new.handle.authenticated
+  pub leaves_opened : LeavesOpened begun.func a.old.handle.opened a.new.handle.opened
+  pub others : a.new.handle ≡ record a.old.handle {
+    room = a.new.handle.room;
+    authenticated = a.new.handle.authenticated;
+    opened = a.new.handle.opened;
   }

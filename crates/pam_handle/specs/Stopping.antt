@@ -14,7 +14,8 @@ use Rattle.dispatch_core.specs.Calls.{Held, answers_held, following}
 use Rattle.dispatch_core.specs.Failing.{StopsAt}
 use Rattle.dispatch_core.specs.Pending.{first_in, past_in}
 use Rattle.dispatch_core.specs.pam_room.specs.Module.{Player, notes_of}
-use Rattle.dispatch_core.specs.pam_room.specs.State.{PlainRoom, PlainWorld, State, state_of}
+use Rattle.dispatch_core.specs.pam_room.specs.State.{PlainRoom, State, state_of}
+use Rattle.pam_handle.specs.Around.{Around, all_tell, state_in}
 use Rattle.pam_handle.specs.Handle.{PlainHandle}
 use Rattle.pam_handle.specs.Call.{items_begun, without_its_tokens, without_request}
 use Rattle.pam_handle.specs.Pass.{PassesTo, passed}
@@ -60,63 +61,82 @@ room_failed Authenticate r = without_request (without_its_tokens r)
 room_failed ChAuthTok r = without_request (without_its_tokens r)
 room_failed func r = without_request r
 
--- nothing happened in the pass
-pub record PassedNothing {World : Type 0} (start end : PlainRoom) (before after : World) : Type
-    0 where
-  pub room : end ≡ start
-  pub world : after ≡ before
+-- ---- where the passes of a call stopped
 
--- A call of one pass ran out of memory. In the room in which the pass stopped, the call itself only
--- cleared the tokens and the requested delay; in the pass nothing happened, or it stopped at a
--- line.
-pub record StopsOnce {World : Type 0} (players : List Player) (func : Func) (flags : ℕ)
-    (tells : Bool) (old new : PlainHandle) (w v : PlainWorld) (before after : World) : Type 0 where
-  pub room : PlainRoom
-  pub ended : new.room ≡ room_failed func room
-  pub stopped : PassedNothing (room_begun func old) room before after
-      ⊎ StopsAt players func (flags_seen func false flags) (first_stack func old.stacks)
-      (first_kind func (held_in old)) (answers_held (first_kept func (held_in old)))
-      (past_in old.pending) tells (state_of (room_begun func old) w) (state_of room v)
+-- What the passes of a call begin and end with: the modules, the stacks, what is held between two calls, whether all
+-- objects are modelled, the state before and after, and that the world is the very same.
+pub record Passing : Type 1 where
+  pub players : List Player
+  pub stacks : Stacks
+  pub held : Held
+  pub tells : Bool
+  pub start : State
+  pub end : State
+  pub world_is_kept : Type 0
 
--- ---- a change of token
+abbrev pub passing : Around → Passing
+passing a = record {
+  players = a.old.players;
+  stacks = a.old.handle.stacks;
+  held = held_in a.old.handle;
+  tells = all_tell a.old;
+  start = state_in a.old;
+  end = state_in a.new;
+  world_is_kept = a.world_is_kept;
+}
 
-module _ {World : Type 0} (players : List Player) (flags : ℕ) (stack : Stack) (tells : Bool) where
-  -- in its second pass, with the codes of the first
-  abbrev pub StopsInUpdate : Option KeptAnswers → List Code → State → State → World → World → Type 0
-  StopsInUpdate first past start end before after = PassedNothing start.room end.room before after
-      ⊎ StopsAt players ChAuthTok (flags_seen ChAuthTok true flags) stack kinds.Follow
-      (answers_held first) past tells start end
+-- nothing happened
+abbrev pub PassedNothing : Passing → Type 0
+PassedNothing p = (p.end.room ≡ p.start.room) × p.world_is_kept
 
-  -- in its second pass, after a first one with SUCCESS
-  pub record StopsLater (past : List Code) (start end : State) (after : World) : Type 0 where
-    pub between : State
-    pub behind : World
-    pub first : Option KeptAnswers
-    pub checked : IsTrue tells →
-        PassesTo (passed players ChAuthTok (flags_seen ChAuthTok false flags) kinds.Keep None stack
-        past start) codes.Success first None between
-    pub sound : GoesSoundly (notes_of players) (length players) start.room.transaction
-        between.room.transaction start.world.process between.world.process
-    pub update : StopsInUpdate first [] between end behind after
+-- they stopped at a line of the first pass
+abbrev pub StopsFirst : Func → ℕ → List Code → Passing → Type 0
+StopsFirst func flags past p =
+    StopsAt p.players func (flags_seen func false flags) (first_stack func p.stacks)
+    (first_kind func p.held) (answers_held (first_kept func p.held)) past p.tells p.start p.end
 
-  -- in its first pass, or later
-  abbrev pub StopsInCheck : List Code → State → State → World → World → Type 0
-  StopsInCheck past start end before after = PassedNothing start.room end.room before after
-      ⊎ (StopsAt players ChAuthTok (flags_seen ChAuthTok false flags) stack kinds.Keep
-      (answers_held None) past tells start end ⊎ StopsLater past start end after)
+-- in the second pass of a change of token, with the codes of the first
+abbrev pub StopsInUpdate : ℕ → Option KeptAnswers → List Code → Passing → Type 0
+StopsInUpdate flags first past p = PassedNothing p
+    ⊎ StopsAt p.players ChAuthTok (flags_seen ChAuthTok true flags) p.stacks.password kinds.Follow
+    (answers_held first) past p.tells p.start p.end
 
-  -- where it ran out of memory, with the codes that the first pass cached if the call is resumed in
-  -- its second pass
-  abbrev pub StopsInChange : Option KeptAnswers → List Code → State → State → World → World → Type 0
-  StopsInChange None past start end before after = StopsInCheck past start end before after
-  StopsInChange (Some first) past start end before after =
-      StopsInUpdate (Some first) past start end before after
+-- in its second pass, after a first one with SUCCESS
+pub record StopsLater (flags : ℕ) (past : List Code) (p : Passing) : Type 0 where
+  pub between : State
+  pub first : Option KeptAnswers
+  pub checked : IsTrue p.tells →
+      PassesTo (passed p.players ChAuthTok (flags_seen ChAuthTok false flags) kinds.Keep None
+      p.stacks.password past p.start) codes.Success first None between
+  pub sound : GoesSoundly (notes_of p.players) (length p.players) p.start.room.transaction
+      between.room.transaction p.start.world.process between.world.process
+  pub update : StopsInUpdate flags first [] (record p {
+    start = between;
+    world_is_kept = p.end.world ≡ between.world;
+  })
 
--- The same for the whole call: in the room in which it stopped, it only cleared the tokens and the
+-- in its first pass, or later
+abbrev pub StopsInCheck : ℕ → List Code → Passing → Type 0
+StopsInCheck flags past p = PassedNothing p
+    ⊎ (StopsFirst ChAuthTok flags past p ⊎ StopsLater flags past p)
+
+-- with the codes that the first pass cached if the call is resumed in its second pass
+abbrev pub StopsInChange : ℕ → Option KeptAnswers → List Code → Passing → Type 0
+StopsInChange flags None past p = StopsInCheck flags past p
+StopsInChange flags (Some first) past p = StopsInUpdate flags (Some first) past p
+
+-- the same for any call: one pass, or the two of a change of token
+abbrev pub StopsIn : Func → ℕ → Option KeptAnswers → List Code → Passing → Type 0
+StopsIn ChAuthTok flags first past p = StopsInChange flags first past p
+StopsIn func flags first past p = PassedNothing p ⊎ StopsFirst func flags past p
+
+-- A call ran out of memory. In the room in which its passes stopped, the call itself only cleared the tokens and the
 -- requested delay.
-pub record StopsChanging {World : Type 0} (players : List Player) (flags : ℕ) (tells : Bool)
-    (old new : PlainHandle) (w v : PlainWorld) (before after : World) : Type 0 where
+pub record Stops (func : Func) (flags : ℕ) (a : Around) : Type 0 where
   pub room : PlainRoom
-  pub ended : new.room ≡ room_failed ChAuthTok room
-  pub stopped : StopsInChange players flags old.stacks.password tells (first_in old.pending)
-      (past_in old.pending) (state_of (room_begun ChAuthTok old) w) (state_of room v) before after
+  pub ended : a.new.handle.room ≡ room_failed func room
+  pub stopped : StopsIn func flags (first_in a.old.handle.pending) (past_in a.old.handle.pending)
+      (record (passing a) {
+        start = state_of (room_begun func a.old.handle) a.old.world;
+        end = state_of room a.new.world;
+      })

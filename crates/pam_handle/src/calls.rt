@@ -1,14 +1,10 @@
-ghost use Rattle.std.specs.Prelude.{◌≡◌, ◌<◌, ◌^◌, false, None, IfOk, OnErr};
-ghost use Rattle.dispatch_core.specs.Pending.{is_other_pending};
-ghost use Rattle.pam_handle.specs.AnyWorld.{Waits};
-ghost use Rattle.pam_handle.specs.Plain.{in_box, plain_handle};
-ghost use Rattle.pam_handle.specs.Ready.{IsReadyFor};
+ghost use Rattle.pam_handle.specs.Around.{IsReady};
 ghost use Rattle.pam_handle.specs.StackCalled.{StackCalled};
 
-use crate::gear::{Gear, GearTold};
+use crate::around::{CallTold, Calls};
+use crate::gear::Gear;
 use crate::handle::Handle;
-use dispatch_core::fail_delay::{DelayFn, DelayTold};
-use dispatch_core::pam_room::{Room, RoomTold, World, WorldTold};
+use dispatch_core::pam_room::World;
 use pam_base::{Code, Func, NoMemory};
 use std::alloc::Global;
 
@@ -27,20 +23,9 @@ impl Handle {
         world: &mut World,
         flags: u32,
     ) -> Result<Code, NoMemory>
-        requires { IsReadyFor (⟦<Gear as GearTold>⟧.players gear.now)
-            (plain_handle ⟦<Room as RoomTold>⟧.plain self.old)
-            (⟦<World as WorldTold>⟧.plain world.old).process }
-        ensures called { StackCalled Func.Authenticate flags (⟦<Gear as GearTold>⟧.players gear.now)
-            (⟦<DelayFn as DelayTold>⟧.delay_is gear.now.delay)
-            ⟦<Room as RoomTold>⟧.tells ⟦<Room as RoomTold>⟧.plain
-            ⟦<World as WorldTold>⟧.tells ⟦<World as WorldTold>⟧.plain
-            result self.old self.new world.old world.new }
-        ensures waited { let plain = plain_handle ⟦<Room as RoomTold>⟧.plain in
-            is_other_pending (plain self.old).pending Func.Authenticate ≡ false →
-            IfOk result (λ code. (plain self.new).pending ≡ None →
-            Waits code (plain self.old) (plain self.new) (nap_tells (in_box world.old.nap))
-            (nap_holds (in_box world.old.nap)) (nap_holds (in_box world.new.nap))) }
-        ensures no_nap { OnErr result (world.new.nap ≡ world.old.nap) }
+        requires { IsReady (⟦<Calls as CallTold>⟧.seen gear.now self.old world.old) }
+        ensures { StackCalled Func.Authenticate flags result
+            (⟦<Calls as CallTold>⟧.around gear.now self.old self.new world.old world.new) }
     {
         self.call(alloc, gear, world, Func::Authenticate, flags)
     }
@@ -57,15 +42,9 @@ impl Handle {
         world: &mut World,
         flags: u32,
     ) -> Result<Code, NoMemory>
-        requires { IsReadyFor (⟦<Gear as GearTold>⟧.players gear.now)
-            (plain_handle ⟦<Room as RoomTold>⟧.plain self.old)
-            (⟦<World as WorldTold>⟧.plain world.old).process }
-        ensures called { StackCalled Func.SetCred flags (⟦<Gear as GearTold>⟧.players gear.now)
-            (⟦<DelayFn as DelayTold>⟧.delay_is gear.now.delay)
-            ⟦<Room as RoomTold>⟧.tells ⟦<Room as RoomTold>⟧.plain
-            ⟦<World as WorldTold>⟧.tells ⟦<World as WorldTold>⟧.plain
-            result self.old self.new world.old world.new }
-        ensures no_nap { OnErr result (world.new.nap ≡ world.old.nap) }
+        requires { IsReady (⟦<Calls as CallTold>⟧.seen gear.now self.old world.old) }
+        ensures { StackCalled Func.SetCred flags result
+            (⟦<Calls as CallTold>⟧.around gear.now self.old self.new world.old world.new) }
     {
         self.call(alloc, gear, world, Func::SetCred, flags)
     }
@@ -81,15 +60,9 @@ impl Handle {
         world: &mut World,
         flags: u32,
     ) -> Result<Code, NoMemory>
-        requires { IsReadyFor (⟦<Gear as GearTold>⟧.players gear.now)
-            (plain_handle ⟦<Room as RoomTold>⟧.plain self.old)
-            (⟦<World as WorldTold>⟧.plain world.old).process }
-        ensures called { StackCalled Func.AcctMgmt flags (⟦<Gear as GearTold>⟧.players gear.now)
-            (⟦<DelayFn as DelayTold>⟧.delay_is gear.now.delay)
-            ⟦<Room as RoomTold>⟧.tells ⟦<Room as RoomTold>⟧.plain
-            ⟦<World as WorldTold>⟧.tells ⟦<World as WorldTold>⟧.plain
-            result self.old self.new world.old world.new }
-        ensures no_nap { OnErr result (world.new.nap ≡ world.old.nap) }
+        requires { IsReady (⟦<Calls as CallTold>⟧.seen gear.now self.old world.old) }
+        ensures { StackCalled Func.AcctMgmt flags result
+            (⟦<Calls as CallTold>⟧.around gear.now self.old self.new world.old world.new) }
     {
         self.call(alloc, gear, world, Func::AcctMgmt, flags)
     }
@@ -105,15 +78,9 @@ impl Handle {
         world: &mut World,
         flags: u32,
     ) -> Result<Code, NoMemory>
-        requires { IsReadyFor (⟦<Gear as GearTold>⟧.players gear.now)
-            (plain_handle ⟦<Room as RoomTold>⟧.plain self.old)
-            (⟦<World as WorldTold>⟧.plain world.old).process }
-        ensures called { StackCalled Func.OpenSession flags (⟦<Gear as GearTold>⟧.players gear.now)
-            (⟦<DelayFn as DelayTold>⟧.delay_is gear.now.delay)
-            ⟦<Room as RoomTold>⟧.tells ⟦<Room as RoomTold>⟧.plain
-            ⟦<World as WorldTold>⟧.tells ⟦<World as WorldTold>⟧.plain
-            result self.old self.new world.old world.new }
-        ensures no_nap { OnErr result (world.new.nap ≡ world.old.nap) }
+        requires { IsReady (⟦<Calls as CallTold>⟧.seen gear.now self.old world.old) }
+        ensures { StackCalled Func.OpenSession flags result
+            (⟦<Calls as CallTold>⟧.around gear.now self.old self.new world.old world.new) }
     {
         self.call(alloc, gear, world, Func::OpenSession, flags)
     }
@@ -129,15 +96,9 @@ impl Handle {
         world: &mut World,
         flags: u32,
     ) -> Result<Code, NoMemory>
-        requires { IsReadyFor (⟦<Gear as GearTold>⟧.players gear.now)
-            (plain_handle ⟦<Room as RoomTold>⟧.plain self.old)
-            (⟦<World as WorldTold>⟧.plain world.old).process }
-        ensures called { StackCalled Func.CloseSession flags (⟦<Gear as GearTold>⟧.players gear.now)
-            (⟦<DelayFn as DelayTold>⟧.delay_is gear.now.delay)
-            ⟦<Room as RoomTold>⟧.tells ⟦<Room as RoomTold>⟧.plain
-            ⟦<World as WorldTold>⟧.tells ⟦<World as WorldTold>⟧.plain
-            result self.old self.new world.old world.new }
-        ensures no_nap { OnErr result (world.new.nap ≡ world.old.nap) }
+        requires { IsReady (⟦<Calls as CallTold>⟧.seen gear.now self.old world.old) }
+        ensures { StackCalled Func.CloseSession flags result
+            (⟦<Calls as CallTold>⟧.around gear.now self.old self.new world.old world.new) }
     {
         self.call(alloc, gear, world, Func::CloseSession, flags)
     }
@@ -156,15 +117,9 @@ impl Handle {
         world: &mut World,
         flags: u32,
     ) -> Result<Code, NoMemory>
-        requires { IsReadyFor (⟦<Gear as GearTold>⟧.players gear.now)
-            (plain_handle ⟦<Room as RoomTold>⟧.plain self.old)
-            (⟦<World as WorldTold>⟧.plain world.old).process }
-        ensures called { StackCalled Func.ChAuthTok flags (⟦<Gear as GearTold>⟧.players gear.now)
-            (⟦<DelayFn as DelayTold>⟧.delay_is gear.now.delay)
-            ⟦<Room as RoomTold>⟧.tells ⟦<Room as RoomTold>⟧.plain
-            ⟦<World as WorldTold>⟧.tells ⟦<World as WorldTold>⟧.plain
-            result self.old self.new world.old world.new }
-        ensures no_nap { OnErr result (world.new.nap ≡ world.old.nap) }
+        requires { IsReady (⟦<Calls as CallTold>⟧.seen gear.now self.old world.old) }
+        ensures { StackCalled Func.ChAuthTok flags result
+            (⟦<Calls as CallTold>⟧.around gear.now self.old self.new world.old world.new) }
     {
         self.call(alloc, gear, world, Func::ChAuthTok, flags)
     }

@@ -1,10 +1,11 @@
 ghost use Rattle.std.specs.Prelude.{◌≡◌};
 ghost use Rattle.dispatch_core.specs.pam_room.specs.Module.{notes_of};
 ghost use Rattle.dispatch_core.specs.pam_room.specs.Plain.{plain_process};
+ghost use Rattle.pam_handle.specs.Around.{IsReady};
 ghost use Rattle.pam_handle.specs.End.{process_after_end, world_after_end};
 ghost use Rattle.pam_handle.specs.Plain.{Keeps, plain_handle, room_in};
-ghost use Rattle.pam_handle.specs.Ready.{IsReadyFor};
 
+use crate::around::{CallTold, Calls};
 use crate::gear::{Gear, GearTold};
 use crate::handle::Handle;
 use dispatch_core::conv_port::Conv;
@@ -15,9 +16,7 @@ impl Handle {
     /// module data with this status, as it is given, the last name first, and each cleanup is
     /// logged. The conversation is returned. Allocates nothing.
     pub fn end(self, gear: &Gear, world: &mut World, status: u32) -> Box<dyn Conv>
-        requires { IsReadyFor (⟦<Gear as GearTold>⟧.players gear.now)
-            (plain_handle ⟦<Room as RoomTold>⟧.plain self)
-            (⟦<World as WorldTold>⟧.plain world.old).process }
+        requires { IsReady (⟦<Calls as CallTold>⟧.seen gear.now self world.old) }
         ensures conv { result ≡ (room_in self).conv }
         ensures tells { Keeps ⟦<World as WorldTold>⟧.tells world.old world.new }
         ensures world { ⟦<World as WorldTold>⟧.plain world.new

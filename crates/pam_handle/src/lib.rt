@@ -6,6 +6,7 @@
 //! what a call does before and after its passes if it is incomplete.
 #![tactic(auto)]
 
+mod around;
 mod calls;
 mod chains;
 mod conversation;
@@ -29,6 +30,7 @@ mod start_cache;
 mod take_told;
 mod wait;
 
+pub use around::{CallTold, Calls};
 pub use dispatch_core::{pam_room, service_load};
 pub use ended::Ended;
 pub use flags::has_pass_flag;

@@ -1,14 +1,15 @@
-ghost use Rattle.std.specs.Prelude.{◌≡◌, ◌<◌, ◌^◌, ◌&&◌, length};
+ghost use Rattle.std.specs.Prelude.{◌≡◌, length};
 ghost use Rattle.dispatch_core.specs.AnyWorld.{PassStays};
 ghost use Rattle.dispatch_core.specs.AnswersSoFar.{past_of};
 ghost use Rattle.dispatch_core.specs.Calls.{following};
 ghost use Rattle.pam_handle.specs.AnyWorld.{BeginsUnset};
+ghost use Rattle.pam_handle.specs.Around.{IsReady};
 ghost use Rattle.pam_handle.specs.Handle.{in_room};
 ghost use Rattle.pam_handle.specs.Pass.{kept_answers};
-ghost use Rattle.pam_handle.specs.Passes.{PassGives, kind_of, stack_at, stack_type};
+ghost use Rattle.pam_handle.specs.Passes.{PassGives, kind_of, stack_type};
 ghost use Rattle.pam_handle.specs.Plain.{plain_handle, room_in};
-ghost use Rattle.pam_handle.specs.Ready.{IsReadyFor};
 
+use crate::around::{CallTold, Calls};
 use crate::gear::{Gear, GearTold};
 use crate::handle::Handle;
 use dispatch_core::handler_chain::PassKind;
@@ -34,21 +35,13 @@ impl Handle {
     ) -> Result<Code, NoMemory>
         requires unset { request.kind ≡ PassKind.Keep →
             BeginsUnset request.func paused.old self.old.room.transaction.items }
-        requires ready { IsReadyFor (⟦<Gear as GearTold>⟧.players gear.now)
-            (plain_handle ⟦<Room as RoomTold>⟧.plain self.old)
-            (⟦<World as WorldTold>⟧.plain world.old).process }
+        requires ready { IsReady (⟦<Calls as CallTold>⟧.seen gear.now self.old world.old) }
         ensures stays { PassStays (⟦<Gear as GearTold>⟧.players gear.now)
             (length (⟦<Gear as GearTold>⟧.players gear.now))
             ⟦<Room as RoomTold>⟧.tells ⟦<World as WorldTold>⟧.tells
             (room_in self.old) (room_in self.new) world.old world.new }
-        ensures gives { let room = ⟦<Room as RoomTold>⟧.plain in
-            let w = ⟦<World as WorldTold>⟧.plain in
-            PassGives (⟦<Gear as GearTold>⟧.players gear.now) request
-            (stack_at (plain_handle room self.old).stacks (stack_type request.func))
-            (⟦<Room as RoomTold>⟧.tells (room_in self.old)
-            && ⟦<World as WorldTold>⟧.tells world.old) kept.old kept.new (past_of paused.old)
-            paused.new result (room (room_in self.old)) (room (room_in self.new)) (w world.old)
-            (w world.new) (room_in self.old).conv (room_in self.new).conv world.old world.new }
+        ensures gives { PassGives request kept.old kept.new (past_of paused.old) paused.new result
+            (⟦<Calls as CallTold>⟧.around gear.now self.old self.new world.old world.new) }
         ensures others { plain_handle ⟦<Room as RoomTold>⟧.plain self.new
             ≡ in_room (⟦<Room as RoomTold>⟧.plain (room_in self.new))
             (plain_handle ⟦<Room as RoomTold>⟧.plain self.old) }

@@ -1,14 +1,14 @@
-ghost use Rattle.std.specs.Prelude.{◌≡◌, ◌&&◌, false, None, IfOk, OnErr, length};
+ghost use Rattle.std.specs.Prelude.{◌≡◌, length};
 ghost use Rattle.dispatch_core.specs.AnyWorld.{PassStays};
 ghost use Rattle.dispatch_core.specs.AnswersSoFar.{past_of};
-ghost use Rattle.dispatch_core.specs.Pending.{is_other_pending};
-ghost use Rattle.pam_handle.specs.AnyWorld.{BeginsUnset, Waits};
+ghost use Rattle.pam_handle.specs.AnyWorld.{BeginsUnset};
+ghost use Rattle.pam_handle.specs.Around.{IsReady};
 ghost use Rattle.pam_handle.specs.Pass.{kept_answers};
 ghost use Rattle.pam_handle.specs.Passes.{PassesGive, authenticated_with, cached_of, first_request, is_followed, is_second, opened_with, second_request};
-ghost use Rattle.pam_handle.specs.Plain.{in_box, plain_handle, room_in};
-ghost use Rattle.pam_handle.specs.Ready.{IsReadyFor};
+ghost use Rattle.pam_handle.specs.Plain.{room_in};
 ghost use Rattle.pam_handle.specs.StackCalled.{StackCalled};
 
+use crate::around::{CallTold, Calls};
 use crate::delaying::sleep_after;
 use crate::flags::{first_flags, is_refused};
 use crate::gear::{Gear, GearTold};
@@ -16,7 +16,6 @@ use crate::handle::Handle;
 use crate::pass::kind_of;
 use crate::pending::{clear_after, clear_before, code_waited, resumed_from};
 use data_cleanup::laws;
-use dispatch_core::fail_delay::{DelayFn, DelayTold};
 use dispatch_core::handler_chain::PassKind;
 use dispatch_core::pam_room::{Room, RoomTold, World, WorldTold};
 use dispatch_core::{PassRequest, Paused};
@@ -41,21 +40,9 @@ impl Handle {
         func: Func,
         flags: u32,
     ) -> Result<Code, NoMemory>
-        requires { IsReadyFor (⟦<Gear as GearTold>⟧.players gear.now)
-            (plain_handle ⟦<Room as RoomTold>⟧.plain self.old)
-            (⟦<World as WorldTold>⟧.plain world.old).process }
-        ensures called { StackCalled func flags (⟦<Gear as GearTold>⟧.players gear.now)
-            (⟦<DelayFn as DelayTold>⟧.delay_is gear.now.delay)
-            ⟦<Room as RoomTold>⟧.tells ⟦<Room as RoomTold>⟧.plain
-            ⟦<World as WorldTold>⟧.tells ⟦<World as WorldTold>⟧.plain
-            result self.old self.new world.old world.new }
-        ensures waited { func ≡ Func.Authenticate →
-            (let plain = plain_handle ⟦<Room as RoomTold>⟧.plain in
-            is_other_pending (plain self.old).pending func ≡ false → IfOk result (λ code.
-            (plain self.new).pending ≡ None → Waits code (plain self.old) (plain self.new)
-            (nap_tells (in_box world.old.nap)) (nap_holds (in_box world.old.nap))
-            (nap_holds (in_box world.new.nap)))) }
-        ensures no_nap { OnErr result (world.new.nap ≡ world.old.nap) }
+        requires { IsReady (⟦<Calls as CallTold>⟧.seen gear.now self.old world.old) }
+        ensures { StackCalled func flags result
+            (⟦<Calls as CallTold>⟧.around gear.now self.old self.new world.old world.new) }
     {
         laws::nothing_grows();
         if is_refused(func, flags) {
@@ -97,20 +84,15 @@ impl Handle {
         paused: &mut Paused,
     ) -> Result<Code, NoMemory>
         requires unset { BeginsUnset func paused.old self.old.room.transaction.items }
-        requires ready { IsReadyFor (⟦<Gear as GearTold>⟧.players gear.now)
-            (plain_handle ⟦<Room as RoomTold>⟧.plain self.old)
-            (⟦<World as WorldTold>⟧.plain world.old).process }
+        requires ready { IsReady (⟦<Calls as CallTold>⟧.seen gear.now self.old world.old) }
         ensures stays { PassStays (⟦<Gear as GearTold>⟧.players gear.now)
             (length (⟦<Gear as GearTold>⟧.players gear.now))
             ⟦<Room as RoomTold>⟧.tells ⟦<World as WorldTold>⟧.tells
             (room_in self.old) (room_in self.new) world.old world.new }
-        ensures give { let h = plain_handle ⟦<Room as RoomTold>⟧.plain in
-            let w = ⟦<World as WorldTold>⟧.plain in
-            PassesGive (⟦<Gear as GearTold>⟧.players gear.now) func flags
-            (⟦<Room as RoomTold>⟧.tells (room_in self.old)
-            && ⟦<World as WorldTold>⟧.tells world.old) (kept_answers first.old)
-            (kept_answers first.new) (past_of paused.old) paused.new result
-            (h self.old) (h self.new) (w world.old) (w world.new) world.old world.new }
+        ensures give { PassesGive flags
+            (record { func = func; past = past_of paused.old; first = kept_answers first.old })
+            (kept_answers first.new) paused.new result
+            (⟦<Calls as CallTold>⟧.around gear.now self.old self.new world.old world.new) }
     {
         dispatch_core::laws::soundness_is_transitive();
         if is_second(func, first) {

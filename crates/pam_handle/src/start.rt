@@ -5,10 +5,11 @@ ghost use Rattle.dispatch_core.specs.Lines.{names_of};
 ghost use Rattle.dispatch_core.specs.service_load.specs.Load.{AreBounded};
 ghost use Rattle.dispatch_core.specs.service_load.specs.Trees.{stacks_of_trees};
 ghost use Rattle.dispatch_core.specs.service_load.specs.Loading.{CountsFaults, OnlyCalls};
+ghost use Rattle.pam_handle.specs.Around.{IsReady};
 ghost use Rattle.pam_handle.specs.Plain.{Keeps, in_box, plain_handle, room_in, stacks_in};
-ghost use Rattle.pam_handle.specs.Ready.{IsReadyFor};
 ghost use Rattle.pam_handle.specs.Start.{Prepares, RefusalCounts, StartsAs, first_texts, handle_with, new_handle, started};
 
+use crate::around::{CallTold, Calls};
 use crate::chains::Chains;
 use crate::gear::{Gear, GearTold};
 use crate::handle::Handle;
@@ -65,9 +66,8 @@ impl Handle {
             ≡ new_handle number service.now (option_copied user.entry) (conv_holds conv)
             (names_of (⟦<Gear as GearTold>⟧.players gear.now))
             (plain_handle ⟦<Room as RoomTold>⟧.plain handle).stacks) }
-        ensures ready { IfOk result (λ handle. IsReadyFor (⟦<Gear as GearTold>⟧.players gear.now)
-            (plain_handle ⟦<Room as RoomTold>⟧.plain handle)
-            (⟦<World as WorldTold>⟧.plain world.new).process) }
+        ensures ready { IfOk result (λ handle.
+            IsReady (⟦<Calls as CallTold>⟧.seen gear.now handle world.new)) }
         ensures others { world.new ≡ record world.old { vault = world.new.vault } }
         ensures vault_tells { vault_tells (in_box world.new.vault)
             ≡ vault_tells (in_box world.old.vault) }

@@ -18,7 +18,8 @@ use Rattle.pam_handle.specs.declared.wait.Wait.{Wait}
 use Rattle.pam_handle.specs.Handle.{PlainHandle}
 use Rattle.pam_handle.specs.Items.{all_told}
 use Rattle.pam_handle.specs.Call.{Called, CallsAs}
-use Rattle.pam_handle.specs.StackCalled.{DelayGives, Stops}
+use Rattle.pam_handle.specs.StackCalled.{DelayGives}
+use Rattle.pam_handle.specs.Stopping.{Stops}
 use Rattle.pam_handle.specs.StackCalls.{stack_call}
 use Rattle.pam_handle.specs.AnyWorld.{FailsAs, RunsSoundly}
 use Rattle.pam_library.specs.declared.outcome.Answer.{Answer}
@@ -28,7 +29,7 @@ use Rattle.pam_library.specs.Outcome.{PlainOutcome, plain_outcome, answers_only}
 use Rattle.pam_library.specs.Slots.{PlainSlot, opened}
 use Rattle.pam_library.specs.SlotStep.{SlotStepped, SlotStepsAs, answered, filed_in, is_refused_for_flags, other_pending, slot_step, stack_step, told_by, unless_pending}
 use Rattle.pam_library.specs.Sound.{IsPlaced}
-use Rattle.pam_library.specs.AnyWorld.{AnswersBy, CanAnswer, Fails, SpendsAt, StopsBy, is_free, leaves_world, needs_outside, refusal, stack_refusal, stays_inside, takes_no_memory, touches_world}
+use Rattle.pam_library.specs.AnyWorld.{AnswersBy, CanAnswer, Fails, SpendsAt, StopsBy, around_of, is_free, leaves_world, needs_outside, refusal, stack_refusal, stays_inside, takes_no_memory, touches_world}
 use Rattle.pam_library.specs.InPlace.{CalledInSlot, stack_app_call}
 use Rattle.pam_library.specs.Traced.{TracesIn}
 use Rattle.pam_library.proofs.Tracing.{refused_untraced}
@@ -102,7 +103,7 @@ fails_is tells funcs.OpenSession flags h next f = f
 fails_is tells funcs.CloseSession flags h next f = f
 fails_is tells funcs.ChAuthTok flags h next f = f
 
-stops_is : (players : List Player) (tells : Bool) (func : Func) (flags : ℕ) (error : NoMemory) (h next : PlainHandle) (w v : PlainWorld) → Stops func players flags tells (all_told h) next w v w v
+stops_is : (players : List Player) (tells : Bool) (func : Func) (flags : ℕ) (error : NoMemory) (h next : PlainHandle) (w v : PlainWorld) → Stops func flags (around_of players tells (all_told h) next w v)
     → StopsBy players tells (stack_app_call func flags) (Err error) (opened h) (opened next) w v
 stops_is players tells funcs.Authenticate flags error h next w v s = s
 stops_is players tells funcs.SetCred flags error h next w v s = s
@@ -285,7 +286,7 @@ module _ (players : List Player) (gives : (Code → ℕ → ℕ) → Type 0) (te
   pub stack_failed : (error : NoMemory) (next : PlainHandle) (v : PlainWorld)
       → h ≡ all_told h → h.names ≡ names_of players
       → ◌≡◌ {A = Option Answer} (stack_refusal h.pending func flags) None
-      → FailsAs func h next → Stops func players flags (tells && world_tells) h next w v w v → RunsSoundly (notes_of players) (length players) h next w.process v.process
+      → FailsAs func h next → Stops func flags (around_of players (tells && world_tells) h next w v) → RunsSoundly (notes_of players) (length players) h next w.process v.process
       → CalledInSlot players gives tells world_tells h.room.transaction.handle (stack_app_call func flags) (opened h) w (Err error) (opened next) v
   stack_failed error next v told names none fails stops sound = record {
     told = λ number_of given all. tt;
@@ -295,7 +296,7 @@ module _ (players : List Player) (gives : (Code → ℕ → ℕ) → Type 0) (te
     filed_from = tt;
     succeeds = λ free. absurd (memory_not func flags h none free);
     fails = fails_is tells func flags h next (subst (λ (k : PlainHandle). FailsAs func k next) told fails);
-    stops = stops_is players (tells && world_tells) func flags error h next w v (subst (λ (k : PlainHandle). Stops func players flags (tells && world_tells) k next w v w v) told stops);
+    stops = stops_is players (tells && world_tells) func flags error h next w v (subst (λ (k : PlainHandle). Stops func flags (around_of players (tells && world_tells) k next w v)) told stops);
     placed = record { handle = sound.goes.stays.handle; started_with = sound.names ∙ names };
     spends = spends_is (notes_of players) (length players) func flags h h.room.transaction.datums next.room.transaction.datums w.process.ledger v.process.ledger sound.goes.grows;
     root = sound.goes.stays.root;

@@ -1,5 +1,5 @@
 -- The line at which a stack call ran out of memory: what holds if some objects are modelled holds if all are.
-use Rattle.std.proofs.Common.{inl, inr, ℕ, Bool, IsTrue, List, [], Option, Some, None, Result, Ok, Err, OnErr, ap}
+use Rattle.std.proofs.Common.{◌≡◌, ◌⊎◌, inl, inr, ℕ, Bool, IsTrue, List, [], Option, Some, None, Result, Ok, Err, OnErr}
 use Rattle.pam_base.specs.declared.code.Code.{Code}
 use Rattle.pam_base.specs.declared.call.AppCall.{AppCall}
 use Rattle.pam_base.specs.declared.call.AppCall.TheVariants as calls
@@ -11,79 +11,107 @@ use Rattle.pam_handle.specs.handler_chain.specs.declared.pass_kind.PassKind.{Pas
 use Rattle.pam_handle.specs.handler_chain.specs.Route.{KeptAnswers}
 use Rattle.pam_handle.specs.dispatch_core.specs.Failing.{StopsAt}
 use Rattle.pam_handle.specs.pam_room.specs.Module.{Player}
-use Rattle.pam_handle.specs.pam_room.specs.State.{PlainRoom, PlainWorld, State}
+use Rattle.pam_handle.specs.pam_room.specs.State.{PlainWorld, State, state_of}
 use Rattle.pam_handle.specs.Handle.{PlainHandle}
-use Rattle.pam_handle.specs.StackCalled.{Stops}
-use Rattle.pam_handle.specs.Stopping.{PassedNothing, StopsChanging, StopsInChange, StopsInCheck, StopsInUpdate, StopsLater, StopsOnce}
+use Rattle.pam_handle.specs.dispatch_core.specs.Pending.{first_in, past_in}
+use Rattle.pam_handle.specs.Around.{Around, all_tell}
+use Rattle.pam_handle.specs.Items.{all_told}
+use Rattle.pam_handle.specs.Stopping.{PassedNothing, Passing, Stops, StopsFirst, StopsIn, StopsInChange, StopsInUpdate, StopsLater, passing, room_begun}
 use Rattle.pam_library.specs.Slots.{PlainSlot, closed, opened}
 use Rattle.pam_library.specs.declared.outcome.Outcome.{Outcome}
-use Rattle.pam_library.specs.AnyWorld.{StackStops, StopsBy, StopsOn}
+use Rattle.pam_library.specs.AnyWorld.{StackStops, StopsBy, StopsOn, around_of}
 use Rattle.pam_library.proofs.Within.{failed_by}
 
-module _ (players : List Player) (tells all : Bool) (known : IsTrue all → IsTrue tells) where
-  at_when : (func : Func) (flags : ℕ) (stack : Stack) (kind : PassKind) (kept : KeptAnswers) (past : List Code) (start end : State) → StopsAt players func flags stack kind kept past tells start end
-      → StopsAt players func flags stack kind kept past all start end
-  at_when func flags stack kind kept past start end s = record {
-    more = s.more;
-    trail = s.trail;
-    early = s.early;
-    resumed = s.resumed;
-    index = s.index;
-    opinion = s.opinion;
-    leads = s.leads;
-    at_work = s.at_work;
-    played = λ told. s.played (known told);
-  }
+at_when : (players : List Player) (tells all : Bool) → (IsTrue all → IsTrue tells)
+    → (func : Func) (flags : ℕ) (stack : Stack) (kind : PassKind) (kept : KeptAnswers) (past : List Code) (start end : State)
+    → StopsAt players func flags stack kind kept past tells start end → StopsAt players func flags stack kind kept past all start end
+at_when players tells all known func flags stack kind kept past start end s = record {
+  more = s.more;
+  trail = s.trail;
+  early = s.early;
+  resumed = s.resumed;
+  index = s.index;
+  opinion = s.opinion;
+  leads = s.leads;
+  at_work = s.at_work;
+  played = λ told. s.played (known told);
+}
 
-  update_when : (flags : ℕ) (stack : Stack) (first : Option KeptAnswers) (past : List Code) (start end : State) (w v : PlainWorld) → StopsInUpdate players flags stack tells first past start end w v
-      → StopsInUpdate players flags stack all first past start end w v
-  update_when flags stack first past start end w v (inl nothing) = inl nothing
-  update_when flags stack first past start end w v (inr s) = inr (at_when _ _ _ _ _ _ _ _ s)
+update_when : (p : Passing) (all : Bool) (K : Type 0) → (IsTrue all → IsTrue p.tells) → (p.world_is_kept → K)
+    → (flags : ℕ) (first : Option KeptAnswers) (past : List Code)
+    → StopsInUpdate flags first past p → StopsInUpdate flags first past (record p { tells = all; world_is_kept = K })
+update_when p all K known kept flags first past (inl u) = inl (u.0, kept u.1)
+update_when p all K known kept flags first past (inr s) = inr (at_when p.players p.tells all known _ _ _ _ _ _ _ _ s)
 
-  later_when : (flags : ℕ) (stack : Stack) (past : List Code) (start end : State) (v : PlainWorld) → StopsLater players flags stack tells past start end v → StopsLater players flags stack all past start end v
-  later_when flags stack past start end v s = record {
+module _ (p : Passing) (all : Bool) (K : Type 0) (known : IsTrue all → IsTrue p.tells) (kept : p.world_is_kept → K) where
+  abbrev known_as : Passing
+  known_as = record p { tells = all; world_is_kept = K }
+
+  nothing_when : PassedNothing p → PassedNothing known_as
+  nothing_when u = (u.0, kept u.1)
+
+  first_when : (func : Func) (flags : ℕ) (past : List Code) → StopsFirst func flags past p → StopsFirst func flags past known_as
+  first_when func flags past s = at_when p.players p.tells all known _ _ _ _ _ _ _ _ s
+
+  later_when : (flags : ℕ) (past : List Code) → StopsLater flags past p → StopsLater flags past known_as
+  later_when flags past s = record {
     between = s.between;
-    behind = s.behind;
     first = s.first;
     checked = λ told. s.checked (known told);
     sound = s.sound;
-    update = update_when flags stack s.first [] s.between end s.behind v s.update;
+    update = update_when (record p { start = s.between; world_is_kept = p.end.world ≡ s.between.world }) all (p.end.world ≡ s.between.world) known
+        (λ e. e) flags s.first [] s.update;
   }
 
-  check_when : (flags : ℕ) (stack : Stack) (past : List Code) (start end : State) (w v : PlainWorld) → StopsInCheck players flags stack tells past start end w v → StopsInCheck players flags stack all past start end w v
-  check_when flags stack past start end w v (inl nothing) = inl nothing
-  check_when flags stack past start end w v (inr (inl s)) = inr (inl (at_when _ _ _ _ _ _ _ _ s))
-  check_when flags stack past start end w v (inr (inr s)) = inr (inr (later_when flags stack past start end v s))
+  change_when : (flags : ℕ) (first : Option KeptAnswers) (past : List Code) → StopsInChange flags first past p → StopsInChange flags first past known_as
+  change_when flags None past (inl u) = inl (nothing_when u)
+  change_when flags None past (inr (inl s)) = inr (inl (first_when funcs.ChAuthTok flags past s))
+  change_when flags None past (inr (inr s)) = inr (inr (later_when flags past s))
+  change_when flags (Some first) past s = update_when p all K known kept flags (Some first) past s
 
-  change_when : (flags : ℕ) (stack : Stack) (first : Option KeptAnswers) (past : List Code) (start end : State) (w v : PlainWorld) → StopsInChange players flags stack tells first past start end w v
-      → StopsInChange players flags stack all first past start end w v
-  change_when flags stack None past start end w v s = check_when flags stack past start end w v s
-  change_when flags stack (Some first) past start end w v s = update_when flags stack (Some first) past start end w v s
+  once_when : (func : Func) (flags : ℕ) (past : List Code) → PassedNothing p ⊎ StopsFirst func flags past p
+      → PassedNothing known_as ⊎ StopsFirst func flags past known_as
+  once_when func flags past (inl u) = inl (nothing_when u)
+  once_when func flags past (inr s) = inr (first_when func flags past s)
 
-  once_when : (func : Func) (flags : ℕ) (old new : PlainHandle) (w v : PlainWorld) → StopsOnce players func flags tells old new w v w v → StopsOnce players func flags all old new w v w v
-  once_when func flags old new w v s = record {
+  in_when : (func : Func) (flags : ℕ) (first : Option KeptAnswers) (past : List Code) → StopsIn func flags first past p → StopsIn func flags first past known_as
+  in_when funcs.ChAuthTok flags first past s = change_when flags first past s
+  in_when funcs.Authenticate flags first past s = once_when funcs.Authenticate flags past s
+  in_when funcs.SetCred flags first past s = once_when funcs.SetCred flags past s
+  in_when funcs.AcctMgmt flags first past s = once_when funcs.AcctMgmt flags past s
+  in_when funcs.OpenSession flags first past s = once_when funcs.OpenSession flags past s
+  in_when funcs.CloseSession flags first past s = once_when funcs.CloseSession flags past s
+
+-- by what is modelled alone
+pub stops_plain : (func : Func) (flags : ℕ) (a : Around) → (a.world_is_kept → a.new.world ≡ a.old.world) → Stops func flags a
+    → Stops func flags (around_of a.old.players (all_tell a.old) a.old.handle a.new.handle a.old.world a.new.world)
+stops_plain func flags a kept s = record {
+  room = s.room;
+  ended = s.ended;
+  stopped = in_when (record (passing a) { start = state_of (room_begun func a.old.handle) a.old.world; end = state_of s.room a.new.world }) (all_tell a.old)
+      (a.new.world ≡ a.old.world) (λ t. t) kept
+      func flags (first_in a.old.handle.pending) (past_in a.old.handle.pending) s.stopped;
+}
+
+module _ (players : List Player) (tells all : Bool) (known : IsTrue all → IsTrue tells) where
+  call_when : (func : Func) (flags : ℕ) (old new : PlainHandle) (w v : PlainWorld) → Stops func flags (around_of players tells old new w v)
+      → Stops func flags (around_of players all old new w v)
+  call_when func flags old new w v s = record {
     room = s.room;
     ended = s.ended;
-    stopped = elim s.stopped [
-      | inl nothing ↦ inl nothing
-      | inr at ↦ inr (at_when _ _ _ _ _ _ _ _ at)
-    ];
+    stopped = in_when (record (passing (around_of players tells old new w v)) { start = state_of (room_begun func old) w; end = state_of s.room v }) all
+        (v ≡ w) known (λ e. e)
+        func flags (first_in old.pending) (past_in old.pending) s.stopped;
   }
 
-  changing_when : (flags : ℕ) (old new : PlainHandle) (w v : PlainWorld) → StopsChanging players flags tells old new w v w v → StopsChanging players flags all old new w v w v
-  changing_when flags old new w v s = record { room = s.room; ended = s.ended; stopped = change_when flags _ _ _ _ _ w v s.stopped }
-
-  stack_when : (func : Func) (flags : ℕ) (old new : PlainSlot) (w v : PlainWorld) → StackStops func flags players tells old new w v → StackStops func flags players all old new w v
+  stack_when : (func : Func) (flags : ℕ) (old new : PlainSlot) (w v : PlainWorld) → StackStops func flags players tells old new w v
+      → StackStops func flags players all old new w v
   stack_when func flags (closed conv) new w v s = s
   stack_when func flags (opened old) (closed conv) w v s = s
-  stack_when funcs.Authenticate flags (opened old) (opened new) w v s = once_when funcs.Authenticate flags _ new w v s
-  stack_when funcs.SetCred flags (opened old) (opened new) w v s = once_when funcs.SetCred flags _ new w v s
-  stack_when funcs.AcctMgmt flags (opened old) (opened new) w v s = once_when funcs.AcctMgmt flags _ new w v s
-  stack_when funcs.OpenSession flags (opened old) (opened new) w v s = once_when funcs.OpenSession flags _ new w v s
-  stack_when funcs.CloseSession flags (opened old) (opened new) w v s = once_when funcs.CloseSession flags _ new w v s
-  stack_when funcs.ChAuthTok flags (opened old) (opened new) w v s = changing_when flags _ new w v s
+  stack_when func flags (opened old) (opened new) w v s = call_when func flags (all_told old) new w v s
 
-  pub stops_when : (call : AppCall) (result : Result Outcome NoMemory) (old new : PlainSlot) (w v : PlainWorld) → StopsBy players tells call result old new w v → StopsBy players all call result old new w v
+  pub stops_when : (call : AppCall) (result : Result Outcome NoMemory) (old new : PlainSlot) (w v : PlainWorld)
+      → StopsBy players tells call result old new w v → StopsBy players all call result old new w v
   stops_when (calls.Authenticate flags) result old new w v s = failed_by result _ _ (stack_when funcs.Authenticate flags old new w v) s
   stops_when (calls.SetCred flags) result old new w v s = failed_by result _ _ (stack_when funcs.SetCred flags old new w v) s
   stops_when (calls.AcctMgmt flags) result old new w v s = failed_by result _ _ (stack_when funcs.AcctMgmt flags old new w v) s
@@ -93,7 +121,8 @@ module _ (players : List Player) (tells all : Bool) (known : IsTrue all → IsTr
   stops_when call result old new w v s = s
 
 -- the same, by the result
-pub stops_on : (result : Result Outcome NoMemory) (players : List Player) (tells : Bool) (call : AppCall) (old new : PlainSlot) (w v : PlainWorld) → StopsBy players tells call result old new w v → OnErr result (StopsOn players tells call old new w v)
+pub stops_on : (result : Result Outcome NoMemory) (players : List Player) (tells : Bool) (call : AppCall) (old new : PlainSlot) (w v : PlainWorld)
+    → StopsBy players tells call result old new w v → OnErr result (StopsOn players tells call old new w v)
 stops_on (Ok o) players tells call old new w v s = tt
 stops_on (Err e) players tells (calls.Authenticate flags) old new w v s = s
 stops_on (Err e) players tells (calls.SetCred flags) old new w v s = s
@@ -102,48 +131,3 @@ stops_on (Err e) players tells (calls.OpenSession flags) old new w v s = s
 stops_on (Err e) players tells (calls.CloseSession flags) old new w v s = s
 stops_on (Err e) players tells (calls.ChAuthTok flags) old new w v s = s
 stops_on (Err e) players tells call old new w v s = tt
-
--- the same, by the content of the world
-module _ {World : Type 0} (plain : World → PlainWorld) (players : List Player) (tells : Bool) where
-  nothing_plain : (start end : PlainRoom) (a b : World) → PassedNothing start end a b → PassedNothing start end (plain a) (plain b)
-  nothing_plain start end a b s = record { room = s.room; world = ap plain s.world }
-
-  update_plain : (flags : ℕ) (stack : Stack) (first : Option KeptAnswers) (past : List Code) (start end : State) (a b : World) → StopsInUpdate players flags stack tells first past start end a b
-      → StopsInUpdate players flags stack tells first past start end (plain a) (plain b)
-  update_plain flags stack first past start end a b (inl nothing) = inl (nothing_plain _ _ a b nothing)
-  update_plain flags stack first past start end a b (inr s) = inr s
-
-  check_plain : (flags : ℕ) (stack : Stack) (past : List Code) (start end : State) (a b : World) → StopsInCheck players flags stack tells past start end a b → StopsInCheck players flags stack tells past start end (plain a) (plain b)
-  check_plain flags stack past start end a b (inl nothing) = inl (nothing_plain _ _ a b nothing)
-  check_plain flags stack past start end a b (inr (inl s)) = inr (inl s)
-  check_plain flags stack past start end a b (inr (inr s)) = inr (inr (record {
-    between = s.between;
-    behind = plain s.behind;
-    first = s.first;
-    checked = s.checked;
-    sound = s.sound;
-    update = update_plain flags stack s.first [] s.between end s.behind b s.update;
-  }))
-
-  change_plain : (flags : ℕ) (stack : Stack) (first : Option KeptAnswers) (past : List Code) (start end : State) (a b : World) → StopsInChange players flags stack tells first past start end a b
-      → StopsInChange players flags stack tells first past start end (plain a) (plain b)
-  change_plain flags stack None past start end a b s = check_plain flags stack past start end a b s
-  change_plain flags stack (Some first) past start end a b s = update_plain flags stack (Some first) past start end a b s
-
-  once_plain : (func : Func) (flags : ℕ) (old new : PlainHandle) (a b : World) → StopsOnce players func flags tells old new (plain a) (plain b) a b → StopsOnce players func flags tells old new (plain a) (plain b) (plain a) (plain b)
-  once_plain func flags old new a b s = record {
-    room = s.room;
-    ended = s.ended;
-    stopped = elim s.stopped [
-      | inl nothing ↦ inl (nothing_plain _ _ a b nothing)
-      | inr at ↦ inr at
-    ];
-  }
-
-  pub stops_plain : (func : Func) (flags : ℕ) (old new : PlainHandle) (a b : World) → Stops func players flags tells old new (plain a) (plain b) a b → Stops func players flags tells old new (plain a) (plain b) (plain a) (plain b)
-  stops_plain funcs.Authenticate flags old new a b s = once_plain funcs.Authenticate flags old new a b s
-  stops_plain funcs.SetCred flags old new a b s = once_plain funcs.SetCred flags old new a b s
-  stops_plain funcs.AcctMgmt flags old new a b s = once_plain funcs.AcctMgmt flags old new a b s
-  stops_plain funcs.OpenSession flags old new a b s = once_plain funcs.OpenSession flags old new a b s
-  stops_plain funcs.CloseSession flags old new a b s = once_plain funcs.CloseSession flags old new a b s
-  stops_plain funcs.ChAuthTok flags old new a b s = record { room = s.room; ended = s.ended; stopped = change_plain flags _ _ _ _ _ a b s.stopped }

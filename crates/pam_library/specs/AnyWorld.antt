@@ -21,7 +21,9 @@ use Rattle.data_cleanup.specs.Stands.{clean_list}
 use Rattle.pam_handle.specs.dispatch_core.specs.Pending.{Pending}
 use Rattle.pam_handle.specs.Items.{all_told, with_conversation}
 use Rattle.pam_handle.specs.AnyWorld.{FailsAs}
-use Rattle.pam_handle.specs.StackCalled.{Stops}
+use Rattle.pam_handle.specs.Around.{Around, CallSeen}
+use Rattle.pam_handle.specs.Handle.{PlainHandle}
+use Rattle.pam_handle.specs.Stopping.{Stops}
 use Rattle.pam_handle.specs.pam_room.specs.Module.{Player}
 use Rattle.pam_handle.specs.pam_room.specs.State.{PlainWorld}
 use Rattle.pam_library.specs.declared.outcome.Outcome.{Outcome}
@@ -191,11 +193,34 @@ Fails tells (calls.ChAuthTok flags) old new = StackFails funcs.ChAuthTok old new
 Fails tells (calls.Reply text) old new = ReplyFails tells old new
 Fails tells call old new = new ≡ told_slot old
 
+-- a transaction and a world by what they hold, if it is known only whether all objects are modelled; what the delay
+-- function returns doesn't matter
+abbrev pub seen_of : List Player → Bool → PlainHandle → PlainWorld → CallSeen
+seen_of players tells h w = record {
+  players = players;
+  gives = λ number. Unit {0};
+  handle = h;
+  world = w;
+  tells = true;
+  world_tells = tells;
+  nap_tells = tells;
+}
+
+abbrev pub around_of : List Player → Bool → PlainHandle → PlainHandle → PlainWorld → PlainWorld
+    → Around
+around_of players tells old new w v = record {
+  old = seen_of players tells old w;
+  new = seen_of players tells new v;
+  handle_is_kept = new ≡ old;
+  world_is_kept = v ≡ w;
+  nap_is_kept = v.nap ≡ w.nap;
+}
+
 -- a stack call ran out of memory: the line at which it did, by what its transaction and the world then hold
 abbrev pub StackStops : Func → ℕ → List Player → Bool → PlainSlot → PlainSlot → PlainWorld
     → PlainWorld → Type 0
 StackStops func flags players tells (opened old) (opened new) w v =
-    Stops func players flags tells (all_told old) new w v w v
+    Stops func flags (around_of players tells (all_told old) new w v)
 StackStops func flags players tells old new w v = ⊥
 
 -- the same for a step by its result, for the private functions that make it

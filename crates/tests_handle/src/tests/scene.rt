@@ -1,12 +1,11 @@
-ghost use Rattle.pam_handle.specs.Plain.{plain_handle};
-ghost use Rattle.pam_handle.specs.Ready.{IsReadyFor};
+ghost use Rattle.pam_handle.specs.Around.{IsReady};
 
 use conv_port::QueueConv;
 use data_cleanup::Ledger;
 use pam_base::{Code, Func, NoMemory, Numbers, Text};
-use pam_handle::{Gear, GearTold, Handle, StartCache, Told};
+use pam_handle::{CallTold, Calls, Gear, Handle, StartCache, Told};
 use pam_outside::{FixedClock, MemVault, NapSum, read_file};
-use pam_room::{Process, Room, RoomTold, World, WorldTold};
+use pam_room::{Process, World};
 use std::alloc::Global;
 use std::test::Fail;
 
@@ -100,12 +99,8 @@ fn call_all(
     handle: &mut Handle,
     calls: &[(Func, u32)],
 ) -> Result<Vec<Result<Code, NoMemory>>, NoMemory>
-    requires { IsReadyFor (⟦<Gear as GearTold>⟧.players gear.now)
-        (plain_handle ⟦<Room as RoomTold>⟧.plain handle.old)
-        (⟦<World as WorldTold>⟧.plain world.old).process }
-    ensures { IsReadyFor (⟦<Gear as GearTold>⟧.players gear.now)
-        (plain_handle ⟦<Room as RoomTold>⟧.plain handle.new)
-        (⟦<World as WorldTold>⟧.plain world.new).process }
+    requires { IsReady (⟦<Calls as CallTold>⟧.seen gear.now handle.old world.old) }
+    ensures { IsReady (⟦<Calls as CallTold>⟧.seen gear.now handle.new world.new) }
 {
     let mut answers = Vec::new(alloc);
     for (func, flags) in calls {

@@ -101,13 +101,13 @@ returns-in-Some-refusal-clause-called g c = rw c.in-Some.ensures.stack (record {
 pub returns-in-Some-clause-called : goal.returns-in-Some-clause-called
 returns-in-Some-clause-called g c = rw c.in-Some.ensures.stack (record {
   still_tells = search rules;
-  world_tells = c.call.ensures.called.world_tells;
+  world_tells = c.call.ensures.world_tells;
   goes = stack_ran _ _ _ _ c.in-Some.func c.in-Some.flags _ _ c.telling.result c.in_ok-code.code _ _ _ c.requires.told c.requires.ready.0 (sym c.refusal.ensures ∙ c.in_default-refusal.is)
-      (λ number_of given all. c.in_ok-code.ensures.called.told number_of (delay_gives c.in-Some.func _ number_of given) all) c.call.ensures.called.sound c.take_told-told.ensures.emptied
+      (λ number_of given all. c.in_ok-code.ensures.told number_of (delay_gives c.in-Some.func _ number_of given) all) c.call.ensures.sound c.take_told-told.ensures.emptied
       (told_of _ _ _ _ _ _ _ _ c.telling.ensures.plain c.telling.ensures.answer c.telling.ensures.filed_from c.receipts_in-filed.ensures c.take_told-told.ensures.said c.take_told-told.ensures.trail c.take_told-told.ensures.wait)
       (ran_traced c.in-Some.func c.in-Some.flags _ (plain_handle (plain_room (λ b. (goal.Conv-dyn g (b.vtable, b.value)).conv_holds b.value)) c.call.new.self) (plain_outcome c.telling.result) c.in_ok-code.code _ c.requires.told c.take_told-told.ensures.emptied
       (ap (λ (o : PlainOutcome). o.trail) c.telling.ensures.plain ∙ c.take_told-told.ensures.trail) (ap (λ (o : PlainOutcome). o.answer) c.telling.ensures.plain)
-      c.in_ok-code.ensures.called.left c.in_ok-code.ensures.called.by_trail);
+      c.in_ok-code.ensures.left c.in_ok-code.ensures.by_trail);
   world = λ leaves. absurd (world_not c.in-Some.func c.in-Some.flags (plain_handle (plain_room (λ b. (goal.Conv-dyn g (b.vtable, b.value)).conv_holds b.value)) c.args.handle.now) (sym c.refusal.ensures ∙ c.in_default-refusal.is) leaves);
 })
 
@@ -116,9 +116,9 @@ returns-in_err-code-clause-called g c =
     let plain = plain_world (λ b. (goal.Vault-dyn g (b.vtable, b.value)).vault_holds b.value) (λ b. (goal.Clock-dyn g (b.vtable, b.value)).clock_holds b.value) (λ b. (goal.Nap-dyn g (b.vtable, b.value)).nap_holds b.value) in
     let answered : c.from_residual.result ≡ Err c.in_err-code.field-0.0 = search rules in
     rw c.in-Some.ensures.stack (record {
-      still_tells = c.call.ensures.called.tells;
-      world_tells = c.call.ensures.called.world_tells;
+      still_tells = c.call.ensures.tells;
+      world_tells = c.call.ensures.world_tells;
       goes = rw answered (stack_failed _ _ _ _ c.in-Some.func c.in-Some.flags _ _ c.in_err-code.field-0.0 _ _ c.requires.told c.requires.ready.0 (sym c.refusal.ensures ∙ c.in_default-refusal.is)
-          c.in_err-code.ensures.called.err (stops_plain plain _ _ c.in-Some.func c.in-Some.flags _ _ c.args.world.now c.call.new.world c.in_err-code.ensures.called.stopped) c.call.ensures.called.sound);
+          c.in_err-code.ensures.err (stops_plain c.in-Some.func c.in-Some.flags _ (λ kept. ap plain kept) c.in_err-code.ensures.stopped) c.call.ensures.sound);
       world = λ leaves. absurd (world_not c.in-Some.func c.in-Some.flags (plain_handle (plain_room (λ b. (goal.Conv-dyn g (b.vtable, b.value)).conv_holds b.value)) c.args.handle.now) (sym c.refusal.ensures ∙ c.in_default-refusal.is) leaves);
     })

@@ -11,8 +11,8 @@ use Rattle.pam_handle.specs.Pass.{kept_answers}
 use Rattle.pam_handle.specs.Plain.{pending_of, plain_handle}
 use Rattle.pam_handle.specs.StackCalls.{held_in}
 use Rattle.pam_handle.specs.declared.put_off.PutOff.{PutOff}
-use Rattle.pam_handle.proofs.Calling.{call_aborted, call_refused, fails_as, leaves_others, leaves_pending, leaves_same, not_false, room_end, room_start, room_with, runs_soundly, same_call, stops_room, told_as, trail_left}
-use Rattle.pam_handle.proofs.Stopping.{stops_call}
+use Rattle.pam_handle.proofs.Calling.{call_aborted, call_refused, fails_as, leaves_others, leaves_pending, leaves_same, not_false, not_refused, room_end, room_start, room_with, runs_soundly, same_call, stops_room, told_as, trail_left}
+use Rattle.pam_handle.proofs.Stopping.{on_err_from, stops_call}
 use Rattle.pam_handle.proofs.Tokens.{begins_unset, ends_unset}
 use Rattle.pam_handle.proofs.Tracing.{called_by_trail}
 use Rattle.pam_handle.proofs.Waiting.{none_plain, not_rested, not_waited, tells_beside, waited_at_end}
@@ -24,8 +24,8 @@ passes-result-requires-clause-unset g c = begins_unset c.args.func c.args.self.n
 pub sleep_after-requires-clause-unset : goal.sleep_after-requires-clause-unset
 sleep_after-requires-clause-unset g c = ends_unset c.args.func c.passes-result.new.paused c.passes-result.result _ _ _ c.code_waited-ended.ensures c.clear_after.ensures
 
-pub returns-then-is_refused-clause-called : goal.returns-then-is_refused-clause-called
-returns-then-is_refused-clause-called g c =
+pub returns-then-is_refused : goal.returns-then-is_refused
+returns-then-is_refused g c =
     let refused = sym c.is_refused.ensures ∙ c.if-is_refused.true in
     record {
       tells = refl;
@@ -35,15 +35,17 @@ returns-then-is_refused-clause-called g c =
       aborted = λ free. absurd (not_false _ refused free);
       left = λ free. absurd (not_false _ refused free);
       by_trail = λ free. absurd (not_false _ refused free);
+      waited = λ is. absurd (not_refused c.args.func c.args.flags refused is);
       stopped = tt;
       err = tt;
+      no_nap = tt;
       others = leaves_same c.args.func _;
       sound = search rules;
       ready = c.requires;
     }
 
-pub returns-then-is_other_pending-clause-called : goal.returns-then-is_other_pending-clause-called
-returns-then-is_other_pending-clause-called g c =
+pub returns-then-is_other_pending : goal.returns-then-is_other_pending
+returns-then-is_other_pending g c =
     let free = sym c.is_refused.ensures ∙ c.if-is_refused.false in
     let other = sym c.is_other_pending.ensures ∙ c.if-is_other_pending.true in
     record {
@@ -54,15 +56,17 @@ returns-then-is_other_pending-clause-called g c =
       aborted = λ e f. (refl, refl, refl);
       left = λ e f. absurd (not_false _ other f);
       by_trail = λ e f. absurd (not_false _ other f);
+      waited = λ is f. absurd (not_false _ other f);
       stopped = tt;
       err = tt;
+      no_nap = tt;
       others = leaves_same c.args.func _;
       sound = search rules;
       ready = c.requires;
     }
 
-pub returns-clause-called : goal.returns-clause-called
-returns-clause-called g c =
+pub returns : goal.returns
+returns g c =
     let room = plain_room (λ b. (goal.Conv-dyn g (b.vtable, b.value)).conv_holds b.value) in
     let world = plain_world (λ b. (goal.Vault-dyn g (b.vtable, b.value)).vault_holds b.value) (λ b. (goal.Clock-dyn g (b.vtable, b.value)).clock_holds b.value) (λ b. (goal.Nap-dyn g (b.vtable, b.value)).nap_holds b.value) in
     let players = map (player_of (λ b. (goal.Module-dyn g (b.vtable, b.value)).label b.value) (λ b. (goal.Module-dyn g (b.vtable, b.value)).plays b.value) (λ b. (goal.Module-dyn g (b.vtable, b.value)).note b.value) (λ b. (goal.Module-dyn g (b.vtable, b.value)).breaks b.value)) c.args.gear.now.mods.items in
@@ -81,6 +85,7 @@ returns-clause-called g c =
     let new = c.keep_pending.ensures.plain
     ∙ ap (λ (t : ItemTexts). record mid { room = request_behind paused (room_with t mid.room); pending = pending_after c.args.func later paused; waited = waited }) c.clear_after.ensures
     ∙ ap (λ (k : PlainHandle). record k { room = room_end c.args.func paused mid.room; pending = pending_after c.args.func later paused; waited = waited }) give.others in
+    let rests = not_rested c.passes-result.result c.args.func paused _ c.passes-result.new.world c.passes-result.new.world c.sleep_after.new.world c.code_waited-ended.ensures refl c.sleep_after.ensures.stays in
     record {
       tells = search rules;
       world_tells = search rules;
@@ -92,23 +97,16 @@ returns-clause-called g c =
       left = λ e f. leaves_pending c.args.func h last mid.room later paused mid.authenticated mid.opened waited new c.passes-result.result _ c.code_waited-ended.ensures stays c.passes-result.ensures.stays.sound.stays.delay give.put_off;
       by_trail = λ e f. called_by_trail c.passes-result.result c.args.func h last _ _ _ _ _ _ past first refl
           (trail_left c.args.func paused mid.room (record h { authenticated = mid.authenticated; opened = mid.opened; pending = pending_after c.args.func later paused; waited = waited }) last new) (ap held_in new) give.by_trail;
-      stopped = stops_call c.passes-result.result players c.args.func c.args.flags _ h last world c.args.world.now c.passes-result.new.world c.sleep_after.new.world _ mid.room _ _ _
+      waited = λ is e. waited_at_end (λ b. (goal.Nap-dyn g (b.vtable, b.value)).nap_holds b.value) (λ b. (goal.Nap-dyn g (b.vtable, b.value)).nap_tells b.value) c.args.world.now.nap c.passes-result.new.world.nap _ c.passes-result.result c.args.func later paused _ h last waited
+          is c.passes-result.ensures.stays.nap (ap (λ (k : PlainHandle). k.pending) c.keep_pending.ensures.plain) (ap (λ (k : PlainHandle). k.waited) c.keep_pending.ensures.plain) c.code_waited-ended.ensures
+          (rw (ap (λ (k : PlainHandle). k.waited) give.others, ap (λ (k : PlainHandle). k.delay_on) give.others) at c.sleep_after.ensures.sound);
+      stopped = stops_call c.passes-result.result c.args.func c.args.flags _ _ mid.room _ _ _ (world c.passes-result.new.world) _
           (room_start c.args.func h c.clear_before.new.items c.clear_before.ensures) past first (stops_room c.args.func h last mid.room later paused mid.authenticated mid.opened waited new c.passes-result.result give.paused)
-          (not_rested c.passes-result.result c.args.func paused _ _ _ _ c.code_waited-ended.ensures refl c.sleep_after.ensures.stays) give.stopped;
+          (on_err_from c.passes-result.result (λ same. ap world same) rests) (on_err_from c.passes-result.result (λ same kept. same ∙ kept) rests) give.stopped;
       err = fails_as c.args.func h last mid.room later paused mid.authenticated mid.opened waited new c.passes-result.result _ c.code_waited-ended.ensures stays give.paused give.authenticated give.opened;
+      no_nap = not_rested c.passes-result.result c.args.func paused _ c.args.world.now.nap c.passes-result.new.world.nap _ c.code_waited-ended.ensures c.passes-result.ensures.stays.nap (none_plain (λ w. w.nap) _ c.sleep_after.new.world c.passes-result.new.world c.sleep_after.ensures.stays);
       others = leaves_others c.args.func h last mid.room later paused mid.authenticated mid.opened waited new _ c.passes-result.result c.code_waited-ended.ensures stays give.leaves_authenticated give.leaves_opened;
       sound = runs_soundly c.args.func h last mid.room later paused mid.authenticated mid.opened waited new (notes_of players) (length players) c.clear_before.new.items _ _ c.clear_before.ensures
           (rw c.sleep_after.ensures.process c.passes-result.ensures.stays.sound);
       ready = search rules;
     }
-
-pub returns-clause-waited : goal.returns-clause-waited
-returns-clause-waited g c = λ is other.
-    let room = plain_room (λ b. (goal.Conv-dyn g (b.vtable, b.value)).conv_holds b.value) in
-    let h : PlainHandle = plain_handle room c.args.self.now in
-    let mid : PlainHandle = plain_handle room c.passes-result.new.self in
-    let later = kept_answers c.passes-result.new.first in
-    let give = c.passes-result.ensures.give in
-    waited_at_end (λ b. (goal.Nap-dyn g (b.vtable, b.value)).nap_holds b.value) (λ b. (goal.Nap-dyn g (b.vtable, b.value)).nap_tells b.value) c.args.world.now.nap c.passes-result.new.world.nap _ c.passes-result.result c.args.func later c.passes-result.new.paused _ h (plain_handle room c.keep_pending.new.self) c.sleep_after.new.waited
-    is c.passes-result.ensures.stays.nap (ap (λ (k : PlainHandle). k.pending) c.keep_pending.ensures.plain) (ap (λ (k : PlainHandle). k.waited) c.keep_pending.ensures.plain) c.code_waited-ended.ensures
-    (rw (ap (λ (k : PlainHandle). k.waited) give.others, ap (λ (k : PlainHandle). k.delay_on) give.others) at c.sleep_after.ensures.sound)

@@ -4,7 +4,7 @@ use Rattle.dispatch_core.specs.handler_chain.specs.Chain.{ChainView}
 use Rattle.dispatch_core.specs.pam_room.specs.Module.{player_of}
 use Rattle.dispatch_core.specs.pam_room.specs.Plain.{plain_room}
 use Rattle.pam_handle.specs.Plain.{plain_handle}
-use Rattle.pam_handle.proofs.Passing.{gives_over, names_of_players, pass_by_trail, pass_ready, pass_sound, pass_stopped, pass_told}
+use Rattle.pam_handle.proofs.Passing.{names_of_players, pass_by_trail, pass_gives, pass_ready, pass_sound, pass_stopped, pass_told}
 use Rattle.pam_handle.proofs.Typing.{names_at, others_stay, stack_of_call}
 use Rattle.pam_handle.proofs.handle.Handle.pass.Goals as goal
 
@@ -16,14 +16,11 @@ pub returns-clause-gives : goal.returns-clause-gives
 returns-clause-gives g c =
     let nodes = c.of_mut-chain.result.now.nodes in
     let players = ap (map (player_of (λ b. (goal.Module-dyn g (b.vtable, b.value)).label b.value) (λ b. (goal.Module-dyn g (b.vtable, b.value)).plays b.value) (λ b. (goal.Module-dyn g (b.vtable, b.value)).note b.value) (λ b. (goal.Module-dyn g (b.vtable, b.value)).breaks b.value))) c.deref.ensures.value in
-    gives_over nodes _ (stack_of_call c.args.self.now.chains c.args.request.func c.stack_type.result _ c.stack_type.ensures c.of_mut-chain.ensures.value) (record {
-      told = λ told. pass_told c.dispatch.result _ _ c.args.request.func c.args.request.flags c.args.request.kind c.args.kept.now c.dispatch.new.kept nodes (past_of c.args.paused.now) _ c.dispatch.new.paused _ players (c.dispatch.ensures.done.told told);
-      by_trail = pass_by_trail c.dispatch.result c.args.request.kind c.args.kept.now c.dispatch.new.kept nodes (past_of c.args.paused.now) _ _ c.dispatch.new.paused c.dispatch.ensures.done.by_trail;
-      put_off = c.dispatch.ensures.put_off;
-      kept = c.dispatch.ensures.kept;
-      paused = c.dispatch.ensures.paused;
-      stopped = pass_stopped c.dispatch.result _ _ c.args.request.func c.args.request.flags c.args.request.kind c.args.kept.now nodes (past_of c.args.paused.now) _ _ _ _ players c.dispatch.ensures.stopped;
-    })
+    pass_gives c.args.request c.args.kept.now c.dispatch.new.kept (past_of c.args.paused.now) c.dispatch.new.paused c.dispatch.result _ nodes (stack_of_call c.args.self.now.chains c.args.request.func c.stack_type.result _ c.stack_type.ensures c.of_mut-chain.ensures.value)
+    (λ told. pass_told c.dispatch.result _ _ c.args.request.func c.args.request.flags c.args.request.kind c.args.kept.now c.dispatch.new.kept nodes (past_of c.args.paused.now) _ c.dispatch.new.paused _ players (c.dispatch.ensures.done.told told))
+    (pass_by_trail c.dispatch.result c.args.request.kind c.args.kept.now c.dispatch.new.kept nodes (past_of c.args.paused.now) _ _ c.dispatch.new.paused c.dispatch.ensures.done.by_trail)
+    c.dispatch.ensures.put_off c.dispatch.ensures.kept c.dispatch.ensures.paused
+    (pass_stopped c.dispatch.result _ _ c.args.request.func c.args.request.flags c.args.request.kind c.args.kept.now nodes (past_of c.args.paused.now) _ _ _ _ _ players (λ u. (u.room, u.world)) c.dispatch.ensures.stopped)
 
 pub returns-clause-stays : goal.returns-clause-stays
 returns-clause-stays g c = record {
