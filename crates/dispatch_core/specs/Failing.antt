@@ -9,7 +9,7 @@ use Rattle.handler_chain.specs.FlatLines.{module_of, rule_at}
 use Rattle.pam_room.specs.declared.visits.Visit.{Visit as Visited}
 use Rattle.pam_room.specs.Module.{Player, notes_of}
 use Rattle.pam_room.specs.Serve.{LineBreaks}
-use Rattle.pam_room.specs.State.{PlainRoom, PlainTransaction, State}
+use Rattle.pam_room.specs.State.{PlainTransaction, State}
 use Rattle.handler_chain.specs.declared.opinion.Opinion.{Opinion}
 use Rattle.handler_chain.specs.declared.pass_kind.PassKind.{PassKind}
 use Rattle.handler_chain.specs.Route.{KeptAnswers}
@@ -17,6 +17,7 @@ use Rattle.handler_chain.specs.Walk.{halted}
 use Rattle.handler_chain.specs.Pass.{Answering, AnswersAs, Visit, answers_of, is_incomplete, pass_after, pass_state, serving, visit}
 use Rattle.handler_chain.specs.Retell.{Seen, replaying, telling}
 use Rattle.dispatch_core.specs.AnyWorld.{GoesSoundly}
+use Rattle.dispatch_core.specs.Around.{Around}
 use Rattle.dispatch_core.specs.declared.walker.Walker.{Walker}
 use Rattle.dispatch_core.specs.Index.{walk_on}
 use Rattle.dispatch_core.specs.Lines.{answers_by, call_of, names_of}
@@ -126,8 +127,7 @@ module _ (players : List Player) (func : Func) (flags : ℕ) (stack : Stack) whe
         × IsBroken index middle end
 
 -- nothing happened at all
-pub record IsUntouched {Conv World : Type 0} (old new : PlainRoom) (first last : Conv)
-    (before after : World) : Type 0 where
-  pub room : new ≡ old
-  pub conv : last ≡ first
-  pub world : after ≡ before
+pub record IsUntouched (a : Around) : Type 0 where
+  pub room : a.new.state.room ≡ a.old.state.room
+  pub conv : a.conv_is_kept
+  pub world : a.world_is_kept

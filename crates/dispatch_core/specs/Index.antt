@@ -17,33 +17,31 @@ abbrev pub passed : Next → ℕ → ℕ
 passed (after n) left = n
 passed stop left = left
 
--- the walk with the first n lines skipped
-abbrev pub run : {State : Type 0} → PassKind → Serving State → List FlatLine → ℕ → ℕ → Entries
-    → Opinion → State → Walked State
-run kind serve [] skip at entries opinion state = walked opinion state
-run kind serve (line ∷ lines) (suc skip) at entries opinion state =
-    run kind serve lines skip (at + 1) entries opinion state
-run kind serve (line ∷ lines) zero at entries opinion state =
-    let now = entered line.level line.opens opinion entries in
-    let served = serve line.rule at state in
-    let action = action_at line.rule.control served.deciding in
-    let left = count line.rest in
-    let new = acted kind action served.answer served.deciding (now line.level) opinion in
-    if served.stopped then halted opinion served.state
-    else run kind serve lines (lines_in_first (passed (next_of action left new) left) line.rest) (at
-    + 1) now (new_or_overrun action left new) served.state
+module _ {State : Type 0} (kind : PassKind) (serve : Serving State) where
+  -- the walk with the first n lines skipped
+  abbrev pub run : List FlatLine → ℕ → ℕ → Entries → Opinion → State → Walked State
+  run [] skip at entries opinion state = walked opinion state
+  run (line ∷ lines) (suc skip) at entries opinion state =
+      run lines skip (at + 1) entries opinion state
+  run (line ∷ lines) zero at entries opinion state =
+      let now = entered line.level line.opens opinion entries in
+      let served = serve line.rule at state in
+      let action = action_at line.rule.control served.deciding in
+      let left = count line.rest in
+      let new = acted kind action served.answer served.deciding (now line.level) opinion in
+      if served.stopped then halted opinion served.state
+      else run lines (lines_in_first (passed (next_of action left new) left) line.rest) (at + 1) now
+      (new_or_overrun action left new) served.state
 
--- the walk from an index on
-abbrev pub run_from : {State : Type 0} → PassKind → Serving State → Stack → ℕ → Entries → Opinion
-    → State → Walked State
-run_from kind serve stack i entries opinion state =
-    run kind serve (drop i (flat_lines 0 0 stack)) 0 (i + 1) entries opinion state
+  -- the walk from an index on
+  abbrev pub run_from : Stack → ℕ → Entries → Opinion → State → Walked State
+  run_from stack i entries opinion state =
+      run (drop i (flat_lines 0 0 stack)) 0 (i + 1) entries opinion state
 
--- the walk from where a walker is
-abbrev pub walk_on : {State : Type 0} → PassKind → Serving State → Stack → Walker → State
-    → Walked State
-walk_on kind serve stack walker state =
-    run_from kind serve stack walker.at (entry_at walker.entries) walker.opinion state
+  -- the walk from where a walker is
+  abbrev pub walk_on : Stack → Walker → State → Walked State
+  walk_on stack walker state =
+      run_from stack walker.at (entry_at walker.entries) walker.opinion state
 
 -- a line is at an index
 abbrev pub Stands : Stack → ℕ → FlatLine → Type 0

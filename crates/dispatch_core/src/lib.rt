@@ -7,6 +7,7 @@
 #![tactic(auto)]
 
 mod answers_so_far;
+mod around;
 mod entry_states;
 pub mod laws;
 mod line;
@@ -18,6 +19,7 @@ mod request;
 mod turn;
 mod walker;
 
+pub use around::{Pass, PassTold};
 pub use control_words;
 pub use frozen_chain::Paused;
 pub use handler_chain;

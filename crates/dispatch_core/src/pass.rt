@@ -4,12 +4,13 @@ ghost use Rattle.frozen_chain.specs.Kept.{empty_cells};
 ghost use Rattle.pam_room.specs.Stays.{AreReady};
 ghost use Rattle.pam_room.specs.Module.{player_of};
 ghost use Rattle.dispatch_core.specs.AnyWorld.{PassStays};
-ghost use Rattle.dispatch_core.specs.Done.{IsUntouchedOrStops, PassDone, PassStops};
+ghost use Rattle.dispatch_core.specs.Done.{ChainStays, IsUntouchedOrStops, PassDone, PassStops};
 ghost use Rattle.dispatch_core.specs.AnswersSoFar.{past_of};
 ghost use Rattle.dispatch_core.specs.Paths.{HasPaths};
 ghost use Rattle.dispatch_core.specs.Passes.{LeavesAs, WalksAs, by_place, code_by, cached_after, kept_failed, paused_by};
 
 use crate::answers_so_far::AnswersSoFar;
+use crate::around::{Pass, PassTold};
 use crate::laws;
 use crate::pass_memory::PassMemory;
 use crate::request::PassRequest;
@@ -18,7 +19,7 @@ use crate::walker::Walker;
 use frozen_chain::{Kept, Paused};
 use handler_chain::{Chain, PassKind};
 use pam_base::{Code, NoMemory};
-use pam_room::{Module, Room, RoomTold, World, WorldTold};
+use pam_room::{Module, Room, World};
 use std::alloc::Global;
 
 // Walks a stack from its first line (the loop of libpam's `_pam_dispatch_aux`). Returns its code,
@@ -42,22 +43,20 @@ fn walk(
     requires cells { is_some keeps.old ≡ true →
         keeps.old ≡ Some (empty_cells (lines_in chain.old.nodes)) }
     requires ready { AreReady (length mods.now) room.old world.old }
-    ensures stays { PassStays (map (player_of label plays note breaks) mods.now) (length mods.now)
-        ⟦<Room as RoomTold>⟧.tells ⟦<World as WorldTold>⟧.tells
-        room.old room.new world.old world.new }
-    ensures done { PassDone (map (player_of label plays note breaks) mods.now) request
-        (by_place follows.now) memory.old.answers.past
-        (λ _ w end state. WalksAs w end keeps.new memory.new.answers state)
-        ⟦<Room as RoomTold>⟧.tells ⟦<Room as RoomTold>⟧.plain
-        ⟦<World as WorldTold>⟧.tells ⟦<World as WorldTold>⟧.plain
-        result chain.old chain.new room.old room.new world.old world.new }
+    ensures stays { PassStays (length mods.now) (⟦<Pass as PassTold>⟧.around
+        (map (player_of label plays note breaks) mods.now) room.old room.new world.old world.new) }
+    ensures done { PassDone request chain.old.nodes (by_place follows.now) memory.old.answers.past
+        (λ _ w end state. WalksAs w end keeps.new memory.new.answers state) result
+        (⟦<Pass as PassTold>⟧.around (map (player_of label plays note breaks) mods.now)
+        room.old room.new world.old world.new) }
+    ensures flat { ChainStays chain.old chain.new memory.old.answers.past result
+        (⟦<Pass as PassTold>⟧.around (map (player_of label plays note breaks) mods.now)
+        room.old room.new world.old world.new) }
     ensures held { is_some keeps.new ≡ is_some keeps.old }
     ensures none { IfOk result (λ end. IsNone end → memory.new.answers.past ≡ []) }
-    ensures stopped { OnErr result (PassStops
-        (map (player_of label plays note breaks) mods.now) request chain.old.nodes
-        (by_place follows.now) memory.old.answers.past ⟦<Room as RoomTold>⟧.tells
-        ⟦<Room as RoomTold>⟧.plain ⟦<World as WorldTold>⟧.tells ⟦<World as WorldTold>⟧.plain
-        room.old room.new world.old world.new) }
+    ensures stopped { OnErr result (PassStops request chain.old.nodes (by_place follows.now)
+        memory.old.answers.past (⟦<Pass as PassTold>⟧.around
+        (map (player_of label plays note breaks) mods.now) room.old room.new world.old world.new)) }
 {
     pam_room::data_cleanup::laws::nothing_grows();
     laws::soundness_is_transitive();
@@ -137,23 +136,21 @@ pub fn dispatch(
 ) -> Result<Code, NoMemory>
     requires names { chain.old.names ≡ map label mods.now }
     requires ready { AreReady (length mods.now) room.old world.old }
-    ensures stays { PassStays (map (player_of label plays note breaks) mods.now) (length mods.now)
-        ⟦<Room as RoomTold>⟧.tells ⟦<World as WorldTold>⟧.tells
-        room.old room.new world.old world.new }
-    ensures done { PassDone (map (player_of label plays note breaks) mods.now) request
-        (by_place kept.old) (past_of paused.old)
-        (λ _ w code state. LeavesAs request.kind w kept.old code kept.new paused.new state)
-        ⟦<Room as RoomTold>⟧.tells ⟦<Room as RoomTold>⟧.plain
-        ⟦<World as WorldTold>⟧.tells ⟦<World as WorldTold>⟧.plain
-        result chain.old chain.new room.old room.new world.old world.new }
+    ensures stays { PassStays (length mods.now) (⟦<Pass as PassTold>⟧.around
+        (map (player_of label plays note breaks) mods.now) room.old room.new world.old world.new) }
+    ensures done { PassDone request chain.old.nodes (by_place kept.old) (past_of paused.old)
+        (λ _ w code state. LeavesAs request.kind w kept.old code kept.new paused.new state) result
+        (⟦<Pass as PassTold>⟧.around (map (player_of label plays note breaks) mods.now)
+        room.old room.new world.old world.new) }
+    ensures flat { ChainStays chain.old chain.new (past_of paused.old) result
+        (⟦<Pass as PassTold>⟧.around (map (player_of label plays note breaks) mods.now)
+        room.old room.new world.old world.new) }
     ensures kept { OnErr result (kept.new ≡ kept_failed request.kind kept.old) }
     ensures paused { OnErr result (paused.new ≡ None) }
     ensures put_off { IfOk result (λ code. IsTrue (is_some paused.new) → code ≡ Code.Incomplete) }
-    ensures stopped { OnErr result (IsUntouchedOrStops
-        (map (player_of label plays note breaks) mods.now) request chain.old.nodes
-        (by_place kept.old) (past_of paused.old) ⟦<Room as RoomTold>⟧.tells
-        ⟦<Room as RoomTold>⟧.plain ⟦<World as WorldTold>⟧.tells ⟦<World as WorldTold>⟧.plain
-        room.old room.new world.old world.new) }
+    ensures stopped { OnErr result (IsUntouchedOrStops request chain.old.nodes (by_place kept.old)
+        (past_of paused.old) (⟦<Pass as PassTold>⟧.around
+        (map (player_of label plays note breaks) mods.now) room.old room.new world.old world.new)) }
 {
     pam_room::data_cleanup::laws::nothing_grows();
     let mut keeps = Kept::none();

@@ -6,12 +6,14 @@ ghost use Rattle.pam_room.specs.Stays.{AreReady};
 ghost use Rattle.pam_room.specs.Module.{player_of};
 ghost use Rattle.handler_chain.specs.Pass.{decides, is_incomplete};
 ghost use Rattle.dispatch_core.specs.AnyWorld.{PassStays};
+ghost use Rattle.dispatch_core.specs.Around.{all_tell};
 ghost use Rattle.dispatch_core.specs.Done.{GivesLine, LineDone};
 ghost use Rattle.dispatch_core.specs.Failing.{GoesBy};
 ghost use Rattle.dispatch_core.specs.Index.{GoesOn, Stands};
 ghost use Rattle.dispatch_core.specs.Paths.{HasPaths};
 ghost use Rattle.dispatch_core.specs.Passes.{by_place};
 
+use crate::around::{Pass, PassTold};
 use crate::line::take_line;
 use crate::pass_memory::PassMemory;
 use crate::request::PassRequest;
@@ -20,7 +22,7 @@ use frozen_chain::Kept;
 use handler_chain::{Chain, PassKind};
 use pam_base::{Code, NoMemory};
 use pam_room::data_cleanup::laws;
-use pam_room::{Both, Call, Module, Room, RoomTold, Told, World, WorldTold, serve_line};
+use pam_room::{Call, Module, Room, World, serve_line};
 use std::alloc::Global;
 
 /// Whether a code leaves the pass incomplete.
@@ -61,17 +63,16 @@ pub fn next_answer(
     requires paths { HasPaths chain.now.nodes i memory.old.paths }
     requires spare { 0 < room.old.transaction.trail.spare }
     requires ready { AreReady (length mods.now) room.old world.old }
-    ensures stays { PassStays (map (player_of label plays note breaks) mods.now) (length mods.now)
-        ⟦<Room as RoomTold>⟧.tells ⟦<World as WorldTold>⟧.tells
-        room.old room.new world.old world.new }
-    ensures told { let seen = ⟦<Both as Told>⟧.seen in IsTrue (seen room.old world.old).tells →
-        IfOk result (λ answer. GivesLine (map (player_of label plays note breaks) mods.now)
-        request chain.now.nodes i answer memory.old.answers.past memory.new.answers.past
-        (seen room.old world.old).state (seen room.new world.new).state) }
-    ensures line { LineDone (map (player_of label plays note breaks) mods.now) request
-        chain.now.nodes i ⟦<Room as RoomTold>⟧.tells ⟦<Room as RoomTold>⟧.plain
-        ⟦<World as WorldTold>⟧.tells ⟦<World as WorldTold>⟧.plain
-        result memory.old memory.new room.old room.new world.old world.new }
+    ensures stays { PassStays (length mods.now) (⟦<Pass as PassTold>⟧.around
+        (map (player_of label plays note breaks) mods.now) room.old room.new world.old world.new) }
+    ensures told { let a = ⟦<Pass as PassTold>⟧.around
+        (map (player_of label plays note breaks) mods.now) room.old room.new world.old world.new in
+        IsTrue (all_tell a.old) → IfOk result (λ answer. GivesLine request chain.now.nodes i answer
+        memory.old.answers.past memory.new.answers.past a) }
+    ensures line { LineDone request chain.now.nodes i result memory.old memory.new
+        (⟦<Pass as PassTold>⟧.around (map (player_of label plays note breaks) mods.now)
+        room.old room.new world.old world.new) }
+    ensures spare { room.old.transaction.trail.spare ≤ room.new.transaction.trail.spare + 1 }
     ensures counted { OnOk result (length room.new.transaction.trail.visits + length
         memory.old.answers.past
         ≡ length room.old.transaction.trail.visits + length memory.new.answers.past + 1) }

@@ -13,9 +13,9 @@ use crate::around::{CallTold, Calls};
 use crate::gear::{Gear, GearTold};
 use crate::handle::Handle;
 use dispatch_core::handler_chain::PassKind;
-use dispatch_core::pam_room::{Room, RoomTold, World, WorldTold};
+use dispatch_core::pam_room::{Room, RoomTold, World};
 use dispatch_core::service_load::RuleType;
-use dispatch_core::{PassRequest, Paused, dispatch};
+use dispatch_core::{Pass, PassRequest, PassTold, Paused, dispatch};
 use frozen_chain::Kept;
 use pam_base::{Code, Func, NoMemory};
 use std::alloc::Global;
@@ -36,10 +36,9 @@ impl Handle {
         requires unset { request.kind ≡ PassKind.Keep →
             BeginsUnset request.func paused.old self.old.room.transaction.items }
         requires ready { IsReady (⟦<Calls as CallTold>⟧.seen gear.now self.old world.old) }
-        ensures stays { PassStays (⟦<Gear as GearTold>⟧.players gear.now)
-            (length (⟦<Gear as GearTold>⟧.players gear.now))
-            ⟦<Room as RoomTold>⟧.tells ⟦<World as WorldTold>⟧.tells
-            (room_in self.old) (room_in self.new) world.old world.new }
+        ensures stays { let players = ⟦<Gear as GearTold>⟧.players gear.now in
+            PassStays (length players) (⟦<Pass as PassTold>⟧.around players (room_in self.old)
+            (room_in self.new) world.old world.new) }
         ensures gives { PassGives request kept.old kept.new (past_of paused.old) paused.new result
             (⟦<Calls as CallTold>⟧.around gear.now self.old self.new world.old world.new) }
         ensures others { plain_handle ⟦<Room as RoomTold>⟧.plain self.new

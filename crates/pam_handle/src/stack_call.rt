@@ -17,8 +17,8 @@ use crate::pass::kind_of;
 use crate::pending::{clear_after, clear_before, code_waited, resumed_from};
 use data_cleanup::laws;
 use dispatch_core::handler_chain::PassKind;
-use dispatch_core::pam_room::{Room, RoomTold, World, WorldTold};
-use dispatch_core::{PassRequest, Paused};
+use dispatch_core::pam_room::World;
+use dispatch_core::{Pass, PassRequest, PassTold, Paused};
 use frozen_chain::Kept;
 use pam_base::{Code, Func, NoMemory, UPDATE_AUTHTOK};
 use std::alloc::Global;
@@ -85,10 +85,9 @@ impl Handle {
     ) -> Result<Code, NoMemory>
         requires unset { BeginsUnset func paused.old self.old.room.transaction.items }
         requires ready { IsReady (⟦<Calls as CallTold>⟧.seen gear.now self.old world.old) }
-        ensures stays { PassStays (⟦<Gear as GearTold>⟧.players gear.now)
-            (length (⟦<Gear as GearTold>⟧.players gear.now))
-            ⟦<Room as RoomTold>⟧.tells ⟦<World as WorldTold>⟧.tells
-            (room_in self.old) (room_in self.new) world.old world.new }
+        ensures stays { let players = ⟦<Gear as GearTold>⟧.players gear.now in
+            PassStays (length players) (⟦<Pass as PassTold>⟧.around players (room_in self.old)
+            (room_in self.new) world.old world.new) }
         ensures give { PassesGive flags
             (record { func = func; past = past_of paused.old; first = kept_answers first.old })
             (kept_answers first.new) paused.new result

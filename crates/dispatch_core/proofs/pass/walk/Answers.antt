@@ -71,6 +71,11 @@ returns-in_default-clause-done g c =
           traced_put_off _ _ _ _ _ _ _ _ _ c.loop-walker.walker c.loop-walker.memory.answers.past c.next_answer.new.memory.answers.past visits _ _ sofar.traced c.loop-walker.keeps c.next_answer.new.memory.answers
           (c.in_ok-answer.ensures.line.taken ∙ ap (taken_with c.loop-walker.memory.answers.taken) c.in_default.is ∙ sofar.progress.taken_is) sofar.progress.kept_is
           _ c.in_ok-answer.field-0 sofar.nodes c.in_ok-answer.ensures.line.took c.in_default.is (omega (arith, c.loop-walker-test.true, c.len.ensures.counted));
+    }
+
+pub returns-in_default-clause-flat : goal.returns-in_default-clause-flat
+returns-in_default-clause-flat g c =
+    record {
       nodes = c.loop-walker.invariant.1.nodes;
       names = c.loop-walker.invariant.1.names;
       looks = omega (arith, c.in_ok-answer.ensures.counted, c.loop-walker.invariant.1.looks);
@@ -125,7 +130,7 @@ loop-walker-preserved g c =
             (λ there. omega (arith, sofar.cells there, within, ap lines_in sofar.nodes)) held c.act_on.ensures.keeps taken_so c.act_on.ensures.ahead;
         few = omega (arith, ap length taken_so, length-append c.loop-walker.memory.answers.taken (answer ∷ []), sofar.few, c.act_on.ensures.ahead);
         answers_fit = omega (arith, c.in_ok-answer.ensures.line.answers, sofar.answers_fit);
-        spare = omega (arith, c.next_answer.ensures.line.spare, sofar.spare, c.act_on.ensures.ahead);
+        spare = omega (arith, c.next_answer.ensures.spare, sofar.spare, c.act_on.ensures.ahead);
         paths = paths_ahead _ _ (at + 1) _ (omega (arith, c.act_on.ensures.ahead)) (subst (λ (t : Stack). HasPaths t (at + 1) c.next_answer.new.memory.paths) sofar.nodes c.next_answer.ensures.line.paths);
         cells = λ there. ap lines_kept c.act_on.ensures.keeps ∙ lines_kept-more c.loop-walker.keeps at answer ∙ sofar.cells (sym held ∙ there);
         held = held ∙ sofar.held;
@@ -154,6 +159,11 @@ returns-clause-done g c =
           let sofar = c.loop-walker.invariant.1 in
           traced_ended _ _ _ _ _ c.loop-walker.walker c.loop-walker.memory.answers.past c.loop-walker.invariant.0 _ c.loop-walker.keeps c.loop-walker.memory.answers _ sofar.traced sofar.progress.taken_is sofar.progress.kept_is
           (omega (arith, c.len.ensures.counted, c.loop-walker-test.false, ap lines_in sofar.nodes)) c.verdict.ensures;
+    }
+
+pub returns-clause-flat : goal.returns-clause-flat
+returns-clause-flat g c =
+    record {
       nodes = c.loop-walker.invariant.1.nodes;
       names = c.loop-walker.invariant.1.names;
       looks = omega (arith, c.loop-walker.invariant.1.looks);

@@ -11,6 +11,7 @@ use Rattle.dispatch_core.specs.Failing.{visited_at}
 use Rattle.dispatch_core.specs.Lines.{answers_by}
 use Rattle.dispatch_core.proofs.Asking.{gives_off, gives_on}
 use Rattle.dispatch_core.proofs.Lining.{few_modules, line_answered, line_at_work, line_broken, line_visited, module_there}
+use Rattle.dispatch_core.proofs.Sounding.{sound_none, sound_unrun}
 use Rattle.dispatch_core.proofs.turn.next_answer.Goals as goal
 
 pub serve_line-requires-clause-there : goal.serve_line-requires-clause-there
@@ -20,6 +21,26 @@ serve_line-requires-clause-there g c =
 pub serve_line-requires-clause-few : goal.serve_line-requires-clause-few
 serve_line-requires-clause-few g c =
     few_modules (λ b. (goal.Module-dyn g (b.vtable, b.value)).label b.value) c.args.mods.now c.args.chain.now.names _ c.requires.names c.take_line-line.ensures.few
+
+pub returns-in-Some-clause-stays : goal.returns-in-Some-clause-stays
+returns-in-Some-clause-stays g c = record {
+  room_tells = refl;
+  world_tells = refl;
+  nap = refl;
+  sound = sound_none _ _ _ _ (c.nothing_grows.ensures _ _ _ _ c.requires.ready.none_gone);
+  ready = c.requires.ready;
+}
+
+pub returns-in_err-answer-clause-stays : goal.returns-in_err-answer-clause-stays
+returns-in_err-answer-clause-stays g c =
+    let stays = c.serve_line.ensures.stays in
+    record {
+      room_tells = stays.room_tells;
+      world_tells = stays.world_tells;
+      nap = stays.nap;
+      sound = sound_unrun _ _ _ _ _ _ stays.stays stays.grows c.in_err-answer.ensures.not_visited;
+      ready = stays.ready;
+    }
 
 pub returns-then-puts_off-clause-told : goal.returns-then-puts_off-clause-told
 returns-then-puts_off-clause-told g c = λ told.
@@ -52,7 +73,6 @@ returns-then-puts_off-clause-line g c =
         told = λ told. subst (λ (k : Code). AnswersAs (answers_by (map (player_of (λ b. (goal.Module-dyn g (b.vtable, b.value)).label b.value) (λ b. (goal.Module-dyn g (b.vtable, b.value)).plays b.value) (λ b. (goal.Module-dyn g (b.vtable, b.value)).note b.value) (λ b. (goal.Module-dyn g (b.vtable, b.value)).breaks b.value)) c.args.mods.now) c.args.request.func c.args.request.flags (rule_at c.args.chain.now.nodes c.args.i) (c.args.i + 1) start) k later) (c.puts_off.ensures.is c.if-puts_off.true) (line_answered (λ b. (goal.Module-dyn g (b.vtable, b.value)).label b.value) (λ b. (goal.Module-dyn g (b.vtable, b.value)).plays b.value) (λ b. (goal.Module-dyn g (b.vtable, b.value)).note b.value) (λ b. (goal.Module-dyn g (b.vtable, b.value)).breaks b.value) c.args.mods.now c.args.request.func c.args.request.flags c.args.chain.now.nodes c.args.i c.args.chain.now.names c.take_line-line.result.module_number c.take_line-line.result.place c.take_line-line.result.path c.args-2.result.now start later c.in_ok-answer.answer c.requires.within c.requires.names c.take_line-line.ensures.found c.take_line-line.ensures.place c.take_line-line.ensures.path c.args-2.ensures (c.in_ok-answer.ensures.done.told told));
       };
       answers = omega (arith, ap (λ (a : AnswersView). length a.taken + length a.past + a.room) c.in_default.ensures.same);
-      spare = c.serve_line.ensures.spare;
       paths = c.take_line-line.ensures.paths;
     }
 
@@ -73,7 +93,6 @@ returns-clause-line g c =
         told = λ told. (line_answered (λ b. (goal.Module-dyn g (b.vtable, b.value)).label b.value) (λ b. (goal.Module-dyn g (b.vtable, b.value)).plays b.value) (λ b. (goal.Module-dyn g (b.vtable, b.value)).note b.value) (λ b. (goal.Module-dyn g (b.vtable, b.value)).breaks b.value) c.args.mods.now c.args.request.func c.args.request.flags c.args.chain.now.nodes c.args.i c.args.chain.now.names c.take_line-line.result.module_number c.take_line-line.result.place c.take_line-line.result.path c.args-2.result.now start later c.in_ok-answer.answer c.requires.within c.requires.names c.take_line-line.ensures.found c.take_line-line.ensures.place c.take_line-line.ensures.path c.args-2.ensures (c.in_ok-answer.ensures.done.told told));
       });
       answers = omega (arith, ap length c.add.ensures.taken, length-append c.next.new.self.taken (c.in_ok-answer.answer ∷ []), c.add.ensures.room, ap (λ (a : AnswersView). length a.taken + length a.past + a.room) c.in_default.ensures.same, ap length c.in_default.ensures.none, ap length (ap (λ (a : AnswersView). a.past) c.in_default.ensures.same ∙ c.in_default.ensures.none));
-      spare = c.serve_line.ensures.spare;
       paths = c.take_line-line.ensures.paths;
     }
 
@@ -95,6 +114,5 @@ returns-in_err-answer-clause-line g c =
       none = tt;
       took = tt;
       answers = tt;
-      spare = c.serve_line.ensures.spare;
       paths = c.take_line-line.ensures.paths;
     })

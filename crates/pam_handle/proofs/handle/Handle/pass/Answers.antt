@@ -34,4 +34,4 @@ returns-clause-stays g c = record {
 pub returns-clause-others : goal.returns-clause-others
 returns-clause-others g c =
     let room = plain_room (λ b. (goal.Conv-dyn g (b.vtable, b.value)).conv_holds b.value) in
-    others_stay (plain_handle room c.args.self.now) (room c.dispatch.new.room) c.args.self.now.chains.by_type c.stack_type.result _ c.dispatch.new.chain c.of_mut-chain.ensures.value c.dispatch.ensures.done.nodes c.dispatch.ensures.done.names refl refl
+    others_stay (plain_handle room c.args.self.now) (room c.dispatch.new.room) c.args.self.now.chains.by_type c.stack_type.result _ c.dispatch.new.chain c.of_mut-chain.ensures.value c.dispatch.ensures.flat.nodes c.dispatch.ensures.flat.names refl refl
