@@ -1,3 +1,4 @@
 pub mod Lines
+pub mod Entries
 pub mod Paths
 pub mod Own

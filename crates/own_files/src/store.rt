@@ -1,20 +1,25 @@
 ghost use Rattle.std.specs.Prelude.{◌≡◌, ◌≢◌, ◌≤◌, ℕ, List, [], Some, false, true, length, IsTrue, IfOk, OnOk, Err};
 ghost use Rattle.pam_outside.specs.Counts.{Rose, next_count};
 ghost use Rattle.pam_outside.specs.Files.{ReadsFile, TellsFolder, Replaces, TakesLock, counted, file_at, no_locks, unlocked};
-ghost use Rattle.own_files.specs.Own.{IsOwn, IsShown, ReadsOwn, ReadsShown};
+ghost use Rattle.own_files.specs.Own.{IsOwn, IsShown, IsUnchanged, ReadsOther, ReadsOwn, ReadsShown};
+ghost use Rattle.own_files.specs.Entries.{has_entry};
 
+use crate::entries::has_entry;
 use crate::lines::own_lines;
 use crate::paths::{is_of_shadow, is_shadow};
 use pam_base::{NoMemory, Text};
 use pam_outside::{Held, LockKind, ReplaceFault, Vault, VaultFault};
 use std::alloc::Global;
 use std::marker::Model;
+use std::snapshot::Snapshot;
 
 /// The files of another store, as far as a user may see them who has a password in `/etc/shadow`: of that file only his own
-/// lines, and no other file whose path has `shadow` in it. Nothing is ever replaced or locked. Only its failures are
-/// modelled; `read` says what it shows of a modelled store below it.
+/// lines, and no other file whose path has `shadow` in it, or that has a line of the form of an entry. Nothing is ever
+/// replaced or locked. Only its failures are modelled; `read` says what it shows of a modelled store below it.
 #[derive(Drop)]
 pub struct OwnFiles<V: Vault> {
+    // Only for contracts: the store as it was handed in.
+    begun: Snapshot<V>,
     inner: V,
     /// The user; if it is empty, no line is his.
     user: Text,
@@ -22,29 +27,48 @@ pub struct OwnFiles<V: Vault> {
 }
 
 impl<V: Vault> Model for OwnFiles<V> {
-    ghost use Rattle.own_files.specs.Own.{OwnStore};
+    ghost use Rattle.own_files.specs.Own.{IsUnchanged, OwnStore};
 
     ghost Value = { OwnStore V };
 
-    ghost view = { λ o. record { inner = o.inner; user = o.user; faults = o.faults } };
+    ghost view = { λ o. record {
+      begun = o.begun.value;
+      inner = o.inner;
+      user = o.user;
+      faults = o.faults;
+    } };
+
+    ghost invariant = { λ o. IsUnchanged V.vault_tells V.vault_holds o.begun.value o.inner };
 }
 
 impl<V: Vault> OwnFiles<V> {
     /// The files of `inner` for a user. It hasn't failed yet.
     pub fn new(inner: V, user: Text) -> Self
-        ensures { result ≡ record { inner = inner; user = user; faults = 0 } }
+        ensures { result ≡ record { begun = inner; inner = inner; user = user; faults = 0 } }
     {
         OwnFiles {
+            begun: Snapshot::of(&inner),
             inner,
             user,
             faults: 0,
         }
     }
 
+    /// The user. And a law: whatever was called with it, and whatever came of that, the store below has the files and the
+    /// locks that it had when it was handed in.
+    pub fn user(&self) -> &[u8]
+        ensures user { result.now ≡ self.now.user }
+        ensures unchanged { IsUnchanged V.vault_tells V.vault_holds self.now.begun
+            self.now.inner }
+    {
+        self.user.bytes()
+    }
+
     // Reads the file, and shows of it what the user may see.
     fn shown(&mut self, alloc: Global, path: &[u8], limit: u32) -> Result<Text, VaultFault>
         ensures bound { IfOk result (λ text. length text ≤ limit) }
         ensures user { self.new.user ≡ self.old.user }
+        ensures begun { self.new.begun ≡ self.old.begun }
         ensures faults { self.new.faults ≡ self.old.faults }
         ensures shown { IfOk result (λ text. IsShown self.old.user path.now text) }
         ensures shows { IsTrue (V.vault_tells self.old.inner) →
@@ -58,8 +82,30 @@ impl<V: Vault> OwnFiles<V> {
         if is_of_shadow(path) {
             return Err(VaultFault::Failed);
         }
-        self.inner.read(alloc, path, limit)
+        other_file(alloc, &mut self.inner, path, limit)
     }
+}
+
+// A file without the form of the shadow file.
+fn other_file<V: Vault>(
+    alloc: Global,
+    inner: &mut V,
+    path: &[u8],
+    limit: u32,
+) -> Result<Text, VaultFault>
+    ensures bound { IfOk result (λ text. length text ≤ limit) }
+    ensures other { IfOk result (λ text. has_entry text ≡ false) }
+    ensures told { IsTrue (V.vault_tells inner.old) →
+        ReadsOther result path.now limit (V.vault_holds inner.old) }
+    ensures tells { V.vault_tells inner.new ≡ V.vault_tells inner.old }
+    ensures counts { IsTrue (V.vault_tells inner.old) →
+        V.vault_holds inner.new ≡ counted (V.vault_holds inner.old) }
+{
+    let text = inner.read(alloc, path, limit)?;
+    if has_entry(text.bytes()) {
+        return Err(VaultFault::Failed);
+    }
+    Ok(text)
 }
 
 // The lines of this user in the shadow file at this path.
@@ -98,7 +144,8 @@ impl<V: Vault> Vault for OwnFiles<V> {
     ghost vault_faults = { λ o. o.faults };
 
     /// The shadow file's lines of the user, if that file has at most `limit` bytes. Failed is returned for every other
-    /// file of the group `shadow`, and as the store below returns it.
+    /// file of the group `shadow`, for a file at another path that has a line of the form of an entry, such as a link to
+    /// the shadow file, and as the store below returns it.
     fn read(&mut self, alloc: Global, path: &[u8], limit: u32) -> Result<Text, VaultFault>
         ensures bound { IfOk result (λ text. length text ≤ limit) }
         ensures tells { ⟦<OwnFiles<V> as Vault>⟧.vault_tells self.new ≡
@@ -117,6 +164,7 @@ impl<V: Vault> Vault for OwnFiles<V> {
             ⟦<OwnFiles<V> as Vault>⟧.vault_faults self.new ≡
             ⟦<OwnFiles<V> as Vault>⟧.vault_faults self.old }
         ensures user { self.new.user ≡ self.old.user }
+        ensures begun { self.new.begun ≡ self.old.begun }
         ensures shown { IfOk result (λ text. IsShown self.old.user path.now text) }
         ensures shows { IsTrue (V.vault_tells self.old.inner) →
             ReadsShown result self.old.user path.now limit (V.vault_holds self.old.inner) }
@@ -148,6 +196,7 @@ impl<V: Vault> Vault for OwnFiles<V> {
             ⟦<OwnFiles<V> as Vault>⟧.vault_faults self.new ≡
             ⟦<OwnFiles<V> as Vault>⟧.vault_faults self.old }
         ensures user { self.new.user ≡ self.old.user }
+        ensures begun { self.new.begun ≡ self.old.begun }
         ensures shows { IsTrue (V.vault_tells self.old.inner) →
             TellsFolder result path.now (V.vault_holds self.old.inner) }
         ensures files { IsTrue (V.vault_tells self.old.inner) →
