@@ -1,8 +1,8 @@
 -- What a store shows of the files of another one to one user (this project's own).
-use Rattle.std.specs.Prelude.{◌≡◌, ◌⊎◌, ℕ, ◌<◌, Bool, true, false, List, length, None, Result, Ok, Err, IsSomeAnd, IsTrue}
+use Rattle.std.specs.Prelude.{◌≡◌, ◌⊎◌, ℕ, ◌<◌, Bool, true, false, List, [], ◌∷◌, length, codes, None, Result, Ok, Err, IsSomeAnd, IsTrue}
 use Rattle.pam_outside.specs.declared.vault.VaultFault.{VaultFault}
 use Rattle.pam_outside.specs.declared.vault.VaultFault.TheVariants as read_faults
-use Rattle.pam_outside.specs.Files.{VaultState, ReadsFile, file_at, is_failing}
+use Rattle.pam_outside.specs.Files.{VaultState, ReadsFile, file_at, is_failing, no_locks}
 use Rattle.own_files.specs.Entries.{has_entry}
 use Rattle.own_files.specs.Lines.{own_lines}
 use Rattle.own_files.specs.Paths.{is_of_shadow, is_shadow}
@@ -13,6 +13,16 @@ pub record OwnStore (V : Type 0) : Type 0 where
   pub inner : V
   pub user : List ℕ
   pub faults : ℕ
+
+-- What such a store says that it holds. It isn't modelled, so this says nothing of the files below: it names the user, so
+-- that a contract can ask whose files a world has.
+abbrev pub files_for : List ℕ → VaultState
+files_for user = record {
+  files = record { path = codes "own files"; bytes = user } ∷ [];
+  locks = no_locks;
+  calls = 0;
+  fails = [];
+}
 
 -- a store has the files and the locks that it had before, if these are known
 pub record IsUnchanged {V : Type 0} (tells : V → Bool) (holds : V → VaultState) (old new : V) : Type

@@ -1,7 +1,7 @@
-ghost use Rattle.std.specs.Prelude.{◌≡◌, ◌≢◌, ◌≤◌, ℕ, List, [], Some, false, true, length, IsTrue, IfOk, OnOk, Err};
+ghost use Rattle.std.specs.Prelude.{◌≡◌, ◌≢◌, ◌≤◌, ℕ, List, Some, false, true, length, IsTrue, IfOk, OnOk, Err};
 ghost use Rattle.pam_outside.specs.Counts.{Rose, next_count};
-ghost use Rattle.pam_outside.specs.Files.{ReadsFile, TellsFolder, Replaces, TakesLock, counted, file_at, no_locks, unlocked};
-ghost use Rattle.own_files.specs.Own.{IsOwn, IsShown, IsUnchanged, ReadsOther, ReadsOwn, ReadsShown};
+ghost use Rattle.pam_outside.specs.Files.{ReadsFile, TellsFolder, Replaces, TakesLock, counted, file_at, unlocked};
+ghost use Rattle.own_files.specs.Own.{IsOwn, IsShown, IsUnchanged, ReadsOther, ReadsOwn, ReadsShown, files_for};
 ghost use Rattle.own_files.specs.Entries.{has_entry};
 
 use crate::entries::has_entry;
@@ -138,8 +138,8 @@ fn own_part<V: Vault>(
 impl<V: Vault> Vault for OwnFiles<V> {
     ghost vault_tells = { λ o. false };
 
-    // never modelled
-    ghost vault_holds = { λ o. record { files = []; locks = no_locks; calls = 0; fails = [] } };
+    // never modelled: it names the user alone
+    ghost vault_holds = { λ o. files_for o.user };
 
     ghost vault_faults = { λ o. o.faults };
 
