@@ -1,63 +1,85 @@
-ghost use Rattle.std.specs.Prelude.{◌≡◌, ◌≢◌, ◌≤◌, [], false, length, IsTrue, IfOk, IfErr, OnOk, None, Some, Err, IsOk};
-ghost use Rattle.std.specs.Io.KnownBytes.{Appends};
+ghost use Rattle.std.specs.Prelude.{◌≡◌, ◌≢◌, ◌≤◌, [], length, IsTrue, IfOk, None, Err};
 ghost use Rattle.pam_base.specs.Counts.{Rose, next_count};
 ghost use Rattle.conv_port.specs.declared.conv.ConvFault.{ConvFault};
 ghost use Rattle.conv_port.specs.Message.{AreReplies, HasPrompt, IsExchange};
 ghost use Rattle.conv_port.specs.Conv.{Answers, TakesOffer};
 ghost use Rattle.front_conv.specs.Front.{FaultsBy, Takes, Writes, outcome};
+ghost use Rattle.front_conv.specs.Spelled.{IsSteady, answered, held, is_modelled};
 
 use crate::cause::Cause;
 use crate::exchange::exchange_text;
+use crate::front_end::FrontEnd;
 use crate::taking::take_replies;
 use conv_port::{Conv, ConvFault, Message, Messages, Replies};
-use pam_base::{MAX_TEXT, NoMemory};
+use pam_base::{MAX_TEXT, NoMemory, Text};
 use pam_wire::answer_of;
 use std::alloc::Global;
-use std::io::{Read, Write};
 use std::marker::Model;
+use std::snapshot::Snapshot;
 
 /// A conversation with the front end of the calls, on transaction 1, over the two streams on which
-/// calls and answers go. It waits for the replies. It isn't modelled.
+/// calls and answers go. It waits for the replies. It is modelled if the front end is, and sends
+/// nothing but replies; then it holds these, in order, and after them those that were offered.
 #[derive(Drop)]
-pub struct FrontConv<R: Read + Drop, W: Write + Drop> {
-    reader: R,
-    writer: W,
+pub struct FrontConv<F: FrontEnd> {
+    // Only for contracts: the front end as it was handed in.
+    begun: Snapshot<F>,
+    front: F,
+    // Whether replies to an exchange may be lost; and, only for contracts, the front end before it.
+    lost: Option<Snapshot<F>>,
     faults: u64,
     deferrals: u64,
     cause: Option<Cause>,
+    // Only for contracts, but for whether there are any.
+    handed: Vec<Snapshot<Messages>>,
+    offered: Vec<Snapshot<Text>>,
 }
 
-impl<R: Read + Drop, W: Write + Drop> Model for FrontConv<R, W> {
+impl<F: FrontEnd> Model for FrontConv<F> {
+    ghost use Rattle.std.specs.Prelude.{map, option_map};
     ghost use Rattle.front_conv.specs.Front.{FrontState};
+    ghost use Rattle.front_conv.specs.Spelled.{IsKept};
 
-    ghost Value = { FrontState R W };
+    ghost Value = { FrontState F };
 
     ghost view = { λ c. record {
-      reader = c.reader;
-      writer = c.writer;
+      begun = c.begun.value;
+      front = c.front;
+      lost = option_map (λ s. s.value) c.lost;
       faults = c.faults;
       deferrals = c.deferrals;
       cause = c.cause;
+      handed = map (λ s. s.value) c.handed.items;
+      offered = map (λ s. s.value) c.offered.items;
     } };
+
+    ghost invariant = { λ c. IsKept F.front_tells F.incoming c.begun.value c.front
+        (option_map (λ s. s.value) c.lost) };
 }
 
-impl<R: Read + Drop, W: Write + Drop> FrontConv<R, W> {
+impl<F: FrontEnd> FrontConv<F> {
     /// A conversation that hasn't failed yet.
-    pub fn new(reader: R, writer: W) -> Self
+    pub fn new(alloc: Global, front: F) -> Self
         ensures { result ≡ record {
-          reader = reader;
-          writer = writer;
+          begun = front;
+          front = front;
+          lost = None;
           faults = 0;
           deferrals = 0;
           cause = None;
+          handed = [];
+          offered = [];
         } }
     {
         FrontConv {
-            reader,
-            writer,
+            begun: Snapshot::of(&front),
+            front,
+            lost: None,
             faults: 0,
             deferrals: 0,
             cause: None,
+            handed: Vec::new(alloc),
+            offered: Vec::new(alloc),
         }
     }
 
@@ -68,30 +90,55 @@ impl<R: Read + Drop, W: Write + Drop> FrontConv<R, W> {
         self.cause
     }
 
-    // One exchange.
-    fn converse(&mut self, alloc: Global, messages: &[Message]) -> Result<Replies, Cause>
-        ensures replies { IfOk result (λ replies. AreReplies «messages».now replies) }
-        ensures shown { Writes result «messages».now (W.contents self.old.writer)
-            (W.contents self.new.writer) }
-        ensures taken { Takes result «messages».now (R.remaining self.old.reader)
-            (R.remaining self.new.reader) }
+    // One exchange. Once replies to one may be lost, there are no more.
+    fn converse(&mut self, alloc: Global, messages: &Messages) -> Result<Replies, Cause>
+        ensures replies { IfOk result (λ replies. AreReplies messages.now replies) }
+        ensures shown { Writes result messages.now (F.outgoing self.old.front)
+            (F.outgoing self.new.front) }
+        ensures taken { Takes result messages.now (F.incoming self.old.front)
+            (F.incoming self.new.front) }
+        ensures told { IsTrue (is_modelled F.front_tells F.incoming self.old.begun) →
+            Answers (answered result) messages.now (held F.incoming self.old)
+            (held F.incoming self.new) }
         ensures others { self.new ≡ record self.old {
-          reader = self.new.reader;
-          writer = self.new.writer;
+          front = self.new.front;
+          lost = self.new.lost;
+          handed = self.new.handed;
         } }
     {
-        let asked = exchange_text(alloc, messages)?;
-        let answer = answer_of(alloc, asked.as_bytes())?;
-        write_out(answer.bytes(), &mut self.writer)?;
-        take_replies(alloc, messages, &mut self.reader)
+        if self.lost.is_some() {
+            return Err(Cause::NoMemory);
+        }
+        self.handed.reserve(1).map_err(|_| Cause::NoMemory)?;
+        let before = Snapshot::of(&self.front);
+        match exchange(alloc, messages.items(), &mut self.front) {
+            Ok(replies) => {
+                self.handed.push(Snapshot::of(messages)).unwrap();
+                Ok(replies)
+            }
+            Err(cause) => {
+                if !cause.loses_replies() {
+                    return Err(cause);
+                }
+                self.lost = Some(before);
+                match cause {
+                    Cause::Ended if self.offered.is_empty() => {
+                        self.handed.push(Snapshot::of(messages)).unwrap();
+                        Err(Cause::Ended)
+                    }
+                    _ => Err(Cause::NoMemory),
+                }
+            }
+        }
     }
 }
 
-impl<R: Read + Drop, W: Write + Drop> Conv for FrontConv<R, W> {
-    ghost conv_tells = { λ c. false };
+impl<F: FrontEnd> Conv for FrontConv<F> {
+    ghost use Rattle.front_conv.specs.Spelled.{held, is_modelled};
 
-    // not modelled
-    ghost conv_holds = { λ c. record { offers = []; waits = false; handed = [] } };
+    ghost conv_tells = { λ c. is_modelled F.front_tells F.incoming c.begun };
+
+    ghost conv_holds = { held F.incoming };
 
     ghost conv_faults = { λ c. c.faults };
 
@@ -100,43 +147,44 @@ impl<R: Read + Drop, W: Write + Drop> Conv for FrontConv<R, W> {
     /// Writes the exchange as an answer: a `say` line for each message, and `1 asks N` with the number of prompts. Then
     /// takes a frame for each prompt: one of kind 16 is its reply. One of kind 17 and an error of the writer are Gone.
     /// One of kind 18, a frame of another kind or transaction, the end of input, and an error of the reader are Again:
-    /// nobody replied. It reads byte by byte, and no further. What was written and taken stays so.
+    /// nobody replied. It reads byte by byte, and no further. What was written and taken stays so. After an exchange in
+    /// which an allocation failed or the input ended, replies may be lost, so every later one returns NoMemory.
     fn talk(&mut self, alloc: Global, messages: &Messages) -> Result<Replies, ConvFault>
         requires { IsExchange messages.now }
         ensures replies { IfOk result (λ replies. AreReplies messages.now replies) }
-        ensures tells { ⟦<FrontConv<R, W> as Conv>⟧.conv_tells self.new
-            ≡ ⟦<FrontConv<R, W> as Conv>⟧.conv_tells self.old }
-        ensures told { IsTrue (⟦<FrontConv<R, W> as Conv>⟧.conv_tells self.old) →
-            Answers result messages.now (⟦<FrontConv<R, W> as Conv>⟧.conv_holds self.old)
-            (⟦<FrontConv<R, W> as Conv>⟧.conv_holds self.new) }
-        ensures faults { ⟦<FrontConv<R, W> as Conv>⟧.conv_faults self.old
-            ≤ ⟦<FrontConv<R, W> as Conv>⟧.conv_faults self.new }
+        ensures tells { ⟦<FrontConv<F> as Conv>⟧.conv_tells self.new
+            ≡ ⟦<FrontConv<F> as Conv>⟧.conv_tells self.old }
+        ensures told { IsTrue (⟦<FrontConv<F> as Conv>⟧.conv_tells self.old) →
+            Answers result messages.now (⟦<FrontConv<F> as Conv>⟧.conv_holds self.old)
+            (⟦<FrontConv<F> as Conv>⟧.conv_holds self.new) }
+        ensures faults { ⟦<FrontConv<F> as Conv>⟧.conv_faults self.old
+            ≤ ⟦<FrontConv<F> as Conv>⟧.conv_faults self.new }
         ensures gone { result ≡ Err ConvFault.Gone →
-            Rose (⟦<FrontConv<R, W> as Conv>⟧.conv_faults self.old)
-            (⟦<FrontConv<R, W> as Conv>⟧.conv_faults self.new) }
+            Rose (⟦<FrontConv<F> as Conv>⟧.conv_faults self.old)
+            (⟦<FrontConv<F> as Conv>⟧.conv_faults self.new) }
         ensures no_fault { result ≢ Err ConvFault.Gone →
-            ⟦<FrontConv<R, W> as Conv>⟧.conv_faults self.new
-            ≡ ⟦<FrontConv<R, W> as Conv>⟧.conv_faults self.old }
-        ensures deferrals { ⟦<FrontConv<R, W> as Conv>⟧.conv_deferrals self.old
-            ≤ ⟦<FrontConv<R, W> as Conv>⟧.conv_deferrals self.new }
+            ⟦<FrontConv<F> as Conv>⟧.conv_faults self.new
+            ≡ ⟦<FrontConv<F> as Conv>⟧.conv_faults self.old }
+        ensures deferrals { ⟦<FrontConv<F> as Conv>⟧.conv_deferrals self.old
+            ≤ ⟦<FrontConv<F> as Conv>⟧.conv_deferrals self.new }
         ensures again { result ≡ Err ConvFault.Again →
-            Rose (⟦<FrontConv<R, W> as Conv>⟧.conv_deferrals self.old)
-            (⟦<FrontConv<R, W> as Conv>⟧.conv_deferrals self.new) }
+            Rose (⟦<FrontConv<F> as Conv>⟧.conv_deferrals self.old)
+            (⟦<FrontConv<F> as Conv>⟧.conv_deferrals self.new) }
         ensures prompt { result ≡ Err ConvFault.Again → HasPrompt messages.now }
         ensures no_deferral { result ≢ Err ConvFault.Again →
-            ⟦<FrontConv<R, W> as Conv>⟧.conv_deferrals self.new
-            ≡ ⟦<FrontConv<R, W> as Conv>⟧.conv_deferrals self.old }
+            ⟦<FrontConv<F> as Conv>⟧.conv_deferrals self.new
+            ≡ ⟦<FrontConv<F> as Conv>⟧.conv_deferrals self.old }
         ensures one_fault { result ≡ Err ConvFault.Gone →
             self.new.faults ≡ next_count self.old.faults }
         ensures one_deferral { result ≡ Err ConvFault.Again →
             self.new.deferrals ≡ next_count self.old.deferrals }
         ensures cause { FaultsBy self.new.cause result }
         ensures shown { Writes (outcome self.new.cause result) messages.now
-            (W.contents self.old.writer) (W.contents self.new.writer) }
+            (F.outgoing self.old.front) (F.outgoing self.new.front) }
         ensures taken { Takes (outcome self.new.cause result) messages.now
-            (R.remaining self.old.reader) (R.remaining self.new.reader) }
+            (F.incoming self.old.front) (F.incoming self.new.front) }
     {
-        match self.converse(alloc, messages.items()) {
+        match self.converse(alloc, messages) {
             Ok(replies) => {
                 self.cause = None;
                 Ok(replies)
@@ -154,30 +202,40 @@ impl<R: Read + Drop, W: Write + Drop> Conv for FrontConv<R, W> {
         }
     }
 
-    /// Does nothing: a front end replies only when it is asked.
-    fn offer(&mut self, _alloc: Global, _text: &[u8]) -> Result<(), NoMemory>
-        requires { length _text.now ≤ MAX_TEXT }
-        ensures tells { ⟦<FrontConv<R, W> as Conv>⟧.conv_tells self.new
-            ≡ ⟦<FrontConv<R, W> as Conv>⟧.conv_tells self.old }
-        ensures told { IsTrue (⟦<FrontConv<R, W> as Conv>⟧.conv_tells self.old) →
-            TakesOffer result _text.now (⟦<FrontConv<R, W> as Conv>⟧.conv_holds self.old)
-            (⟦<FrontConv<R, W> as Conv>⟧.conv_holds self.new) }
-        ensures faults { ⟦<FrontConv<R, W> as Conv>⟧.conv_faults self.new
-            ≡ ⟦<FrontConv<R, W> as Conv>⟧.conv_faults self.old }
-        ensures deferrals { ⟦<FrontConv<R, W> as Conv>⟧.conv_deferrals self.new
-            ≡ ⟦<FrontConv<R, W> as Conv>⟧.conv_deferrals self.old }
-        ensures nothing { self.new ≡ self.old }
-        ensures ok { IsOk result }
+    /// A front end replies only when it is asked, so the text is no reply to a later exchange.
+    fn offer(&mut self, alloc: Global, text: &[u8]) -> Result<(), NoMemory>
+        requires { length text.now ≤ MAX_TEXT }
+        ensures tells { ⟦<FrontConv<F> as Conv>⟧.conv_tells self.new
+            ≡ ⟦<FrontConv<F> as Conv>⟧.conv_tells self.old }
+        ensures told { IsTrue (⟦<FrontConv<F> as Conv>⟧.conv_tells self.old) →
+            TakesOffer result text.now (⟦<FrontConv<F> as Conv>⟧.conv_holds self.old)
+            (⟦<FrontConv<F> as Conv>⟧.conv_holds self.new) }
+        ensures faults { ⟦<FrontConv<F> as Conv>⟧.conv_faults self.new
+            ≡ ⟦<FrontConv<F> as Conv>⟧.conv_faults self.old }
+        ensures deferrals { ⟦<FrontConv<F> as Conv>⟧.conv_deferrals self.new
+            ≡ ⟦<FrontConv<F> as Conv>⟧.conv_deferrals self.old }
+        ensures nothing { self.new ≡ record self.old { offered = self.new.offered } }
     {
+        let copy = Text::from_bytes(alloc, text)?;
+        self.offered.push(Snapshot::of(&copy))?;
         Ok(())
     }
 }
 
-fn write_out<W: Write>(bytes: &[u8], writer: &mut W) -> Result<(), Cause>
-    ensures fault { IfErr result (λ cause. cause ≡ Cause.Unwritten) }
-    ensures written { OnOk result (Appends (W.contents writer.old) (W.contents writer.new)
-        bytes.now) }
+// Writes an exchange and takes the replies.
+fn exchange<F: FrontEnd>(
+    alloc: Global,
+    messages: &[Message],
+    front: &mut F,
+) -> Result<Replies, Cause>
+    ensures replies { IfOk result (λ replies. AreReplies «messages».now replies) }
+    ensures shown { Writes result «messages».now (F.outgoing front.old) (F.outgoing front.new) }
+    ensures taken { Takes result «messages».now (F.incoming front.old) (F.incoming front.new) }
+    ensures tells { F.front_tells front.new ≡ F.front_tells front.old }
+    ensures steady { IsTrue (F.front_tells front.old) → IsSteady result }
 {
-    writer.write_all(bytes).map_err(|_| Cause::Unwritten)?;
-    writer.flush().map_err(|_| Cause::Unwritten)
+    let asked = exchange_text(alloc, messages)?;
+    let answer = answer_of(alloc, asked.as_bytes())?;
+    front.send(answer.bytes()).map_err(|_| Cause::Unwritten)?;
+    take_replies(alloc, messages, front)
 }

@@ -24,7 +24,7 @@ use command_line::{NO_STREAMS, exit_status, reserve_streams};
 use frame_service::{
     Conversations, ConversationsTold, TRANSACTIONS, serve_frames, system_text, words_of,
 };
-use front_conv::FrontConv;
+use front_conv::{FrontConv, Streams};
 use pam_base::Text;
 use pam_outside::{Clock, Nap, NapSum, Sink, Source, Vault};
 use pam_room::conv_port::{Conv, TermConv, WireConv};
@@ -64,7 +64,11 @@ fn run(rt: HostRuntime) -> io::Result<u8> {
         let conv: Box<dyn Conv> = Box::new(alloc, WireConv::new(alloc))?;
         convs.push(conv)?;
     }
-    convs[0] = Box::new(alloc, FrontConv::new(rt.stdin(), rt.stdout()))?;
+    let front = Streams {
+        reader: rt.stdin(),
+        writer: rt.stdout(),
+    };
+    convs[0] = Box::new(alloc, FrontConv::new(alloc, front))?;
     let vault: Box<dyn Vault> = Box::new(alloc, folder(rt, asked.root())?)?;
     let clock: Box<dyn Clock> = Box::new(alloc, RealClock::new(rt))?;
     let nap: Box<dyn Nap> = Box::new(alloc, NapSum::new())?;

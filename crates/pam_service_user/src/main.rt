@@ -3,7 +3,8 @@
 //! choice: it takes no arguments, its files are those of `/`, its calls are made for its real user, and of `/etc/shadow` it
 //! sees that user's lines alone, and writes nothing.
 //!
-//! Begin at `run`; `serve_user` has the contract, and that of `own_files::OwnFiles` says what it sees of files.
+//! Begin at `run`; `serve_user` has the contract, which takes no files but those of `own_files::OwnFiles` for that user,
+//! whose contract says what is seen of them, and that none is changed.
 #![tactic(auto)]
 
 mod asked;
@@ -17,7 +18,8 @@ ghost use Rattle.who_calls.specs.Request.{real_user};
 ghost use Rattle.who_calls.specs.Status.{ids_in};
 ghost use Rattle.frame_service.specs.Service.{IsOfFrames, StatusOf, served_wait};
 ghost use Rattle.frame_service.specs.Serving.{ServesFrames};
-ghost use Rattle.pam_service_user.specs.Own.{own_command};
+ghost use Rattle.pam_service_user.specs.Own.{own_command, own_name};
+ghost use Rattle.own_files.specs.Own.{files_for};
 
 use crate::asked::{Asked, asked_of};
 use cmd_all::{Outside, OutsideTold, TimeOfDay};
@@ -25,7 +27,7 @@ use command_line::{NO_STREAMS, exit_status, reserve_streams};
 use frame_service::{
     Conversations, ConversationsTold, TRANSACTIONS, serve_frames, system_text, words_of,
 };
-use front_conv::FrontConv;
+use front_conv::{FrontConv, Streams};
 use own_files::OwnFiles;
 use pam_base::Text;
 use pam_outside::{Clock, MAX_FILE, Nap, NapSum, Sink, Source, Vault};
@@ -35,6 +37,7 @@ use shipped_modules::SystemTime;
 use std::alloc::Global;
 use std::io;
 use std::process::ExitCode;
+use std::snapshot::Snapshot;
 use system_objects::{FolderVault, ReaderSource, RealClock, WriterSink};
 
 /// The file that has a process's own user and group IDs.
@@ -61,6 +64,7 @@ fn run(rt: HostRuntime) -> io::Result<u8> {
     let words = words_of(&rt)?;
     let status = system_text(rt, STATUS, MAX_STATUS);
     let passwd = system_text(rt, PASSWD, MAX_FILE);
+    let accounts = Snapshot::of(&passwd);
     let Asked {
         words: command,
         caller,
@@ -74,7 +78,11 @@ fn run(rt: HostRuntime) -> io::Result<u8> {
         let conv: Box<dyn Conv> = Box::new(alloc, WireConv::new(alloc))?;
         convs.push(conv)?;
     }
-    convs[0] = Box::new(alloc, FrontConv::new(rt.stdin(), rt.stdout()))?;
+    let front = Streams {
+        reader: rt.stdin(),
+        writer: rt.stdout(),
+    };
+    convs[0] = Box::new(alloc, FrontConv::new(alloc, front))?;
     let vault: Box<dyn Vault> = Box::new(alloc, files_of(rt, user))?;
     let clock: Box<dyn Clock> = Box::new(alloc, RealClock::new(rt))?;
     let nap: Box<dyn Nap> = Box::new(alloc, NapSum::new())?;
@@ -94,6 +102,7 @@ fn run(rt: HostRuntime) -> io::Result<u8> {
         alloc,
         &words,
         &status,
+        &accounts,
         &command,
         talks,
         &mut script,
@@ -109,12 +118,14 @@ fn files_of(rt: HostRuntime, user: Text) -> OwnFiles<FolderVault>
     OwnFiles::new(FolderVault::new(rt), user)
 }
 
-// Serves the calls of a front end for the real user that this text of /proc/self/status gives, over the files and the
-// clock of the system.
+// Serves the calls of a front end for the real user that this text of /proc/self/status gives, over the clock of the
+// system, and its files as `OwnFiles` shows them to the user who has that ID in /etc/passwd: any other store, and the
+// same for another user, is refused.
 fn serve_user<S: Source, K: Sink>(
     alloc: Global,
     words: &[String],
     said: &Text,
+    accounts: &Snapshot<Text>,
     command: &[String],
     talks: Conversations,
     script: &mut S,
@@ -124,6 +135,8 @@ fn serve_user<S: Source, K: Sink>(
     requires command { command_of command.now ≡ own_command words.now }
     requires caller { world.old.process.caller ≡ real_user (ids_in said.now (codes "Uid:")) }
     requires files { vault_tells (in_box world.old.vault) ≡ false }
+    requires own { vault_holds (in_box world.old.vault)
+        ≡ files_for (own_name (ids_in said.now (codes "Uid:")) accounts.now.value) }
     requires clock { clock_tells (in_box world.old.clock) ≡ false }
     requires time { ⟦<Conversations as ConversationsTold>⟧.has_time talks ≡ true }
     requires frames { IsOfFrames (command_of command.now) }

@@ -1,5 +1,7 @@
-use Rattle.std.proofs.Common.{◌≡◌, refl, Bool}
+use Rattle.std.proofs.Common.{◌≡◌, refl, ap, ◌∙◌, Bool}
 use denote.Param.Object.{read_made}
+use Rattle.pam_outside.specs.Files.{VaultState}
+use Rattle.own_files.specs.Own.{files_for}
 use Rattle.pam_service_user.proofs.run.OwnLists.{own-2, at-2-1, own-3, at-3-1}
 use Rattle.pam_service_user.proofs.run.Goals as goal
 
@@ -8,3 +10,6 @@ serve_user-requires-clause-files c = read_made own-2 _ at-2-1 refl Bool (λ j w.
 
 pub serve_user-requires-clause-clock : goal.serve_user-requires-clause-clock
 serve_user-requires-clause-clock c = read_made own-3 _ at-3-1 refl Bool (λ j w. j.1.clock_tells w) _ _ _ c.into_dyn_box-in_ok-new-5.ensures.1
+
+pub serve_user-requires-clause-own : goal.serve_user-requires-clause-own
+serve_user-requires-clause-own c = ?
