@@ -97,3 +97,9 @@ pub only_taken : (texts : List (List ℕ)) (frames : List ℕ) (old new : Option
 only_taken texts frames None new are taken only = absurd cc
 only_taken texts frames (Some xs) None are taken only = absurd taken
 only_taken texts frames (Some xs) (Some ys) are taken only = sym (all_only texts frames ys are) ∙ (ap (only_from []) (sym taken) ∙ only)
+
+pub texts_spelled : (texts : List (List ℕ)) (bytes : List ℕ) → AreReplyFrames texts bytes → texts_from [] bytes ≡ texts
+texts_spelled texts bytes are = ap (texts_from []) (sym (append-nil bytes)) ∙ (all_on texts bytes [] are ∙ append-nil texts)
+
+pub only_spelled : (texts : List (List ℕ)) (bytes : List ℕ) → AreReplyFrames texts bytes → only_from [] bytes ≡ true
+only_spelled texts bytes are = ap (only_from []) (sym (append-nil bytes)) ∙ all_only texts bytes [] are

@@ -30,7 +30,7 @@ pub struct FrontConv<F: FrontEnd> {
     faults: u64,
     deferrals: u64,
     cause: Option<Cause>,
-    // Only for contracts, but for whether there are any.
+    // Only for contracts; but the code asks whether anything was offered.
     handed: Vec<Snapshot<Messages>>,
     offered: Vec<Snapshot<Text>>,
 }

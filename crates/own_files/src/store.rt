@@ -54,8 +54,8 @@ impl<V: Vault> OwnFiles<V> {
         }
     }
 
-    /// The user. And a law: whatever was called with it, and whatever came of that, the store below has the files and the
-    /// locks that it had when it was handed in.
+    /// The user. And a law: whatever was called with it, in whatever order, the store below has the files and the locks
+    /// that it had when it was handed in.
     pub fn user(&self) -> &[u8]
         ensures user { result.now ≡ self.now.user }
         ensures unchanged { IsUnchanged V.vault_tells V.vault_holds self.now.begun
