@@ -1,5 +1,6 @@
 -- If no transaction is open, all data that were set have exactly one cleanup record.
-use Rattle.std.proofs.Common.{◌≡◌, ℕ, zero, suc, ltb, if◌then◌else◌, Bool, true, false, List, [], ◌∷◌, ◌++◌, map, slice_get, Option, refl, sym, ap, ◌∙◌, subst, subst₂, arith}
+use Rattle.std.proofs.Common.{◌≡◌, ℕ, zero, suc, ltb, if◌then◌else◌, Bool, true, false, List, [], ◌∷◌, ◌++◌, map, slice_get, Option, refl}
+use Rattle.std.proofs.Common.{sym, ap, ◌∙◌, subst, subst₂, arith}
 use Rattle.std.specs.Prelude.{nat_eq}
 use Rattle.std.specs.List.{IsDistinct}
 use Rattle.data_cleanup.specs.Datum.{PlainDatum}
@@ -105,15 +106,18 @@ module _ (P Q : ℕ → ℕ → Type 0) (also : (number status : ℕ) → P numb
   proceeds_too note before lists after next p = record { went = p.went; ends_are = calls_too p.went.calls p.ends_are }
 
 -- a library that was opened, and run from a world with the same process
-pub cleaned_at : (P Is : ℕ → ℕ → Type 0) → ((number status : ℕ) → P number status → Is number status) → (root : List ℕ) (setup : Setup) (old : PlainWorld) (s t e : Seen)
+pub cleaned_at : (P Is : ℕ → ℕ → Type 0) → ((number status : ℕ) → P number status → Is number status)
+    → (root : List ℕ) (setup : Setup) (old : PlainWorld) (s t e : Seen)
     → ((first last : PlainLedger) (lists next : Lists) (events : List Event) (p : Proceeds (notes_of t.players) first lists last next)
     → StandFor (notes_of t.players) 17 first lists events → StandFor (notes_of t.players) 17 last next (events ++ events_of first p.calls))
     → IsOpened root setup old s → t.players ≡ s.players → t.slots ≡ s.slots → t.world.process ≡ s.world.process → Went P t e → NoneIsOpen e.slots
     → IsCleanedUp Is (notes_of setup.players) e.world.process.ledger
 cleaned_at P Is also root setup old s t e law library players slots same went none =
     let stand : StandFor (notes_of t.players) 17 old.process.ledger (lists_of t.slots) [] =
-    subst₂ (λ (ps : List Player) (ss : List PlainSlot). StandFor (notes_of ps) 17 old.process.ledger (lists_of ss) []) (sym players) (sym slots) library.none_yet in
-    let ledger : t.world.process.ledger ≡ old.process.ledger = ap (λ (p : PlainProcess). p.ledger) same ∙ ap (λ (w : PlainWorld). w.process.ledger) library.world_is in
+    subst₂ (λ (ps : List Player) (ss : List PlainSlot). StandFor (notes_of ps) 17 old.process.ledger (lists_of ss) []) (sym players) (sym slots)
+        library.none_yet in
+    let ledger : t.world.process.ledger ≡ old.process.ledger = ap (λ (p : PlainProcess). p.ledger) same
+            ∙ ap (λ (w : PlainWorld). w.process.ledger) library.world_is in
     subst (λ (ps : List Player). IsCleanedUp Is (notes_of ps) e.world.process.ledger) (players ∙ library.players)
     (cleaned_up Is (notes_of t.players) old.process.ledger t.world.process.ledger e.world.process.ledger t.slots e.slots law stand ledger
     (proceeds_too P Is also (notes_of t.players) t.world.process.ledger (lists_of t.slots) e.world.process.ledger (lists_of e.slots) went.proceeds) none)

@@ -13,7 +13,8 @@ use Rattle.cmd_login.specs.cmd_run.specs.State.{setting_of}
 use Rattle.cmd_wire.specs.frame_stream.specs.declared.fault.FrameFault.{FrameFault}
 use Rattle.cmd_all.specs.declared.exit.Exit.TheVariants as exits
 use Rattle.cmd_all.specs.Exit.{audit_exit, check_exit, exit_status, frames_exit, generate_exit, login_exit, script_exit, tally_exit}
-use Rattle.cmd_all.specs.ByCommand.{Around, AuditsSo, ChecksSo, GeneratesSo, GoesBy, IfAllTold, LogsInSo, Object, ReadCauses, ReadsNone, ReportsFrames, ReportsScript, RunsSo, Setup, TalliesSo, WiresSo}
+use Rattle.cmd_all.specs.ByCommand.{Around, AuditsSo, ChecksSo, GeneratesSo, GoesBy, IfAllTold, LogsInSo, Object, ReadCauses, ReadsNone}
+use Rattle.cmd_all.specs.ByCommand.{ReportsFrames, ReportsScript, RunsSo, Setup, TalliesSo, WiresSo}
 use Rattle.cmd_check.specs.declared.finding.Checked.{Checked}
 use Rattle.cmd_check.specs.declared.finding.Checked.TheVariants as founds
 use Rattle.cmd_generate.specs.declared.generating.Generated.{Generated}
@@ -56,18 +57,22 @@ module _ (status before now : ℕ) where
 
 module _ (root : List ℕ) (status : ℕ) (setup : Setup) (world : Around) (input : Object SourceState) (output : Object SinkState) where
   -- a run of a script
-  pub runs_so : IfAllTold setup world input output (λ setting. Runs setting status setup.slots root world.old world.new input.old input.new output.old output.new) → IsStatus status
+  pub runs_so : IfAllTold setup world input output (λ setting. Runs setting status setup.slots root world.old world.new input.old input.new output.old
+      output.new) → IsStatus status
       → (IsTrue input.tells → ReadsBy status input.old input.new)
       → (IsTrue input.tells → Completes status input.old.left (Rose input.faults_before input.faults_after) (Rose output.faults_before output.faults_after))
       → (IsTrue output.tells → WritesScript output.old output.new) → (IsTrue output.tells → ReportsScript status setup output.old output.new)
       → RunsSo root status setup world input output
   runs_so told known reads complete writes reports = record {
     done = λ number given source sink both. λ is.
-        done_of (setting_of setup.players number) status setup.slots root world.old world.new input.old input.new output.old output.new (told number given source sink both) is;
+        done_of (setting_of setup.players number) status setup.slots root world.old world.new input.old input.new output.old output.new
+            (told number given source sink both) is;
     refused = λ number given source sink both. λ is.
-        refused_of (setting_of setup.players number) status setup.slots root world.old world.new input.old input.new output.old output.new (told number given source sink both) is;
+        refused_of (setting_of setup.players number) status setup.slots root world.old world.new input.old input.new output.old output.new
+            (told number given source sink both) is;
     unread = λ number given source sink both. λ is.
-        unread_of (setting_of setup.players number) status setup.slots root world.old world.new input.old input.new output.old output.new (told number given source sink both) is;
+        unread_of (setting_of setup.players number) status setup.slots root world.old world.new input.old input.new output.old output.new
+            (told number given source sink both) is;
     told = told;
     statuses = known;
     complete = complete;
@@ -79,14 +84,17 @@ module _ (root : List ℕ) (status : ℕ) (setup : Setup) (world : Around) (inpu
   }
 
   -- a run of frames
-  pub wires_so : IfAllTold setup world input output (λ setting. Serves setting status setup.slots root world.old world.new input.old input.new output.old output.new) → IsWireStatus status
+  pub wires_so : IfAllTold setup world input output (λ setting. Serves setting status setup.slots root world.old world.new input.old input.new output.old
+      output.new) → IsWireStatus status
       → (IsTrue input.tells → ReadsFramesBy status input.old input.new)
       → (IsTrue input.tells → WireCompletes status input.old.left (Rose input.faults_before input.faults_after) (Rose output.faults_before output.faults_after))
-      → (IsTrue output.tells → WritesScript output.old output.new) → (IsTrue output.tells → ReportsFrames status setup output.old output.new) → (IsReadThrough status → input.faults_after ≡ input.faults_before)
+      → (IsTrue output.tells → WritesScript output.old output.new) → (IsTrue output.tells → ReportsFrames status setup output.old output.new)
+          → (IsReadThrough status → input.faults_after ≡ input.faults_before)
       → WiresSo root status setup world input output
   wires_so told known reads complete writes reports through = record {
     wire_answered = λ number given source sink both.
-        answered (setting_of setup.players number) status setup.slots root world.old world.new input.old input.new output.old output.new (told number given source sink both);
+        answered (setting_of setup.players number) status setup.slots root world.old world.new input.old input.new output.old output.new
+            (told number given source sink both);
     wire_told = told;
     wire_statuses = known;
     wire_reads = reads;
@@ -181,20 +189,23 @@ module _ (status : ℕ) (input : Object SourceState) where
 -- ---- the command that was asked for is the one that was found
 
 module _ (command : Option Command) (status : ℕ) (setup : Setup) (world : Around) (input : Object SourceState) (output : Object SinkState) where
-  pub run_asked : (r root : List ℕ) → Some (runs r) ≡ command → command ≡ Some (runs root) → RunsSo r status setup world input output → RunsSo root status setup world input output
+  pub run_asked : (r root : List ℕ) → Some (runs r) ≡ command → command ≡ Some (runs root) → RunsSo r status setup world input output
+      → RunsSo root status setup world input output
   run_asked r root is asked so =
       let e : Some (runs r) ≡ Some (runs root) = is ∙ asked in
       let same : r ≡ root = cc in
       subst (λ (x : List ℕ). RunsSo x status setup world input output) same so
 
-  pub wire_asked : (r root : List ℕ) → Some (wires r) ≡ command → command ≡ Some (wires root) → WiresSo r status setup world input output → WiresSo root status setup world input output
+  pub wire_asked : (r root : List ℕ) → Some (wires r) ≡ command → command ≡ Some (wires root) → WiresSo r status setup world input output
+      → WiresSo root status setup world input output
   wire_asked r root is asked so =
       let e : Some (wires r) ≡ Some (wires root) = is ∙ asked in
       let same : r ≡ root = cc in
       subst (λ (x : List ℕ). WiresSo x status setup world input output) same so
 
 module _ (command : Option Command) (status : ℕ) (world : Around) (input : Object SourceState) (output : Object SinkState) where
-  pub audit_asked : (r s root service : List ℕ) → Some (audits r s) ≡ command → command ≡ Some (audits root service) → AuditsSo r s status world input output → AuditsSo root service status world input output
+  pub audit_asked : (r s root service : List ℕ) → Some (audits r s) ≡ command → command ≡ Some (audits root service) → AuditsSo r s status world input output
+      → AuditsSo root service status world input output
   audit_asked r s root service is asked so =
       let e : Some (audits r s) ≡ Some (audits root service) = is ∙ asked in
       let first : r ≡ root = cc in
@@ -202,14 +213,16 @@ module _ (command : Option Command) (status : ℕ) (world : Around) (input : Obj
       subst₂ (λ (x y : List ℕ). AuditsSo x y status world input output) first second so
 
 module _ (command : Option Command) (status : ℕ) (world : Around) (output : Object SinkState) where
-  pub check_asked : (r s root service : List ℕ) → Some (checks r s) ≡ command → command ≡ Some (checks root service) → ChecksSo r s status world output → ChecksSo root service status world output
+  pub check_asked : (r s root service : List ℕ) → Some (checks r s) ≡ command → command ≡ Some (checks root service) → ChecksSo r s status world output
+      → ChecksSo root service status world output
   check_asked r s root service is asked so =
       let e : Some (checks r s) ≡ Some (checks root service) = is ∙ asked in
       let first : r ≡ root = cc in
       let second : s ≡ service = cc in
       subst₂ (λ (x y : List ℕ). ChecksSo x y status world output) first second so
 
-  pub tally_asked : (r s root user : List ℕ) → Some (tallies r s) ≡ command → command ≡ Some (tallies root user) → TalliesSo r s status world output → TalliesSo root user status world output
+  pub tally_asked : (r s root user : List ℕ) → Some (tallies r s) ≡ command → command ≡ Some (tallies root user) → TalliesSo r s status world output
+      → TalliesSo root user status world output
   tally_asked r s root user is asked so =
       let e : Some (tallies r s) ≡ Some (tallies root user) = is ∙ asked in
       let first : r ≡ root = cc in
@@ -217,18 +230,21 @@ module _ (command : Option Command) (status : ℕ) (world : Around) (output : Ob
       subst₂ (λ (x y : List ℕ). TalliesSo x y status world output) first second so
 
 module _ (command : Option Command) (status : ℕ) (setup : Setup) (world : Around) (output : Object SinkState) where
-  pub generate_asked : (r s seed lines : ℕ) → Some (generates r s) ≡ command → command ≡ Some (generates seed lines) → GeneratesSo r s status setup world output → GeneratesSo seed lines status setup world output
+  pub generate_asked : (r s seed lines : ℕ) → Some (generates r s) ≡ command → command ≡ Some (generates seed lines) → GeneratesSo r s status setup world output
+      → GeneratesSo seed lines status setup world output
   generate_asked r s seed lines is asked so =
       let e : Some (generates r s) ≡ Some (generates seed lines) = is ∙ asked in
       let first : r ≡ seed = cc in
       let second : s ≡ lines = cc in
       subst₂ (λ (x y : ℕ). GeneratesSo x y status setup world output) first second so
 
-  pub login_asked : (r s : List ℕ) (u : Option (List ℕ)) (root service : List ℕ) (user : Option (List ℕ)) → Some (logs_in r s u) ≡ command → command ≡ Some (logs_in root service user)
+  pub login_asked : (r s : List ℕ) (u : Option (List ℕ)) (root service : List ℕ) (user : Option (List ℕ)) → Some (logs_in r s u) ≡ command
+      → command ≡ Some (logs_in root service user)
       → LogsInSo r s u status setup world output → LogsInSo root service user status setup world output
   login_asked r s u root service user is asked so =
       let e : Some (logs_in r s u) ≡ Some (logs_in root service user) = is ∙ asked in
       let first : r ≡ root = cc in
       let second : s ≡ service = cc in
       let third : u ≡ user = cc in
-      subst (λ (z : Option (List ℕ)). LogsInSo root service z status setup world output) third (subst₂ (λ (x y : List ℕ). LogsInSo x y u status setup world output) first second so)
+      subst (λ (z : Option (List ℕ)). LogsInSo root service z status setup world output) third
+          (subst₂ (λ (x y : List ℕ). LogsInSo x y u status setup world output) first second so)

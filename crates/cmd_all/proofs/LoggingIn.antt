@@ -25,27 +25,33 @@ use Rattle.cmd_all.specs.Opened.{IsOpened}
 use Rattle.cmd_login.proofs.Reporting.{said_unbegun}
 use Rattle.cmd_all.proofs.Telling.{both_left, both_right, both_true}
 
-module _ (root : List ℕ) (setup : Setup) (old : PlainWorld) (s : Seen) (new : PlainWorld) (ends : List PlainSlot) (service : List ℕ) (user : Option (List ℕ)) (p q : SinkState) where
+module _ (root : List ℕ) (setup : Setup) (old : PlainWorld) (s : Seen) (new : PlainWorld) (ends : List PlainSlot) (service : List ℕ) (user : Option (List ℕ))
+    (p q : SinkState) where
   logged_at : (setting : Setting) (slots : List PlainSlot) (now : PlainWorld) (result : Result Verdict Stop) (status : ℕ)
       → status ≡ exit_status (login_exit result) → now ≡ at_root root old
-      → LogsIn setting (login_of setting service user (state_of slots now)) result (state_of slots now) (state_of ends new) p q → IsLogin setting status service user (entry slots root old) new p q
+      → LogsIn setting (login_of setting service user (state_of slots now)) result (state_of slots now) (state_of ends new) p q
+          → IsLogin setting status service user (entry slots root old) new p q
   logged_at setting slots now result status is under logs = record {
     result = result;
     is = is;
     end = state_of ends new;
     world_is = refl;
-    logs_in = subst (λ (w : PlainWorld). LogsIn setting (login_of setting service user (state_of slots w)) result (state_of slots w) (state_of ends new) p q) under logs;
+    logs_in = subst (λ (w : PlainWorld). LogsIn setting (login_of setting service user (state_of slots w)) result (state_of slots w) (state_of ends new) p
+        q) under logs;
   }
 
   pub logged_in : (number : Code → ℕ → ℕ) (result : Result Verdict Stop) (status : ℕ) → status ≡ exit_status (login_exit result) → IsOpened root setup old s
-      → LogsIn (setting_of s.players number) (login_of (setting_of s.players number) service user (state_of s.slots s.world)) result (state_of s.slots s.world) (state_of ends new) p q
+      → LogsIn (setting_of s.players number) (login_of (setting_of s.players number) service user (state_of s.slots s.world)) result (state_of s.slots s.world)
+          (state_of ends new) p q
       → IsLogin (setting_of setup.players number) status service user (entry setup.slots root old) new p q
   logged_in number result status is opened logs =
-      subst₂ (λ (players : List Player) (slots : List PlainSlot). IsLogin (setting_of players number) status service user (entry slots root old) new p q) opened.players opened.slots
+      subst₂ (λ (players : List Player) (slots : List PlainSlot). IsLogin (setting_of players number) status service user (entry slots root old) new p q)
+          opened.players opened.slots
       (logged_at (setting_of s.players number) s.slots s.world result status is opened.world_is logs)
 
 -- a library that comes from one setup comes from another one, too, if both give the same
-pub opened_as : (root : List ℕ) (setup other : Setup) (old : PlainWorld) (s : Seen) → setup.players ≡ other.players → setup.slots ≡ other.slots → (IsTrue other.tells → IsTrue setup.tells)
+pub opened_as : (root : List ℕ) (setup other : Setup) (old : PlainWorld) (s : Seen) → setup.players ≡ other.players → setup.slots ≡ other.slots
+    → (IsTrue other.tells → IsTrue setup.tells)
     → ((number : Code → ℕ → ℕ) → other.gives number → setup.gives number) → IsOpened root setup old s → IsOpened root other old s
 opened_as root setup other old s players slots tells gives opened = record {
   players = opened.players ∙ players;
@@ -78,18 +84,22 @@ pub ends_generate : (result : Result Generated Stop) (status : ℕ) → status �
 ends_generate result status is number ended e = (result, is, e)
 
 -- a login, over a library of a setup that gives the same
-pub logs_in_so : (root service : List ℕ) (user : Option (List ℕ)) (status : ℕ) (setup : Setup) (world : Around) (output : Object SinkState) (given : Setup) (s : Seen) (ends : List PlainSlot) (result : Result Verdict Stop)
+pub logs_in_so : (root service : List ℕ) (user : Option (List ℕ)) (status : ℕ) (setup : Setup) (world : Around) (output : Object SinkState) (given : Setup)
+    (s : Seen) (ends : List PlainSlot) (result : Result Verdict Stop)
     → IsOpened root given world.old s → given.players ≡ setup.players → given.slots ≡ setup.slots → (IsTrue setup.tells → IsTrue given.tells)
     → ((number : Code → ℕ → ℕ) → setup.gives number → given.gives number) → s.world_tells ≡ world.tells → status ≡ exit_status (login_exit result)
     → (IsTrue setup.tells → (number : Code → ℕ → ℕ) → s.gives number → IsTrue (s.tells && s.world_tells) → IsTrue output.tells
-    → LogsIn (setting_of s.players number) (login_of (setting_of s.players number) service user (state_of s.slots s.world)) result (state_of s.slots s.world) (state_of ends world.new) output.old output.new)
+    → LogsIn (setting_of s.players number) (login_of (setting_of s.players number) service user (state_of s.slots s.world)) result (state_of s.slots s.world)
+        (state_of ends world.new) output.old output.new)
     → (IsTrue output.tells → ShowsLogin service user status output.old output.new)
     → LogsInSo root service user status setup world output
 logs_in_so root service user status setup world output given s ends result opened players slots tells gives world_tells is told shows = record {
   logged_in = λ number gives_it sink both.
       let library : IsOpened root setup world.old s = opened_as root given setup world.old s players slots tells gives opened in
       inl (logged_in root setup world.old s world.new ends service user output.old output.new number result status is library
-      (told (both_right world.tells setup.tells both) number (library.gives number gives_it) (both_true s.tells s.world_tells (library.tells (both_right world.tells setup.tells both)) (world_tells ∙ both_left world.tells setup.tells both)) sink));
+      (told (both_right world.tells setup.tells both) number (library.gives number gives_it)
+          (both_true s.tells s.world_tells (library.tells (both_right world.tells setup.tells both))
+          (world_tells ∙ both_left world.tells setup.tells both)) sink));
   login_shows = shows;
   login_statuses = (result, is);
 }
@@ -100,7 +110,8 @@ pub logs_in_not : (root service : List ℕ) (user : Option (List ℕ)) (status :
     → LogsInSo root service user status setup world output
 logs_in_not root service user status setup world output four same written = record {
   logged_in = λ number gives sink both. inr (record { is = four; world = same; sink = written });
-  login_shows = λ sink. subst (λ (q : SinkState). ShowsLogin service user status output.old q) (sym written) (nothing_shown service user status output.old four);
+  login_shows = λ sink. subst (λ (q : SinkState). ShowsLogin service user status output.old q) (sym written)
+      (nothing_shown service user status output.old four);
   login_statuses = (Err NoMemory, four);
 }
 
@@ -111,5 +122,6 @@ module _ (players given : List Player) (slots closed ends : List PlainSlot) (old
       → Generates result (generation (setting_of players number) seed lines (state_of slots old)) (state_of ends new) p q
       → GeneratesBy (setting_of given number) status closed seed lines old new p q
   generated number seed lines result status same_players same_slots is generates = inl (
-      subst₂ (λ (ps : List Player) (ss : List PlainSlot). IsGenerated status (generation (setting_of ps number) seed lines (state_of ss old)) new p q) same_players same_slots
+      subst₂ (λ (ps : List Player) (ss : List PlainSlot). IsGenerated status (generation (setting_of ps number) seed lines (state_of ss old)) new p q)
+          same_players same_slots
       (record { result = result; is = is; end = state_of ends new; world_is = refl; generates = generates }))

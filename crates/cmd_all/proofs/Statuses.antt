@@ -22,7 +22,8 @@ module _ (setting : Setting) (start end : RunState) (x y : SourceState) (p q : S
   abbrev Due : Ending → Run RunState → Type 0
   Due ending r = AreDue (notes_of setting.players) (events_in setting ending start x.left r) end.world.process.ledger
 
-  due_by : (ending : Ending) (r : Run RunState) (text : List ℕ) (last : RunState) (lines : ℕ) (refused : Option ScriptKind) → r ≡ come_to text last lines refused
+  due_by : (ending : Ending) (r : Run RunState) (text : List ℕ) (last : RunState) (lines : ℕ) (refused : Option ScriptKind)
+      → r ≡ come_to text last lines refused
       → NoneYet → StandOn (notes_of setting.players) (run_events setting (ending_status ending) start x.left lines last) start end → Due ending r
   due_by ending r text last lines refused comes none_yet stands =
       let stand = stands [] none_yet in

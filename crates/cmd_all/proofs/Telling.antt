@@ -1,5 +1,6 @@
 -- What the status of a run says, whether it was begun or not.
-use Rattle.std.proofs.Common.{◌≡◌, inl, inr, ℕ, suc, Bool, true, false, ◌&&◌, IsTrue, List, [], ◌∷◌, length, map, Option, Result, Ok, Err, refl, sym, ap, ap₂, ◌∙◌, subst, subst₂, arith}
+use Rattle.std.proofs.Common.{◌≡◌, inl, inr, ℕ, suc, Bool, true, false, ◌&&◌, IsTrue, List, [], ◌∷◌, length, map, Option, Result, Ok, Err}
+use Rattle.std.proofs.Common.{refl, sym, ap, ap₂, ◌∙◌, subst, subst₂, arith}
 use Rattle.pam_room.specs.conv_port.specs.Conv.{ConvState}
 use Rattle.data_cleanup.specs.Cleanup.{Notes}
 use Rattle.data_cleanup.specs.Ledger.{PlainLedger}
@@ -38,7 +39,8 @@ both_right true b both = both
 both_right false b both = absurd (cc)
 
 -- the reports of a run, with other names for its modules and slots
-pub reports_as : {Kind : Type 0} (wrapped : List ℕ → List ℕ) (last_text : StreamEnding Kind → ℕ → Option (List ℕ)) (result : Result (StreamEnding Kind) Stop) (p q : SinkState)
+pub reports_as : {Kind : Type 0} (wrapped : List ℕ → List ℕ) (last_text : StreamEnding Kind → ℕ → Option (List ℕ)) (result : Result (StreamEnding Kind) Stop)
+    (p q : SinkState)
     → (players others : List Player) → players ≡ others → (slots places : List PlainSlot) → slots ≡ places
     → ReportsRun wrapped last_text players result slots p q → ReportsRun wrapped last_text others result places p q
 reports_as wrapped last_text result p q players others same slots places alike reports =
@@ -66,20 +68,23 @@ pub sound_at_first : {B : Type 0} (holds : B → ConvState) (convs : List B) (na
     → length convs ≡ 16 → slots ≡ map (λ b. closed (holds b)) convs → ledger.births ≡ [] → ledger.filed ≡ []
     → IsSound names modules slots ledger
 sound_at_first holds convs names modules slots ledger law sixteen are births filed =
-    subst₂ (IsSound names modules) (map-closed holds convs ∙ sym are) (no_entries ledger births filed) (law (map holds convs) (length-map holds convs ∙ sixteen))
+    subst₂ (IsSound names modules) (map-closed holds convs ∙ sym are) (no_entries ledger births filed)
+        (law (map holds convs) (length-map holds convs ∙ sixteen))
 
 pub stand_at_first : {B : Type 0} (note : Notes) (holds : B → ConvState) (convs : List B) (slots : List PlainSlot) (ledger : PlainLedger)
     → ((states : List ConvState) → StandFor note 17 (record { births = []; filed = [] }) (lists_of (map closed states)) [])
     → slots ≡ map (λ b. closed (holds b)) convs → ledger.births ≡ [] → ledger.filed ≡ []
     → StandFor note 17 ledger (lists_of slots) []
 stand_at_first note holds convs slots ledger law are births filed =
-    subst₂ (λ (s : List PlainSlot) (l : PlainLedger). StandFor note 17 l (lists_of s) []) (map-closed holds convs ∙ sym are) (no_entries ledger births filed) (law (map holds convs))
+    subst₂ (λ (s : List PlainSlot) (l : PlainLedger). StandFor note 17 l (lists_of s) []) (map-closed holds convs ∙ sym are) (no_entries ledger births filed)
+        (law (map holds convs))
 
 none_open : {B : Type 0} (holds : B → ConvState) (convs : List B) → NoneIsOpen (map (λ b. closed (holds b)) convs)
 none_open holds [] = tt
 none_open holds (b ∷ convs) = (refl, none_open holds convs)
 
-pub none_open_at_first : {B : Type 0} (holds : B → ConvState) (convs : List B) (slots : List PlainSlot) → slots ≡ map (λ b. closed (holds b)) convs → NoneIsOpen slots
+pub none_open_at_first : {B : Type 0} (holds : B → ConvState) (convs : List B) (slots : List PlainSlot) → slots ≡ map (λ b. closed (holds b)) convs
+    → NoneIsOpen slots
 none_open_at_first holds convs slots are = subst NoneIsOpen (sym are) (none_open holds convs)
 
 -- the world after the clock was set
@@ -87,7 +92,8 @@ pub under_now : (root : List ℕ) (old at now : PlainWorld) → at ≡ at_root r
 under_now root old at now is reset = reset.world_is ∙ ap (λ (w : PlainWorld). record w { clock = record w.clock { moment = 0; word = 0 } }) is
 
 module _ {Kind : Type 0} (runs_so : RunTold Kind) where
-  begun_at : (setting : Setting) (slots ends : List PlainSlot) (root : List ℕ) (old now new : PlainWorld) (x y : SourceState) (p q : SinkState) (result : Result (StreamEnding Kind) Stop) → now ≡ under_root root old
+  begun_at : (setting : Setting) (slots ends : List PlainSlot) (root : List ℕ) (old now new : PlainWorld) (x y : SourceState) (p q : SinkState)
+      (result : Result (StreamEnding Kind) Stop) → now ≡ under_root root old
       → StandFor (notes_of setting.players) 17 old.process.ledger (lists_of slots) []
       → runs_so setting result (state_of slots now) (state_of ends new) x y p q → IsBegunSo runs_so setting result (opening slots root old) new x y p q
   begun_at setting slots ends root old now new x y p q result under none_yet ran = record {
@@ -97,12 +103,15 @@ module _ {Kind : Type 0} (runs_so : RunTold Kind) where
     none_yet = none_yet;
   }
 
-  pub begun : (root : List ℕ) (setup : Setup) (old : PlainWorld) (s : Seen) (now new : PlainWorld) (ends : List PlainSlot) (x y : SourceState) (p q : SinkState) (number : Code → ℕ → ℕ) (result : Result (StreamEnding Kind) Stop)
+  pub begun : (root : List ℕ) (setup : Setup) (old : PlainWorld) (s : Seen) (now new : PlainWorld) (ends : List PlainSlot) (x y : SourceState) (p q : SinkState)
+      (number : Code → ℕ → ℕ) (result : Result (StreamEnding Kind) Stop)
       → IsOpened root setup old s → IsReset s.world now → runs_so (setting_of s.players number) result (state_of s.slots now) (state_of ends new) x y p q
       → IsBegunSo runs_so (setting_of setup.players number) result (opening setup.slots root old) new x y p q
   begun root setup old s now new ends x y p q number result opened reset ran =
-      subst₂ (λ (players : List Player) (slots : List PlainSlot). IsBegunSo runs_so (setting_of players number) result (opening slots root old) new x y p q) opened.players opened.slots
-      (begun_at (setting_of s.players number) s.slots ends root old now new x y p q result (under_now root old s.world now opened.world_is reset) opened.none_yet ran)
+      subst₂ (λ (players : List Player) (slots : List PlainSlot). IsBegunSo runs_so (setting_of players number) result (opening slots root old) new x y p q)
+          opened.players opened.slots
+      (begun_at (setting_of s.players number) s.slots ends root old now new x y p q result (under_now root old s.world now opened.world_is reset)
+          opened.none_yet ran)
 
 -- ---- by the status
 
@@ -136,14 +145,17 @@ module _ (setting : Setting) (start end : RunState) (x y : SourceState) (p q : S
 
 module _ (setting : Setting) (status : ℕ) (slots : List PlainSlot) (root : List ℕ) (old new : PlainWorld) (x y : SourceState) (p q : SinkState) where
   pub done_of : Runs setting status slots root old new x y p q → status ≡ exit_status exits.Done → IsDone setting (opening slots root old) new x y p q
-  done_of (inl b) is = subst (λ (w : PlainWorld). IsDone setting (opening slots root old) w x y p q) (sym b.world_is) (done_by setting (opening slots root old) b.end x y p q b.result b.none_yet b.runs (sym b.is ∙ is))
+  done_of (inl b) is = subst (λ (w : PlainWorld). IsDone setting (opening slots root old) w x y p q) (sym b.world_is)
+      (done_by setting (opening slots root old) b.end x y p q b.result b.none_yet b.runs (sym b.is ∙ is))
   done_of (inr n) is = absurd (omega (arith, n.0, is))
 
   pub refused_of : Runs setting status slots root old new x y p q → status ≡ exit_status exits.LineRefused
       → IsRefused setting (opening slots root old) new x y p q
-  refused_of (inl b) is = subst (λ (w : PlainWorld). IsRefused setting (opening slots root old) w x y p q) (sym b.world_is) (refused_by setting (opening slots root old) b.end x y p q b.result b.none_yet b.runs (sym b.is ∙ is))
+  refused_of (inl b) is = subst (λ (w : PlainWorld). IsRefused setting (opening slots root old) w x y p q) (sym b.world_is)
+      (refused_by setting (opening slots root old) b.end x y p q b.result b.none_yet b.runs (sym b.is ∙ is))
   refused_of (inr n) is = absurd (omega (arith, n.0, is))
 
   pub unread_of : Runs setting status slots root old new x y p q → status ≡ exit_status exits.ReadFault → IsUnread setting (opening slots root old) new x y p q
-  unread_of (inl b) is = subst (λ (w : PlainWorld). IsUnread setting (opening slots root old) w x y p q) (sym b.world_is) (unread_by setting (opening slots root old) b.end x y p q b.result b.none_yet b.runs (sym b.is ∙ is))
+  unread_of (inl b) is = subst (λ (w : PlainWorld). IsUnread setting (opening slots root old) w x y p q) (sym b.world_is)
+      (unread_by setting (opening slots root old) b.end x y p q b.result b.none_yet b.runs (sym b.is ∙ is))
   unread_of (inr n) is = absurd (omega (arith, n.0, is))

@@ -66,7 +66,8 @@ module _ (result : Result (Ending ScriptKind) Stop) (status before now : ℕ) (i
 
 module _ (setting : Setting) (result : Result (Ending ScriptKind) Stop) (status : ℕ) (is : status ≡ exit_status (script_exit result))
     (slots : List PlainSlot) (root : List ℕ) (old new : PlainWorld) (x y : SourceState) (p q : SinkState) where
-  script_told : NumbersStandApart → RunsOrNot RunsScript setting result (opening slots root old) old new x y p q → Runs setting status slots root old new x y p q
+  script_told : NumbersStandApart → RunsOrNot RunsScript setting result (opening slots root old) old new x y p q
+      → Runs setting status slots root old new x y p q
   script_told apart (inl b) = inl (record {
     result = result;
     is = is;
@@ -98,13 +99,16 @@ script_read result status is x y (inr n) =
 module _ (root : List ℕ) (result : Result (Ending ScriptKind) Stop) (status : ℕ) (is : status ≡ exit_status (script_exit result)) (setup : Setup)
     (world : Around) (input : Object SourceState) (output : Object SinkState)
     (u : RunsUnder RunsScript ReadsScript Completes IsEndOfRun root result setup world input output) where
-  pub script_so : NumbersStandApart → (IsTrue output.tells → ReportsRun as_it_is script_last setup.players result setup.slots output.old output.new) → RunsSo root status setup world input output
+  pub script_so : NumbersStandApart → (IsTrue output.tells → ReportsRun as_it_is script_last setup.players result setup.slots output.old output.new)
+      → RunsSo root status setup world input output
   script_so apart reports =
       runs_so root status setup world input output
-      (λ number given source sink both. script_told _ result status is setup.slots root world.old world.new input.old input.new output.old output.new apart (u.told number given source sink both))
+      (λ number given source sink both. script_told _ result status is setup.slots root world.old world.new input.old input.new output.old output.new apart
+          (u.told number given source sink both))
       (result, is)
       (λ source. script_read result status is input.old input.new (u.reads source))
-      (λ source. script_completes result status is input.old.left (Rose input.faults_before input.faults_after) (Rose output.faults_before output.faults_after) (u.complete source))
+      (λ source. script_completes result status is input.old.left (Rose input.faults_before input.faults_after) (Rose output.faults_before output.faults_after)
+          (u.complete source))
       u.writes
       (λ sink. record { result = result; is = is; reports = reports sink })
 
@@ -167,13 +171,16 @@ frames_read result status is x y (inr n) =
 module _ (root : List ℕ) (result : Result (Ending FrameFault) Stop) (status : ℕ) (is : status ≡ exit_status (frames_exit result)) (setup : Setup)
     (world : Around) (input : Object SourceState) (output : Object SinkState)
     (u : RunsUnder RunsAnswered ReadsFrames FramesComplete IsEndOfFrames root result setup world input output) where
-  pub frames_so : (IsTrue output.tells → ReportsRun answer_of nothing_last setup.players result setup.slots output.old output.new) → WiresSo root status setup world input output
+  pub frames_so : (IsTrue output.tells → ReportsRun answer_of nothing_last setup.players result setup.slots output.old output.new)
+      → WiresSo root status setup world input output
   frames_so reports =
       wires_so root status setup world input output
-      (λ number given source sink both. frames_told _ result status is setup.slots root world.old world.new input.old input.new output.old output.new (u.told number given source sink both))
+      (λ number given source sink both. frames_told _ result status is setup.slots root world.old world.new input.old input.new output.old output.new
+          (u.told number given source sink both))
       (result, is)
       (λ source. frames_read result status is input.old input.new (u.reads source))
-      (λ source. completes_by result status is input.old.left (Rose input.faults_before input.faults_after) (Rose output.faults_before output.faults_after) (u.complete source))
+      (λ source. completes_by result status is input.old.left (Rose input.faults_before input.faults_after) (Rose output.faults_before output.faults_after)
+          (u.complete source))
       u.writes
       (λ sink. record { result = result; is = is; reports = reports sink })
       (through result status is input.faults_before input.faults_after u.source_faults)
@@ -181,7 +188,8 @@ module _ (root : List ℕ) (result : Result (Ending FrameFault) Stop) (status : 
   pub frames_read_causes : ReadCauses status input
   frames_read_causes = record {
     read_fault = λ five. failed_read input.faults_before input.faults_after result u.source_faults (sym is ∙ five);
-    no_read_fault = no_fault_read status input.faults_before input.faults_after (result, is) (through result status is input.faults_before input.faults_after u.source_faults);
+    no_read_fault = no_fault_read status input.faults_before input.faults_after (result, is)
+        (through result status is input.faults_before input.faults_after u.source_faults);
     source_tells = u.source_tells;
   }
 

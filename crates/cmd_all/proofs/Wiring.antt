@@ -1,5 +1,6 @@
 -- What the status of a run of frames says.
-use Rattle.std.proofs.Common.{◌≡◌, ◌⊎◌, inl, inr, ℕ, ◌<◌, if◌then◌else◌, List, [], ◌∷◌, ◌++◌, length, Option, Some, None, Result, Ok, Err, IfOk, refl, sym, ap, ◌∙◌, subst, arith}
+use Rattle.std.proofs.Common.{◌≡◌, ◌⊎◌, inl, inr, ℕ, ◌<◌, if◌then◌else◌, List, [], ◌∷◌, ◌++◌, length, Option, Some, None, Result, Ok, Err}
+use Rattle.std.proofs.Common.{IfOk, refl, sym, ap, ◌∙◌, subst, arith}
 use Rattle.std.specs.Int.{w16, to_be_bytes}
 use Rattle.std.specs.Prelude.{nat_eq}
 use Rattle.pam_outside.specs.Streams.{SourceState, SinkState}
@@ -99,7 +100,8 @@ module _ (setting : Setting) (status : ℕ) (slots : List PlainSlot) (root : Lis
   answered (inl s) = λ ending is. record {
     end = s.end;
     world_is = s.world_is;
-    all = subst (λ (r : Result (Ending FrameFault) Stop). Answers setting r (opening slots root old) s.end x y p q) (is_ending s.result ending (sym s.is ∙ is)) s.answers;
+    all = subst (λ (r : Result (Ending FrameFault) Stop). Answers setting r (opening slots root old) s.end x y p q)
+        (is_ending s.result ending (sym s.is ∙ is)) s.answers;
   }
   answered (inr n) = λ ending is. no_ending status ending n.0 is
 

@@ -17,20 +17,24 @@ module _ (setting : Setting) (p : Placed) (s : RunState) (w : PlainWorld) (is : 
   -- all files were stored
   behind_all : (result : Result Login (Refuse LoadFault)) (u : RunState) → p.fault ≡ None
       → ComesTo result (logged_in setting (state_of s.slots w)) (LoginStops setting (state_of s.slots w)) u
-      → ComesTo result (behind_files setting p.fault (state_of s.slots (with_vault p.vault (from_root s.world)))) (LoginStops setting (state_of s.slots (with_vault p.vault (from_root s.world)))) u
+      → ComesTo result (behind_files setting p.fault (state_of s.slots (with_vault p.vault (from_root s.world))))
+          (LoginStops setting (state_of s.slots (with_vault p.vault (from_root s.world)))) u
   behind_all result u none comes =
-      subst (λ (o : Option LoadFault). ComesTo result (behind_files setting o (state_of s.slots (with_vault p.vault (from_root s.world)))) (LoginStops setting (state_of s.slots (with_vault p.vault (from_root s.world)))) u) (sym none)
+      subst (λ (o : Option LoadFault). ComesTo result (behind_files setting o (state_of s.slots (with_vault p.vault (from_root s.world))))
+          (LoginStops setting (state_of s.slots (with_vault p.vault (from_root s.world)))) u) (sym none)
       (subst (λ (v : PlainWorld). ComesTo result (logged_in setting (state_of s.slots v)) (LoginStops setting (state_of s.slots v)) u) is comes)
 
   -- one wasn't stored
   behind_fault : (Stops : RunState → Type 0) (fault : LoadFault) → p.fault ≡ Some fault
       → ComesTo (Err (Named fault)) (behind_files setting p.fault (state_of s.slots (with_vault p.vault (from_root s.world)))) Stops (state_of s.slots w)
   behind_fault Stops fault some =
-      subst (λ (o : Option LoadFault). ComesTo (Err (Named fault)) (behind_files setting o (state_of s.slots (with_vault p.vault (from_root s.world)))) Stops (state_of s.slots w)) (sym some)
+      subst (λ (o : Option LoadFault). ComesTo (Err (Named fault)) (behind_files setting o (state_of s.slots (with_vault p.vault (from_root s.world)))) Stops
+          (state_of s.slots w)) (sym some)
       (refl, ap (state_of s.slots) is)
 
 -- the same with more states that it may leave
-more_stops : (Stops Others : RunState → Type 0) (result : Result Login (Refuse LoadFault)) (a : Attempt) (u : RunState) → (Stops u → Others u) → ComesTo result a Stops u → ComesTo result a Others u
+more_stops : (Stops Others : RunState → Type 0) (result : Result Login (Refuse LoadFault)) (a : Attempt) (u : RunState) → (Stops u → Others u)
+    → ComesTo result a Stops u → ComesTo result a Others u
 more_stops Stops Others (Ok login) a u more comes = comes
 more_stops Stops Others (Err (Named fault)) a u more comes = comes
 more_stops Stops Others (Err NoMemory) a u more comes = more comes
@@ -42,14 +46,16 @@ module _ (setting : Setting) (seed lines : ℕ) (s : RunState) (files : List Ran
   same = ap (λ (f : List RandomFile). placed f m.vault) random ∙ ap (λ (x : PlainWorld). placed (random_files seed lines) x.vault) root
 
   world_is : v ≡ (placed files m.vault).vault → w ≡ with_vault (placed (random_files seed lines) s.world.vault).vault (from_root s.world)
-  world_is is = rest ∙ ap (λ (x : VaultState). with_vault x m) (is ∙ ap (λ (q : Placed). q.vault) same) ∙ ap (with_vault (placed (random_files seed lines) s.world.vault).vault) root
+  world_is is = rest ∙ ap (λ (x : VaultState). with_vault x m) (is ∙ ap (λ (q : Placed). q.vault) same)
+      ∙ ap (with_vault (placed (random_files seed lines) s.world.vault).vault) root
 
   pub all_placed : (done : Unit {0}) (result : Result Login (Refuse LoadFault)) (u : RunState) → Places {T = Unit {0}} (Ok done) files m.vault v
       → ComesTo result (logged_in setting (state_of s.slots w)) (LoginStops setting (state_of s.slots w)) u
       → ComesTo result (attempted setting seed lines s) (AttemptStops setting seed lines s) u
   all_placed done result u places comes =
       let none = ap (λ (q : Placed). q.fault) (sym same) ∙ places.0 in
-      more_stops (LoginStops setting (state_of s.slots (with_vault (placed (random_files seed lines) s.world.vault).vault (from_root s.world)))) (AttemptStops setting seed lines s)
+      more_stops (LoginStops setting (state_of s.slots (with_vault (placed (random_files seed lines) s.world.vault).vault (from_root s.world))))
+          (AttemptStops setting seed lines s)
       result (attempted setting seed lines s) u (λ stops. inr (inr (inr (none, stops))))
       (behind_all setting (placed (random_files seed lines) s.world.vault) s w (world_is places.1) result u none comes)
 
@@ -61,14 +67,16 @@ module _ (setting : Setting) (seed lines : ℕ) (s : RunState) (files : List Ran
   pub not_placed : (refuse : Refuse LoadFault) → Places {T = Unit {0}} (Err refuse) files m.vault v
       → ComesTo (Err refuse) (attempted setting seed lines s) (AttemptStops setting seed lines s) (state_of s.slots w)
   not_placed (Named fault) places =
-      behind_fault setting (placed (random_files seed lines) s.world.vault) s w (world_is places.1) (AttemptStops setting seed lines s) fault (ap (λ (q : Placed). q.fault) (sym same) ∙ places.0)
+      behind_fault setting (placed (random_files seed lines) s.world.vault) s w (world_is places.1) (AttemptStops setting seed lines s) fault
+          (ap (λ (q : Placed). q.fault) (sym same) ∙ places.0)
   not_placed NoMemory places = inr (inr (inl (v, some_placed places, ap (state_of s.slots) (rest ∙ ap (with_vault v) root))))
 
 -- nothing was stored yet
 pub not_begun : (setting : Setting) (seed lines : ℕ) (s : RunState) (w : PlainWorld) → w ≡ s.world → AttemptStops setting seed lines s (state_of s.slots w)
 not_begun setting seed lines s w same = inl (ap (state_of s.slots) same)
 
-pub not_generated : (setting : Setting) (seed lines : ℕ) (s : RunState) (w : PlainWorld) → w ≡ from_root s.world → AttemptStops setting seed lines s (state_of s.slots w)
+pub not_generated : (setting : Setting) (seed lines : ℕ) (s : RunState) (w : PlainWorld) → w ≡ from_root s.world
+    → AttemptStops setting seed lines s (state_of s.slots w)
 not_generated setting seed lines s w root = inr (inl (ap (state_of s.slots) root))
 
 -- ---- which objects are modelled

@@ -1,5 +1,6 @@
 -- The first slot, after each call.
-use Rattle.std.proofs.Common.{◌≡◌, ℕ, zero, suc, Bool, true, false, ◌&&◌, List, [], ◌∷◌, Option, Some, None, Result, Ok, Err, slice_get, inl, inr, refl, sym, ap, subst, ◌∙◌}
+use Rattle.std.proofs.Common.{◌≡◌, ℕ, zero, suc, Bool, true, false, ◌&&◌, List, [], ◌∷◌, Option, Some, None, Result, Ok, Err, slice_get}
+use Rattle.std.proofs.Common.{inl, inr, refl, sym, ap, subst, ◌∙◌}
 use Rattle.std.specs.Result.{IsErrAnd}
 use Rattle.pam_base.specs.declared.call.AppCall.{AppCall}
 use Rattle.pam_base.specs.declared.call.AppCall.TheVariants as calls
@@ -19,7 +20,8 @@ use Rattle.cmd_run.specs.pam_library.specs.Step.{StepsAs, stepped}
 use Rattle.cmd_run.specs.State.{RunState, Setting, state_of}
 use Rattle.cmd_run.specs.Step.{CallFails}
 use Rattle.cmd_generate.specs.declared.login.Login.{Login}
-use Rattle.cmd_generate.specs.Login.{Attempt, Authenticates, ComesTo, LoginStops, Starts, Tries, authenticate_call, behind_start, called, end_status, ended, logged_in, login_of, refusal_in, start_call, state_in, step_of}
+use Rattle.cmd_generate.specs.Login.{Attempt, Authenticates, ComesTo, LoginStops, Starts, Tries, authenticate_call, behind_start, called}
+use Rattle.cmd_generate.specs.Login.{end_status, ended, logged_in, login_of, refusal_in, start_call, state_in, step_of}
 
 -- ---- slots that are closed
 
@@ -32,13 +34,15 @@ all_closed : (slots : List PlainSlot) → ((i : ℕ) → is_open_at (slice_get s
 all_closed [] each = tt
 all_closed (slot ∷ slots) each = (each 0, all_closed slots (λ i. each (suc i)))
 
-by_place : (old new : List PlainSlot) → NoneIsOpen old → ((number : ℕ) → (number ≡ 1 → ⊥) → slot_at new number ≡ slot_at old number) → is_open_at (slot_at new 1) ≡ false
+by_place : (old new : List PlainSlot) → NoneIsOpen old → ((number : ℕ) → (number ≡ 1 → ⊥) → slot_at new number ≡ slot_at old number)
+    → is_open_at (slot_at new 1) ≡ false
     → (i : ℕ) → is_open_at (slice_get new i) ≡ false
 by_place old new none others first zero = first
 by_place old new none others first (suc i) = ap is_open_at (others (suc (suc i)) (λ e. cc)) ∙ closed_at old none (suc i)
 
 -- if no other slot was changed, and the first is closed
-pub none_open : (old new : List PlainSlot) → NoneIsOpen old → ((number : ℕ) → (number ≡ 1 → ⊥) → slot_at new number ≡ slot_at old number) → is_open_at (slot_at new 1) ≡ false → NoneIsOpen new
+pub none_open : (old new : List PlainSlot) → NoneIsOpen old → ((number : ℕ) → (number ≡ 1 → ⊥) → slot_at new number ≡ slot_at old number)
+    → is_open_at (slot_at new 1) ≡ false → NoneIsOpen new
 none_open old new none others first = all_closed new (by_place old new none others first)
 
 pub first_closed : (slots : List PlainSlot) → NoneIsOpen slots → is_open_at (slot_at slots 1) ≡ false
@@ -71,14 +75,16 @@ by_answer names conv filed w (Err f) fault e = refl
 
 module _ (setting : Setting) where
   refused_is_closed : (slots : List PlainSlot) (w : PlainWorld) (fault : LoadFault) → is_open_at (slot_at slots 1) ≡ false
-      → refusal_in (called setting (state_of slots w) start_call).outcome.answer ≡ Some fault → is_open_at (slot_at (called setting (state_of slots w) start_call).slots 1) ≡ false
+      → refusal_in (called setting (state_of slots w) start_call).outcome.answer ≡ Some fault
+          → is_open_at (slot_at (called setting (state_of slots w) start_call).slots 1) ≡ false
   unfolding called stepped
   refused_is_closed [] w fault none e = refl
   refused_is_closed (closed conv ∷ slots) w fault none e = by_answer _ conv _ _ _ fault e
   refused_is_closed (opened h ∷ slots) w fault none e = absurd cc
 
   -- an attempt, and then the end
-  pub came : (result : Result Login (Refuse LoadFault)) (s t u : RunState) → is_open_at (slot_at s.slots 1) ≡ false → Tries result setting s t → u ≡ ended setting (number_of (end_status result)) t
+  pub came : (result : Result Login (Refuse LoadFault)) (s t u : RunState) → is_open_at (slot_at s.slots 1) ≡ false → Tries result setting s t
+      → u ≡ ended setting (number_of (end_status result)) t
       → ComesTo result (logged_in setting s) (LoginStops setting s) u
   came (Ok login) s t u none tries e = (
     ap (λ (o : Option LoadFault). (behind_start setting o (state_in (called setting s start_call))).result) tries.0 ∙ ap Ok (sym tries.1),
@@ -135,17 +141,20 @@ module _ (setting : Setting) (s : RunState) (outcome : PlainOutcome) (slots : Li
     pub starts_done : (done : Unit {0}) → None ≡ refusal_in outcome.answer → Starts {T = Unit {0}} (Ok done) setting s (state_of slots w)
     starts_done done e = (sym (answer_is setting s start_call outcome slots w steps) ∙ sym e, state_is setting s start_call outcome slots w steps)
 
-  pub authenticates : (steps : StepsAs (stepped setting.players setting.delay s.slots s.world (step_of authenticate_call)) outcome slots w) → (login : Login) → login ≡ login_of outcome
+  pub authenticates : (steps : StepsAs (stepped setting.players setting.delay s.slots s.world (step_of authenticate_call)) outcome slots w) → (login : Login)
+      → login ≡ login_of outcome
       → Authenticates (Ok login) setting s (state_of slots w)
   authenticates steps login e = (e ∙ login_is setting s authenticate_call outcome slots w steps, state_is setting s authenticate_call outcome slots w steps)
 
 -- an allocation failed before a start, and before a login
-pub start_unbegun : (setting : Setting) (s : RunState) (result : Result (Unit {0}) (Refuse LoadFault)) → IsErrAnd result (λ (refuse : Refuse LoadFault). refuse ≡ NoMemory)
+pub start_unbegun : (setting : Setting) (s : RunState) (result : Result (Unit {0}) (Refuse LoadFault))
+    → IsErrAnd result (λ (refuse : Refuse LoadFault). refuse ≡ NoMemory)
     → Starts {T = Unit {0}} result setting s s
 start_unbegun setting s (Ok done) none = absurd none
 start_unbegun setting s (Err refuse) none = subst (λ (x : Refuse LoadFault). Starts {T = Unit {0}} (Err x) setting s s) (sym none) (inl refl)
 
-pub login_unbegun : (a : Attempt) (Stops : RunState → Type 0) (s : RunState) (result : Result Login (Refuse LoadFault)) → IsErrAnd result (λ (refuse : Refuse LoadFault). refuse ≡ NoMemory)
+pub login_unbegun : (a : Attempt) (Stops : RunState → Type 0) (s : RunState) (result : Result Login (Refuse LoadFault))
+    → IsErrAnd result (λ (refuse : Refuse LoadFault). refuse ≡ NoMemory)
     → Stops s → ComesTo result a Stops s
 login_unbegun a Stops s (Ok login) none stops = absurd none
 login_unbegun a Stops s (Err refuse) none stops = subst (λ (x : Refuse LoadFault). ComesTo (Err x) a Stops s) (sym none) stops
@@ -168,4 +177,5 @@ module _ (setting : Setting) (s t : RunState) where
   pub tries_both : (u : RunState) (done : Unit {0}) (login : Login) → Starts {T = Unit {0}} (Ok done) setting s t
       → Authenticates (Ok login) setting t u → Tries (Ok login) setting s u
   tries_both u done login starts comes =
-      (starts.0, comes.0 ∙ ap (λ (m : RunState). login_of (called setting m authenticate_call).outcome) starts.1, comes.1 ∙ ap (λ (m : RunState). state_in (called setting m authenticate_call)) starts.1)
+      (starts.0, comes.0 ∙ ap (λ (m : RunState). login_of (called setting m authenticate_call).outcome) starts.1, comes.1
+          ∙ ap (λ (m : RunState). state_in (called setting m authenticate_call)) starts.1)

@@ -1,5 +1,6 @@
 -- The rules of each generated file, and of the service over them.
-use Rattle.std.proofs.Common.{◌≡◌, ℕ, suc, zero, ◌+◌, ◌-◌, ◌*◌, ◌<◌, ◌≤◌, min, Bool, true, false, cond, ◌&&◌, nat_lt, List, [], ◌∷◌, ◌++◌, length, map, refl, sym, ap, ◌∙◌, arith, append-nil, length-append}
+use Rattle.std.proofs.Common.{◌≡◌, ℕ, suc, zero, ◌+◌, ◌-◌, ◌*◌, ◌<◌, ◌≤◌, min, Bool, true, false, cond, ◌&&◌, nat_lt, List, [], ◌∷◌, ◌++◌}
+use Rattle.std.proofs.Common.{length, map, refl, sym, ap, ◌∙◌, arith, append-nil, length-append}
 use Rattle.std.specs.List.{AllByRecursion, filter, flat_map, range_with_len}
 use Rattle.std.proofs.lemmas.List.{map-append}
 use Rattle.std.proofs.lemmas.List.Concat.{flat_map-append}
@@ -14,11 +15,13 @@ use Rattle.cmd_generate.proofs.Reading.{Ruled, contents_in, reads_as, text_in}
 
 random_text : (seed : ℕ) (ns : List ℕ) → text_in (map (random seed) ns) ≡ flat_map (random_line seed) ns
 random_text seed [] = refl
-random_text seed (n ∷ ns) = ap (λ (z : List ℕ). z ++ text_in (map (random seed) ns)) (random_reads seed n) ∙ ap (λ (z : List ℕ). random_line seed n ++ z) (random_text seed ns)
+random_text seed (n ∷ ns) = ap (λ (z : List ℕ). z ++ text_in (map (random seed) ns)) (random_reads seed n)
+    ∙ ap (λ (z : List ℕ). random_line seed n ++ z) (random_text seed ns)
 
 random_contents : (seed : ℕ) (ns : List ℕ) → contents_in (map (random seed) ns) ≡ map (random_content seed) ns
 random_contents seed [] = refl
-random_contents seed (n ∷ ns) = ap (λ (z : RuleContent). z ∷ contents_in (map (random seed) ns)) (random_says seed n) ∙ ap (λ (z : List RuleContent). random_content seed n ∷ z) (random_contents seed ns)
+random_contents seed (n ∷ ns) = ap (λ (z : RuleContent). z ∷ contents_in (map (random seed) ns)) (random_says seed n)
+    ∙ ap (λ (z : List RuleContent). random_content seed n ∷ z) (random_contents seed ns)
 
 random_count : (seed a n : ℕ) → length (map (random seed) (range_with_len a n)) ≡ n
 random_count seed a zero = refl
@@ -35,11 +38,13 @@ namings (k ∷ ks) few = named k few.0 ∷ namings ks few.1
 
 names_text : (ks : List ℕ) (few : AreFew ks) → text_in (namings ks few) ≡ flat_map substack_line ks
 names_text [] few = refl
-names_text (k ∷ ks) few = ap (λ (z : List ℕ). z ++ text_in (namings ks few.1)) (named_reads k few.0) ∙ ap (λ (z : List ℕ). substack_line k ++ z) (names_text ks few.1)
+names_text (k ∷ ks) few = ap (λ (z : List ℕ). z ++ text_in (namings ks few.1)) (named_reads k few.0)
+    ∙ ap (λ (z : List ℕ). substack_line k ++ z) (names_text ks few.1)
 
 names_say : (ks : List ℕ) (few : AreFew ks) → contents_in (namings ks few) ≡ map substack_content ks
 names_say [] few = refl
-names_say (k ∷ ks) few = ap (λ (z : RuleContent). z ∷ contents_in (namings ks few.1)) (named_holds k few.0) ∙ ap (λ (z : List RuleContent). substack_content k ∷ z) (names_say ks few.1)
+names_say (k ∷ ks) few = ap (λ (z : RuleContent). z ∷ contents_in (namings ks few.1)) (named_holds k few.0)
+    ∙ ap (λ (z : List RuleContent). substack_content k ∷ z) (names_say ks few.1)
 
 names_count : (ks : List ℕ) (few : AreFew ks) → length (namings ks few) ≡ length ks
 names_count [] few = refl

@@ -18,7 +18,8 @@ module _ (text : List ℕ) where
   abbrev too_long : Result (List RawRule) LexFault
   too_long = Err (record { line = 0; kind = FileTooLong })
 
-  read_by : (long : Bool) → nat_lt 65536 (length text) ≡ long → (rules : List RawRule) → cond long too_long (answer_unless_nul (nul_line 1 text) text) ≡ Ok rules → length text ≤ 65536
+  read_by : (long : Bool) → nat_lt 65536 (length text) ≡ long → (rules : List RawRule)
+      → cond long too_long (answer_unless_nul (nul_line 1 text) text) ≡ Ok rules → length text ≤ 65536
   read_by true e rules is = absurd cc
   read_by false e rules is = ltb-false 65536 (length text) e
 
@@ -38,7 +39,8 @@ module _ (seed lines : ℕ) (most : lines ≤ 4096) where
   short_service : IsShort (service (count_of lines))
   short_service = omega (arith, read_length (service (count_of lines)).text (service_contents (count_of lines)) (holds_service lines most))
 
-  short_from : (a n : ℕ) → a + n ≤ count_of lines + 1 → AllByRecursion IsShort (map (random_file seed lines) (range_with_len a n) ++ service (count_of lines) ∷ [])
+  short_from : (a n : ℕ) → a + n ≤ count_of lines + 1 → AllByRecursion IsShort
+      (map (random_file seed lines) (range_with_len a n) ++ service (count_of lines) ∷ [])
   short_from a zero to = (short_service, tt)
   short_from a (suc n) to = (short_file a (omega (arith, to)), short_from (a + 1) n (omega (arith, to)))
 

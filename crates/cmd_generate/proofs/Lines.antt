@@ -1,5 +1,6 @@
 -- The lines of generated files, each as one rule.
-use Rattle.std.proofs.Common.{◌≡◌, ℕ, suc, zero, ◌+◌, ◌-◌, ◌*◌, ◌%◌, ◌<◌, ◌≤◌, ◌^◌, Bool, true, false, List, [], ◌∷◌, ◌++◌, codes, get_or, length, map, Some, Ok, refl, sym, ap, ◌∙◌, subst, arith, append_assoc, length-append}
+use Rattle.std.proofs.Common.{◌≡◌, ℕ, suc, zero, ◌+◌, ◌-◌, ◌*◌, ◌%◌, ◌<◌, ◌≤◌, ◌^◌, Bool, true, false, List, [], ◌∷◌, ◌++◌, codes, get_or}
+use Rattle.std.proofs.Common.{length, map, Some, Ok, refl, sym, ap, ◌∙◌, subst, arith, append_assoc, length-append}
 use Rattle.std.specs.Fmt.{decimal}
 use Rattle.std.specs.List.{AllByRecursion, list_any}
 use Rattle.std.proofs.lemmas.Bool.{leb-true}
@@ -25,7 +26,8 @@ use Rattle.cmd_generate.proofs.Reading.{Ruled, is_feed, is_nul}
 
 module _ (P : List ℕ → Action → Type 0) where
   pick_success : P (codes "ok") actions.Ok → P (codes "done") actions.Done → P (codes "ignore") actions.Ignore → P (codes "reset") actions.Reset
-      → P (codes "1") (actions.Jump 1) → P (codes "2") (actions.Jump 2) → P (codes "3") (actions.Jump 3) → (n : ℕ) → P (picked success_words n) (action_picked success_actions n)
+      → P (codes "1") (actions.Jump 1) → P (codes "2") (actions.Jump 2) → P (codes "3") (actions.Jump 3) → (n : ℕ)
+          → P (picked success_words n) (action_picked success_actions n)
   pick_success ok done ignore reset one two three n = by (n % 8) (mod_below n 8 (omega arith))
     where
       by : (m : ℕ) → m < 8 → P (get_or success_words m []) (get_or success_actions m actions.Bad)
@@ -67,13 +69,19 @@ record Word (w : List ℕ) : Type 0 where
   pub no_feed : list_any is_feed w ≡ false
 
 success_word : (n : ℕ) → Word (picked success_words n)
-success_word n = pick_success (λ w x. Word w) (record { short = leb-true _ 8 refl; no_nul = refl; no_feed = refl }) (record { short = leb-true _ 8 refl; no_nul = refl; no_feed = refl }) (record { short = leb-true _ 8 refl; no_nul = refl; no_feed = refl }) (record { short = leb-true _ 8 refl; no_nul = refl; no_feed = refl }) (record { short = leb-true _ 8 refl; no_nul = refl; no_feed = refl }) (record { short = leb-true _ 8 refl; no_nul = refl; no_feed = refl }) (record { short = leb-true _ 8 refl; no_nul = refl; no_feed = refl }) n
+success_word n = pick_success (λ w x. Word w) (record { short = leb-true _ 8 refl; no_nul = refl; no_feed = refl })
+    (record { short = leb-true _ 8 refl; no_nul = refl; no_feed = refl }) (record { short = leb-true _ 8 refl; no_nul = refl; no_feed = refl })
+    (record { short = leb-true _ 8 refl; no_nul = refl; no_feed = refl }) (record { short = leb-true _ 8 refl; no_nul = refl; no_feed = refl })
+    (record { short = leb-true _ 8 refl; no_nul = refl; no_feed = refl }) (record { short = leb-true _ 8 refl; no_nul = refl; no_feed = refl }) n
 
 default_word : (n : ℕ) → Word (picked default_words n)
-default_word n = pick_default (λ w x. Word w) (record { short = leb-true _ 8 refl; no_nul = refl; no_feed = refl }) (record { short = leb-true _ 8 refl; no_nul = refl; no_feed = refl }) (record { short = leb-true _ 8 refl; no_nul = refl; no_feed = refl }) (record { short = leb-true _ 8 refl; no_nul = refl; no_feed = refl }) n
+default_word n = pick_default (λ w x. Word w) (record { short = leb-true _ 8 refl; no_nul = refl; no_feed = refl })
+    (record { short = leb-true _ 8 refl; no_nul = refl; no_feed = refl }) (record { short = leb-true _ 8 refl; no_nul = refl; no_feed = refl })
+    (record { short = leb-true _ 8 refl; no_nul = refl; no_feed = refl }) n
 
 answer_word : (n : ℕ) → Word (picked answer_words n)
-answer_word n = pick_answer Word (record { short = leb-true _ 8 refl; no_nul = refl; no_feed = refl }) (record { short = leb-true _ 8 refl; no_nul = refl; no_feed = refl }) (record { short = leb-true _ 8 refl; no_nul = refl; no_feed = refl }) n
+answer_word n = pick_answer Word (record { short = leb-true _ 8 refl; no_nul = refl; no_feed = refl })
+    (record { short = leb-true _ 8 refl; no_nul = refl; no_feed = refl }) (record { short = leb-true _ 8 refl; no_nul = refl; no_feed = refl }) n
 
 -- ---- a line up to its bracket's end, and from there on
 
@@ -112,34 +120,49 @@ record Head (s d : List ℕ) (x y : Action) : Type 0 where
 
 heads_ok : (m : ℕ) → Head (codes "ok") (picked default_words m) actions.Ok (action_picked default_actions m)
 unfolding entry_of entries_in entries_behind first_piece pieces_behind units_behind
-heads_ok m = pick_default (λ d y. Head (codes "ok") d actions.Ok y) (record { reads = λ more. refl; says = λ n a. refl }) (record { reads = λ more. refl; says = λ n a. refl }) (record { reads = λ more. refl; says = λ n a. refl }) (record { reads = λ more. refl; says = λ n a. refl }) m
+heads_ok m = pick_default (λ d y. Head (codes "ok") d actions.Ok y) (record { reads = λ more. refl; says = λ n a. refl })
+    (record { reads = λ more. refl; says = λ n a. refl }) (record { reads = λ more. refl; says = λ n a. refl })
+    (record { reads = λ more. refl; says = λ n a. refl }) m
 
 heads_done : (m : ℕ) → Head (codes "done") (picked default_words m) actions.Done (action_picked default_actions m)
 unfolding entry_of entries_in entries_behind first_piece pieces_behind units_behind
-heads_done m = pick_default (λ d y. Head (codes "done") d actions.Done y) (record { reads = λ more. refl; says = λ n a. refl }) (record { reads = λ more. refl; says = λ n a. refl }) (record { reads = λ more. refl; says = λ n a. refl }) (record { reads = λ more. refl; says = λ n a. refl }) m
+heads_done m = pick_default (λ d y. Head (codes "done") d actions.Done y) (record { reads = λ more. refl; says = λ n a. refl })
+    (record { reads = λ more. refl; says = λ n a. refl }) (record { reads = λ more. refl; says = λ n a. refl })
+    (record { reads = λ more. refl; says = λ n a. refl }) m
 
 heads_ignore : (m : ℕ) → Head (codes "ignore") (picked default_words m) actions.Ignore (action_picked default_actions m)
 unfolding entry_of entries_in entries_behind first_piece pieces_behind units_behind
-heads_ignore m = pick_default (λ d y. Head (codes "ignore") d actions.Ignore y) (record { reads = λ more. refl; says = λ n a. refl }) (record { reads = λ more. refl; says = λ n a. refl }) (record { reads = λ more. refl; says = λ n a. refl }) (record { reads = λ more. refl; says = λ n a. refl }) m
+heads_ignore m = pick_default (λ d y. Head (codes "ignore") d actions.Ignore y) (record { reads = λ more. refl; says = λ n a. refl })
+    (record { reads = λ more. refl; says = λ n a. refl }) (record { reads = λ more. refl; says = λ n a. refl })
+    (record { reads = λ more. refl; says = λ n a. refl }) m
 
 heads_reset : (m : ℕ) → Head (codes "reset") (picked default_words m) actions.Reset (action_picked default_actions m)
 unfolding entry_of entries_in entries_behind first_piece pieces_behind units_behind
-heads_reset m = pick_default (λ d y. Head (codes "reset") d actions.Reset y) (record { reads = λ more. refl; says = λ n a. refl }) (record { reads = λ more. refl; says = λ n a. refl }) (record { reads = λ more. refl; says = λ n a. refl }) (record { reads = λ more. refl; says = λ n a. refl }) m
+heads_reset m = pick_default (λ d y. Head (codes "reset") d actions.Reset y) (record { reads = λ more. refl; says = λ n a. refl })
+    (record { reads = λ more. refl; says = λ n a. refl }) (record { reads = λ more. refl; says = λ n a. refl })
+    (record { reads = λ more. refl; says = λ n a. refl }) m
 
 heads_1 : (m : ℕ) → Head (codes "1") (picked default_words m) (actions.Jump 1) (action_picked default_actions m)
 unfolding entry_of entries_in entries_behind first_piece pieces_behind units_behind
-heads_1 m = pick_default (λ d y. Head (codes "1") d (actions.Jump 1) y) (record { reads = λ more. refl; says = λ n a. refl }) (record { reads = λ more. refl; says = λ n a. refl }) (record { reads = λ more. refl; says = λ n a. refl }) (record { reads = λ more. refl; says = λ n a. refl }) m
+heads_1 m = pick_default (λ d y. Head (codes "1") d (actions.Jump 1) y) (record { reads = λ more. refl; says = λ n a. refl })
+    (record { reads = λ more. refl; says = λ n a. refl }) (record { reads = λ more. refl; says = λ n a. refl })
+    (record { reads = λ more. refl; says = λ n a. refl }) m
 
 heads_2 : (m : ℕ) → Head (codes "2") (picked default_words m) (actions.Jump 2) (action_picked default_actions m)
 unfolding entry_of entries_in entries_behind first_piece pieces_behind units_behind
-heads_2 m = pick_default (λ d y. Head (codes "2") d (actions.Jump 2) y) (record { reads = λ more. refl; says = λ n a. refl }) (record { reads = λ more. refl; says = λ n a. refl }) (record { reads = λ more. refl; says = λ n a. refl }) (record { reads = λ more. refl; says = λ n a. refl }) m
+heads_2 m = pick_default (λ d y. Head (codes "2") d (actions.Jump 2) y) (record { reads = λ more. refl; says = λ n a. refl })
+    (record { reads = λ more. refl; says = λ n a. refl }) (record { reads = λ more. refl; says = λ n a. refl })
+    (record { reads = λ more. refl; says = λ n a. refl }) m
 
 heads_3 : (m : ℕ) → Head (codes "3") (picked default_words m) (actions.Jump 3) (action_picked default_actions m)
 unfolding entry_of entries_in entries_behind first_piece pieces_behind units_behind
-heads_3 m = pick_default (λ d y. Head (codes "3") d (actions.Jump 3) y) (record { reads = λ more. refl; says = λ n a. refl }) (record { reads = λ more. refl; says = λ n a. refl }) (record { reads = λ more. refl; says = λ n a. refl }) (record { reads = λ more. refl; says = λ n a. refl }) m
+heads_3 m = pick_default (λ d y. Head (codes "3") d (actions.Jump 3) y) (record { reads = λ more. refl; says = λ n a. refl })
+    (record { reads = λ more. refl; says = λ n a. refl }) (record { reads = λ more. refl; says = λ n a. refl })
+    (record { reads = λ more. refl; says = λ n a. refl }) m
 
 head_at : (n m : ℕ) → Head (picked success_words n) (picked default_words m) (action_picked success_actions n) (action_picked default_actions m)
-head_at n m = pick_success (λ s x. Head s (picked default_words m) x (action_picked default_actions m)) (heads_ok m) (heads_done m) (heads_ignore m) (heads_reset m) (heads_1 m) (heads_2 m) (heads_3 m) n
+head_at n m = pick_success (λ s x. Head s (picked default_words m) x (action_picked default_actions m)) (heads_ok m) (heads_done m) (heads_ignore m)
+    (heads_reset m) (heads_1 m) (heads_2 m) (heads_3 m) n
 
 record Tail (a : List ℕ) : Type 0 where
   pub reads : (rest : List ℕ) → pieces_of (tail_text a ++ rest) ≡ tail a ++ newline ∷ pieces_of rest
@@ -190,15 +213,18 @@ module _ (s d a : List ℕ) (x y : Action) (of_s : Word s) (of_d : Word d) (of_a
       let none : Free is_nul (line_text s d a) =
       none_in is_nul (codes "auth [success=") _ (c (codes "auth [success=") refl) (none_in is_nul s _ (c s of_s.no_nul)
       (none_in is_nul (codes " new_authtok_reqd=ok default=") _ (c (codes " new_authtok_reqd=ok default=") refl) (none_in is_nul d _ (c d of_d.no_nul)
-      (none_in is_nul (codes "] pam_debug.so auth=") _ (c (codes "] pam_debug.so auth=") refl) (none_in is_nul a (codes "\n") (c a of_a.no_nul) (c (codes "\n") refl)))))) in
+      (none_in is_nul (codes "] pam_debug.so auth=") _ (c (codes "] pam_debug.so auth=") refl)
+          (none_in is_nul a (codes "\n") (c a of_a.no_nul) (c (codes "\n") refl)))))) in
       none.none
 
   inside_short : length (inside s d) ≤ 8 + (8 + (29 + 8))
-  inside_short = at_most (codes "success=") _ 8 _ (leb-true _ 8 refl) (at_most s _ 8 _ of_s.short (at_most (codes " new_authtok_reqd=ok default=") _ 29 8 (leb-true _ 29 refl) of_d.short))
+  inside_short = at_most (codes "success=") _ 8 _ (leb-true _ 8 refl) (at_most s _ 8 _ of_s.short
+      (at_most (codes " new_authtok_reqd=ok default=") _ 29 8 (leb-true _ 29 refl) of_d.short))
 
   short : length (spelling (head s d ++ tail a)) ≤ 128
   short = subst (λ (z : List ℕ). length z ≤ 128) (sym spelled) (
-      let l : length (codes "auth [" ++ ((inside s d ++ codes "]") ++ (codes " pam_debug.so auth=" ++ (a ++ [])))) ≤ 6 + (8 + (8 + (29 + 8)) + 1 + (19 + (8 + 0))) =
+      let l : length (codes "auth [" ++ ((inside s d ++ codes "]") ++ (codes " pam_debug.so auth=" ++ (a ++ [])))) ≤ 6
+              + (8 + (8 + (29 + 8)) + 1 + (19 + (8 + 0))) =
       at_most (codes "auth [") ((inside s d ++ codes "]") ++ (codes " pam_debug.so auth=" ++ (a ++ []))) 6 _ (leb-true _ 6 refl)
       (at_most (inside s d ++ codes "]") (codes " pam_debug.so auth=" ++ (a ++ [])) _ _ (at_most (inside s d) (codes "]") _ 1 inside_short (leb-true _ 1 refl))
       (at_most (codes " pam_debug.so auth=") (a ++ []) 19 _ (leb-true _ 19 refl) (at_most a [] 8 0 of_a.short (leb-true _ 0 refl)))) in
@@ -276,7 +302,8 @@ one_more [] b all mild = (mild, tt)
 one_more (c ∷ bs) b all mild = (all.0, one_more bs b all.1 mild)
 
 digits_mild : (k : ℕ) → k < 2 ^ 64 → AreMild (decimal k)
-digits_mild k l = decimal_by_steps (λ n ds. AreMild ds) (λ n small. (digit n small, tt)) (λ n ds big all. one_more ds (48 + n % 10) all (digit (n % 10) (mod_below n 10 (omega arith)))) k l
+digits_mild k l = decimal_by_steps (λ n ds. AreMild ds) (λ n small. (digit n small, tt))
+    (λ n ds big all. one_more ds (48 + n % 10) all (digit (n % 10) (mod_below n 10 (omega arith)))) k l
 
 runs : (ds rest : List ℕ) → AreMild ds → run_of (ds ++ 10 ∷ rest) ≡ ds
 runs [] rest all = refl
@@ -333,7 +360,8 @@ module _ (k : ℕ) (few : k < 1000) where
 
   spelled_short : length (spelling naming) ≤ 128
   spelled_short =
-      let l : length (codes "auth substack gen." ++ (ds ++ [])) ≤ 18 + (3 + 0) = at_most (codes "auth substack gen.") (ds ++ []) 18 _ (leb-true _ 18 refl) (at_most ds [] 3 0 at_most_three (leb-true _ 0 refl)) in
+      let l : length (codes "auth substack gen." ++ (ds ++ [])) ≤ 18 + (3 + 0) =
+              at_most (codes "auth substack gen.") (ds ++ []) 18 _ (leb-true _ 18 refl) (at_most ds [] 3 0 at_most_three (leb-true _ 0 refl)) in
       omega (arith, l)
 
   text_short : length (substack_line k) ≤ 128

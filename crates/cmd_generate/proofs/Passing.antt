@@ -1,6 +1,7 @@
 -- Parts of a load that meet no fault, if no call is set to fail: how many files they open and lines
 -- they make, at most.
-use Rattle.std.proofs.Common.{◌≡◌, ℕ, suc, ◌+◌, ◌-◌, ◌≤◌, Bool, true, false, cond, List, [], ◌∷◌, ◌++◌, map, Option, Some, None, Result, Ok, Err, nat_le, refl, sym, ap, ◌∙◌, subst, arith}
+use Rattle.std.proofs.Common.{◌≡◌, ℕ, suc, ◌+◌, ◌-◌, ◌≤◌, Bool, true, false, cond, List, [], ◌∷◌, ◌++◌, map, Option, Some, None, Result, Ok}
+use Rattle.std.proofs.Common.{Err, nat_le, refl, sym, ap, ◌∙◌, subst, arith}
 use Rattle.std.specs.Result.{is_ok}
 use Rattle.std.proofs.lemmas.Bool.{and_parts, le-ltb, lt-leb}
 use Rattle.pam_outside.specs.Counts.{fails_next}
@@ -35,7 +36,8 @@ module _ (texts : List ℕ → Option (List ℕ)) where
   unfolding look
   passes_none c opens lines = record { after = c; looks = refl; openings_are = omega arith; lines_are = omega arith }
 
-  by_first : (xs ys : List Item) (d : Counts) (r : Result Counts Stop) → ((c : Counts) → look texts [] c xs ≡ Ok d → look texts [] c (xs ++ ys) ≡ look texts [] d ys)
+  by_first : (xs ys : List Item) (d : Counts) (r : Result Counts Stop) →
+      ((c : Counts) → look texts [] c xs ≡ Ok d → look texts [] c (xs ++ ys) ≡ look texts [] d ys)
       → going_on r (λ c. look texts [] c xs) ≡ Ok d → going_on r (λ c. look texts [] c (xs ++ ys)) ≡ look texts [] d ys
   by_first xs ys d (Ok c) more e = more c e
   by_first xs ys d (Err s) more e = absurd cc
@@ -81,7 +83,8 @@ module _ (texts : List ℕ → Option (List ℕ)) where
       let read : Result Counts Stop = held_file (asked c) file opener (held texts file) in
       let fails : Result Counts Stop = stop (asked c) file.name 0 ReadFailed in
       let step : opened texts [] c file level opener ≡ Ok (asked c) =
-      ap (λ (b : Bool). cond b (refused_opening c file opener TooDeep) (cond (nat_le 256 c.openings) (refused_opening c file opener TooManyFiles) (cond (fails_next c.calls []) fails read))) (le-ltb 16 level low)
+      ap (λ (b : Bool). cond b (refused_opening c file opener TooDeep) (cond (nat_le 256 c.openings) (refused_opening c file opener TooManyFiles)
+          (cond (fails_next c.calls []) fails read))) (le-ltb 16 level low)
       ∙ ap (λ (b : Bool). cond b (refused_opening c file opener TooManyFiles) (cond (fails_next c.calls []) fails read)) room
       ∙ ap (λ (b : Bool). cond b fails read) (never c.calls) ∙ fine c in
       record { after = asked c; looks = by_one c (asked c) (opening file level opener) step; openings_are = omega arith; lines_are = omega arith }
@@ -98,7 +101,8 @@ module _ (texts : List ℕ → Option (List ℕ)) where
     passes_checked (r ∷ rules) fine =
         let parts = and_parts (is_ok (entry_of true r)) (all_fine true rules) fine in
         passes_then (checked (plain_file name) r ∷ []) (map (checked (plain_file name)) rules) 0 0 0 0
-        (λ c opens lines. record { after = c; looks = by_one c c (checked (plain_file name) r) (fine_rule c r.line (entry_of true r) parts.0); openings_are = omega arith; lines_are = omega arith })
+        (λ c opens lines. record { after = c; looks = by_one c c (checked (plain_file name) r) (fine_rule c r.line (entry_of true r) parts.0);
+            openings_are = omega arith; lines_are = omega arith })
         (passes_checked rules parts.1)
 
     own : (rules : List RawRule) → own_rules None rules ≡ rules
@@ -122,7 +126,8 @@ module _ (texts : List ℕ → Option (List ℕ)) where
           ∙ ap (λ (b : Bool). map (checked (plain_file name)) h.rules ++ cond b (items_of deeper type name (entries_of true h.rules)) []) h.fine
           ∙ ap (λ (es : List ConfigEntry). map (checked (plain_file name)) h.rules ++ items_of deeper type name es) h.entries in
           let all : Passes (opening (plain_file name) (16 - level) opener ∷ (map (checked (plain_file name)) h.rules ++ brought)) (1 + opens) lines =
-          passes_within (opening (plain_file name) (16 - level) opener ∷ (map (checked (plain_file name)) h.rules ++ brought)) (1 + (0 + opens)) (1 + opens) (0 + (0 + lines)) lines
+          passes_within (opening (plain_file name) (16 - level) opener ∷ (map (checked (plain_file name)) h.rules ++ brought)) (1 + (0 + opens)) (1 + opens)
+              (0 + (0 + lines)) lines
           (passes_then (opening (plain_file name) (16 - level) opener ∷ []) (map (checked (plain_file name)) h.rules ++ brought) 1 (0 + opens) 0 (0 + lines)
           (passes_opening (plain_file name) (16 - level) opener (omega arith) (λ c. ap (held_file (asked c) (plain_file name) opener) held_is))
           (passes_then (map (checked (plain_file name)) h.rules) brought 0 opens 0 lines (passes_checked h.rules h.fine) inner)) (omega arith) (omega arith) in
@@ -140,4 +145,5 @@ module _ (texts : List ℕ → Option (List ℕ)) where
       pub brings_more : (content : RuleContent) (contents : List RuleContent) (a b m n : ℕ) → ((line : ℕ) → Passes (content_items deeper name line content) a m)
           → Brings contents b n → Brings (content ∷ contents) (a + b) (m + n)
       brings_more content contents a b m n one more line =
-          passes_then (content_items deeper name line content) (items_of deeper Auth name (entries_from (line + 1) contents)) a b m n (one line) (more (line + 1))
+          passes_then (content_items deeper name line content) (items_of deeper Auth name (entries_from (line + 1) contents)) a b m n (one line)
+              (more (line + 1))

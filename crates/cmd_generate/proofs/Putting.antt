@@ -1,5 +1,6 @@
 -- Files that are stored, one after another.
-use Rattle.std.proofs.Common.{◌≡◌, ℕ, suc, ◌+◌, ◌<◌, Bool, true, false, cond, length, drop, get_or, Err, add-one, Some, None, List, [], ◌∷◌, inl, inr, refl, sym, ap, subst, ◌∙◌}
+use Rattle.std.proofs.Common.{◌≡◌, ℕ, suc, ◌+◌, ◌<◌, Bool, true, false, cond, length, drop, get_or, Err, add-one, Some, None, List, [], ◌∷◌}
+use Rattle.std.proofs.Common.{inl, inr, refl, sym, ap, subst, ◌∙◌}
 use Rattle.std.proofs.Math.Seq.{drop-cons}
 use Rattle.pam_base.specs.declared.fault.Refuse.{Refuse}
 use Rattle.pam_base.specs.declared.fault.Refuse.TheVariants.{NoMemory, Named}
@@ -30,13 +31,15 @@ module _ (file : RandomFile) (files : List RandomFile) (v t : VaultState) where
   pub stops : (fault : LoadFault) → (placed (file ∷ []) v).fault ≡ Some fault → placed (file ∷ files) v ≡ placed (file ∷ []) v
   stops fault is = stop_by fault (refuses file.text v) is
 
-  some_by : (b : Bool) → refuses file.text v ≡ b → (cond b stopped (placed [] (with_file file v))).fault ≡ None → t ≡ (cond b stopped (placed [] (with_file file v))).vault
+  some_by : (b : Bool) → refuses file.text v ≡ b → (cond b stopped (placed [] (with_file file v))).fault ≡ None
+      → t ≡ (cond b stopped (placed [] (with_file file v))).vault
       → (u : VaultState) → PlacesSome files t u → PlacesSome (file ∷ files) v u
   some_by true e none is u some = absurd cc
   some_by false e none is u some = inr (e, inr (subst (λ (x : VaultState). PlacesSome files x u) is some))
 
   -- an allocation fails after a file was stored
-  pub some_behind : (placed (file ∷ []) v).fault ≡ None → t ≡ (placed (file ∷ []) v).vault → (u : VaultState) → PlacesSome files t u → PlacesSome (file ∷ files) v u
+  pub some_behind : (placed (file ∷ []) v).fault ≡ None → t ≡ (placed (file ∷ []) v).vault → (u : VaultState) → PlacesSome files t u
+      → PlacesSome (file ∷ files) v u
   some_behind none is = some_by (refuses file.text v) refl none is
 
   some_first : PlacesSome (file ∷ []) v t → PlacesSome (file ∷ files) v t
@@ -45,7 +48,8 @@ module _ (file : RandomFile) (files : List RandomFile) (v t : VaultState) where
   some_first (inr (runs, inr none)) = absurd none
 
   -- the files before this one are stored, and storing this one failed
-  pub stops_at : (all : List RandomFile) (w : VaultState) → placed all w ≡ placed (file ∷ files) v → ((u : VaultState) → PlacesSome (file ∷ files) v u → PlacesSome all w u)
+  pub stops_at : (all : List RandomFile) (w : VaultState) → placed all w ≡ placed (file ∷ files) v
+      → ((u : VaultState) → PlacesSome (file ∷ files) v u → PlacesSome all w u)
       → (refuse : Refuse LoadFault) → Places {T = Unit {0}} (Err refuse) (file ∷ []) v t → Places {T = Unit {0}} (Err refuse) all w t
   stops_at all w same some (Named fault) is = subst (λ (p : Placed). (p.fault ≡ Some fault) × (t ≡ p.vault)) (sym (same ∙ stops fault is.0)) is
   stops_at all w same some NoMemory is = some t (some_first is)

@@ -1,5 +1,6 @@
 -- A text in which each line is one rule is read line by line.
-use Rattle.std.proofs.Common.{◌≡◌, ℕ, ◌+◌, ◌*◌, ◌≤◌, Bool, true, false, ◌==◌, ◌||◌, cond, List, [], ◌∷◌, ◌++◌, length, map, Option, Some, None, Result, Ok, Err, nat_lt, refl, ap, ◌∙◌, arith, length-append}
+use Rattle.std.proofs.Common.{◌≡◌, ℕ, ◌+◌, ◌*◌, ◌≤◌, Bool, true, false, ◌==◌, ◌||◌, cond, List, [], ◌∷◌, ◌++◌, length, map, Option, Some}
+use Rattle.std.proofs.Common.{None, Result, Ok, Err, nat_lt, refl, ap, ◌∙◌, arith, length-append}
 use Rattle.std.specs.List.{flat_map, filter_map, list_all, list_any}
 use Rattle.std.specs.Result.{is_ok, result_ok}
 use Rattle.std.proofs.lemmas.Bool.{le-ltb, true≢false}
@@ -136,7 +137,8 @@ all_small (l ∷ ls) = omega (arith, length-append l.text (text_in ls), l.small,
 
 -- ---- the whole
 
-pub reads_as : (text : List ℕ) (contents : List RuleContent) (ls : List Ruled) → text ≡ text_in ls → contents ≡ contents_in ls → length ls ≤ 512 → HoldsRules text contents
+pub reads_as : (text : List ℕ) (contents : List RuleContent) (ls : List Ruled) → text ≡ text_in ls → contents ≡ contents_in ls → length ls ≤ 512
+    → HoldsRules text contents
 unfolding answer_to answer_at
 reads_as text contents ls is are few =
     let r = lines_given 1 ls in

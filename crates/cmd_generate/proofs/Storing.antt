@@ -1,5 +1,6 @@
 -- Generated files that are stored when there is no file yet: the name under which each is found.
-use Rattle.std.proofs.Common.{◌≡◌, ℕ, suc, zero, ◌+◌, ◌-◌, ◌<◌, ◌≤◌, ◌^◌, ◌⊎◌, inl, inr, Bool, true, false, ◌||◌, cond, List, [], ◌∷◌, ◌++◌, codes, length, drop, get_or, map, Some, None, nat_lt, refl, sym, ap, ◌∙◌, subst, arith}
+use Rattle.std.proofs.Common.{◌≡◌, ℕ, suc, zero, ◌+◌, ◌-◌, ◌<◌, ◌≤◌, ◌^◌, ◌⊎◌, inl, inr, Bool, true, false, ◌||◌, cond, List, [], ◌∷◌, ◌++◌}
+use Rattle.std.proofs.Common.{codes, length, drop, get_or, map, Some, None, nat_lt, refl, sym, ap, ◌∙◌, subst, arith}
 use Rattle.std.specs.List.{AllByRecursion, range_with_len}
 use Rattle.std.specs.Str.{bytes_eq}
 use Rattle.std.proofs.lemmas.Bool.{and_right, cases_eq, le-ltb}
@@ -35,7 +36,8 @@ pub record Stored (files : List File) (locks : Locks) (p : Placed) : Type 0 wher
 takes : (f : RandomFile) (calls : ℕ) → IsShort f → (fails_next calls [] || nat_lt MAX_FILE (length f.text)) ≡ false
 takes f calls short = ap (λ (b : Bool). b || nat_lt MAX_FILE (length f.text)) (never calls) ∙ le-ltb MAX_FILE (length f.text) short
 
-pub stored : (fs : List RandomFile) → AllByRecursion IsShort fs → (files : List File) (locks : Locks) (calls : ℕ) → Stored (puts fs files) locks (placed fs (vault_with files locks calls))
+pub stored : (fs : List RandomFile) → AllByRecursion IsShort fs → (files : List File) (locks : Locks) (calls : ℕ)
+    → Stored (puts fs files) locks (placed fs (vault_with files locks calls))
 stored [] short files locks calls = record { none = refl; files_are = refl; locks_are = refl; fails_are = refl }
 stored (f ∷ fs) short files locks calls =
     let next = vault_with (file_put (path_of_service f.name) f.text files) locks (next_count calls) in
@@ -52,7 +54,8 @@ module _ (path bytes : List ℕ) where
   abbrev it : File
   it = record { path = path; bytes = bytes }
 
-  put_by : (f : File) (fs : List File) (b : Bool) → bytes_eq f.path path ≡ b → file_at path (file_put path bytes fs) ≡ Some bytes → file_at path (cond b (it ∷ fs) (f ∷ file_put path bytes fs)) ≡ Some bytes
+  put_by : (f : File) (fs : List File) (b : Bool) → bytes_eq f.path path ≡ b → file_at path (file_put path bytes fs) ≡ Some bytes
+      → file_at path (cond b (it ∷ fs) (f ∷ file_put path bytes fs)) ≡ Some bytes
   put_by f fs true e below = rw (same path) refl
   put_by f fs false e below = rw e below
 
@@ -66,7 +69,8 @@ module _ (path bytes : List ℕ) where
   or_true false = refl
 
   module _ (folder : List ℕ) (below : is_below folder path ≡ true) where
-    in_by : (f : File) (fs : List File) (b : Bool) → is_folder folder (file_put path bytes fs) ≡ true → is_folder folder (cond b (it ∷ fs) (f ∷ file_put path bytes fs)) ≡ true
+    in_by : (f : File) (fs : List File) (b : Bool) → is_folder folder (file_put path bytes fs) ≡ true
+        → is_folder folder (cond b (it ∷ fs) (f ∷ file_put path bytes fs)) ≡ true
     in_by f fs true more = rw below refl
     in_by f fs false more = rw more (or_true (is_below folder f.path))
 
@@ -82,7 +86,8 @@ module _ (path bytes : List ℕ) where
         by true e = absurd (differs ((bytes_eq-Decides path other).0 e))
         by false e = e
 
-    past_by : (f : File) (fs : List File) (b : Bool) → bytes_eq f.path path ≡ b → file_at other (file_put path bytes fs) ≡ file_at other fs → file_at other (cond b (it ∷ fs) (f ∷ file_put path bytes fs)) ≡ file_at other (f ∷ fs)
+    past_by : (f : File) (fs : List File) (b : Bool) → bytes_eq f.path path ≡ b → file_at other (file_put path bytes fs) ≡ file_at other fs
+        → file_at other (cond b (it ∷ fs) (f ∷ file_put path bytes fs)) ≡ file_at other (f ∷ fs)
     past_by f fs true e below =
         let passed : bytes_eq f.path other ≡ false = ap (λ (p : List ℕ). bytes_eq p other) ((bytes_eq-Decides f.path path).0 e) ∙ is_other in
         rw (is_other, passed) refl
@@ -130,17 +135,22 @@ module _ (seed lines : ℕ) where
   later_differ : (a n k : ℕ) → k < a → a + n ≤ 1000 → Differs (path_at k) (files_from a n)
   later_differ a zero k less few = (not_service k, tt)
   later_differ a (suc n) k less few =
-      (apart a k (omega (arith, few)) (omega (arith, less, few)) (λ e. omega (arith, e, less)), later_differ (a + 1) n k (omega (arith, less)) (omega (arith, few)))
+      (apart a k (omega (arith, few)) (omega (arith, less, few)) (λ e. omega (arith, e, less)),
+          later_differ (a + 1) n k (omega (arith, less)) (omega (arith, few)))
 
   found : (a n k : ℕ) → a ≤ k → k < a + n → a + n ≤ 1000 → (files : List File) → file_at (path_at k) (puts (files_from a n) files) ≡ Some (text_of seed lines k)
   found a zero k from to few files = absurd (omega (arith, from, to))
-  found a (suc n) k from to few files = by (cases_eq a k) (λ from. found (a + 1) n k from (omega (arith, to)) (omega (arith, few)) (file_put (path_at a) (text_of seed lines a) files))
+  found a (suc n) k from to few files = by (cases_eq a k) (λ from. found (a + 1) n k from (omega (arith, to)) (omega (arith, few))
+      (file_put (path_at a) (text_of seed lines a) files))
     where
-      by : (a ≡ k) ⊎ (a ≡ k → ⊥) → (a + 1 ≤ k → file_at (path_at k) (puts (files_from (a + 1) n) (file_put (path_at a) (text_of seed lines a) files)) ≡ Some (text_of seed lines k))
+      by : (a ≡ k) ⊎ (a ≡ k → ⊥) → (a + 1 ≤ k → file_at (path_at k) (puts (files_from (a + 1) n) (file_put (path_at a) (text_of seed lines a) files))
+          ≡ Some (text_of seed lines k))
           → file_at (path_at k) (puts (files_from a (suc n)) files) ≡ Some (text_of seed lines k)
       by (inl e) more =
-          untouched (files_from (a + 1) n) (path_at k) (later_differ (a + 1) n k (omega (arith, e)) (omega (arith, few))) (file_put (path_at a) (text_of seed lines a) files)
-          ∙ subst (λ (j : ℕ). file_at (path_at j) (file_put (path_at a) (text_of seed lines a) files) ≡ Some (text_of seed lines j)) e (put_there (path_at a) (text_of seed lines a) files)
+          untouched (files_from (a + 1) n) (path_at k) (later_differ (a + 1) n k (omega (arith, e)) (omega (arith, few)))
+              (file_put (path_at a) (text_of seed lines a) files)
+          ∙ subst (λ (j : ℕ). file_at (path_at j) (file_put (path_at a) (text_of seed lines a) files) ≡ Some (text_of seed lines j)) e
+              (put_there (path_at a) (text_of seed lines a) files)
       by (inr other) more = more (omega (arith, from, other))
 
   none_is_other : (a n : ℕ) → Differs (codes "/etc/pam.d/other") (files_from a n)
@@ -165,4 +175,5 @@ module _ (seed lines : ℕ) where
     pub has_directory : is_folder (codes "/etc/pam.d") all ≡ true
     has_directory =
         ap (is_folder (codes "/etc/pam.d")) (puts_last (map (random_file seed lines) (range_with_len 1 (count_of lines))) (service (count_of lines)) [])
-        ∙ put_below service_path (service (count_of lines)).text (codes "/etc/pam.d") refl (puts (map (random_file seed lines) (range_with_len 1 (count_of lines))) [])
+        ∙ put_below service_path (service (count_of lines)).text (codes "/etc/pam.d") refl
+            (puts (map (random_file seed lines) (range_with_len 1 (count_of lines))) [])

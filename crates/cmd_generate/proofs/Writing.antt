@@ -12,7 +12,8 @@ use Rattle.cmd_run.specs.Reading.{WritesScript}
 use Rattle.cmd_run.specs.State.{RunState, Setting}
 use Rattle.cmd_generate.specs.declared.generating.Finding.{Finding}
 use Rattle.cmd_generate.specs.declared.login.Login.{Login}
-use Rattle.cmd_generate.specs.Generated.{AttemptStops, Finds, FindsOrStops, Generates, Generation, IsEndOfFinding, IsFound, attempted, found_by, generation, text_of}
+use Rattle.cmd_generate.specs.Generated.{AttemptStops, Finds, FindsOrStops, Generates, Generation, IsEndOfFinding, IsFound, attempted}
+use Rattle.cmd_generate.specs.Generated.{found_by, generation, text_of}
 use Rattle.cmd_generate.specs.Login.{ComesTo, IsEndWith, end_status}
 
 -- ---- what is written
@@ -31,7 +32,8 @@ generates_none g state p stops = record {
   writes = omega arith;
 }
 
-pub generates_all : (finding : Finding) (g : Generation) (state : RunState) (text : List ℕ) (done : Unit {0}) (p q : SinkState) → Finds finding g state → text ≡ finding.text
+pub generates_all : (finding : Finding) (g : Generation) (state : RunState) (text : List ℕ) (done : Unit {0}) (p q : SinkState) → Finds finding g state
+    → text ≡ finding.text
     → WritesWhole {T = Unit {0}} (Ok done) text p q → Generates (Ok finding.generated) g state p q
 generates_all finding g state text done p q f is w = record {
   front = w.front;
@@ -46,7 +48,8 @@ generates_all finding g state text done p q f is w = record {
   writes = w.calls;
 }
 
-pub generates_cut : (finding : Finding) (g : Generation) (state : RunState) (text : List ℕ) (failed : Failed) (p q : SinkState) → Finds finding g state → text ≡ finding.text
+pub generates_cut : (finding : Finding) (g : Generation) (state : RunState) (text : List ℕ) (failed : Failed) (p q : SinkState) → Finds finding g state
+    → text ≡ finding.text
     → WritesWhole {T = Unit {0}} (Err failed) text p q → Generates (Err WriteFault) g state p q
 generates_cut finding g state text failed p q f is w = record {
   front = w.front;
@@ -90,7 +93,8 @@ finds setting seed lines s state (Err (refusals.Named fault)) (Err none) is come
 finds setting seed lines s state (Err refusals.NoMemory) (Err none) is comes = inl comes
 
 -- the ends, depending on what is found
-pub ends_by : (lines : ℕ) (login : Result Login (Refuse LoadFault)) (result : Result Finding faults.NoMemory) → IfOk result (λ (f : Finding). IsFound f lines login)
+pub ends_by : (lines : ℕ) (login : Result Login (Refuse LoadFault)) (result : Result Finding faults.NoMemory)
+    → IfOk result (λ (f : Finding). IsFound f lines login)
     → (number status : ℕ) → IsEndWith (number_of (end_status login)) number status → IsEndOfFinding result number status
 ends_by lines (Ok login) (Ok f) is number status e = e
 ends_by lines (Err (refusals.Named fault)) (Ok f) is number status e = e

@@ -38,7 +38,8 @@ none_open [] each = tt
 none_open (slot ∷ slots) each = (each 1, none_open slots (shifted slot slots each))
 
 -- if none was open and no other one has changed, none is open once the first is closed
-module _ (slots next : List PlainSlot) (none : NoneIsOpen slots) (others : (number : ℕ) → (number ≡ 1 → ⊥) → slot_at next number ≡ slot_at slots number) (first : is_open_at (slot_at next 1) ≡ false) where
+module _ (slots next : List PlainSlot) (none : NoneIsOpen slots) (others : (number : ℕ) → (number ≡ 1 → ⊥) → slot_at next number ≡ slot_at slots number)
+    (first : is_open_at (slot_at next 1) ≡ false) where
   none_still : (number : ℕ) → is_open_at (slot_at next number) ≡ false
   none_still zero = refl
   none_still (suc zero) = first
@@ -58,14 +59,16 @@ module _ (players : List Player) (number : Code → ℕ → ℕ) (status : ℕ) 
   closed_by_end (opened h ∷ slots) w = refl
 
   pub end_of_closed : (slots : List PlainSlot) (w : PlainWorld) → is_open_at (slot_at slots 1) ≡ false
-      → state_of (stepped players number slots w (record { number = 1; call = calls.End status })).slots (stepped players number slots w (record { number = 1; call = calls.End status })).world ≡ state_of slots w
+      → state_of (stepped players number slots w (record { number = 1; call = calls.End status })).slots
+          (stepped players number slots w (record { number = 1; call = calls.End status })).world ≡ state_of slots w
   unfolding stepped
   end_of_closed [] w none = refl
   end_of_closed (closed conv ∷ slots) w none = refl
   end_of_closed (opened h ∷ slots) w none = absurd cc
 
 pub closed_if_ended : (setting : Setting) (code : Code) (s t : RunState) → t ≡ (make setting (end_call code) s).state → is_open_at (slot_at t.slots 1) ≡ false
-closed_if_ended setting code s t e = ap (λ (x : RunState). is_open_at (slot_at x.slots 1)) e ∙ closed_by_end setting.players setting.delay (number_of code) s.slots s.world
+closed_if_ended setting code s t e = ap (λ (x : RunState). is_open_at (slot_at x.slots 1)) e
+    ∙ closed_by_end setting.players setting.delay (number_of code) s.slots s.world
 
 pub end_is_free : (slot : Option PlainSlot) (status : ℕ) → takes_no_memory slot (calls.End status) ≡ true
 end_is_free None status = refl
@@ -96,12 +99,15 @@ module _ (setting : Setting) (service : List ℕ) (user : Option (List ℕ)) whe
 
   login_closed : (s : RunState) (xs : List Made) (code : Code) (t : RunState)
       → is_open_at (slot_at (state_behind s (xs ++ make setting (end_call code) t ∷ [])).slots 1) ≡ false
-  login_closed s xs code t = rw (last_is_end s xs (make setting (end_call code) t)) (closed_by_end setting.players setting.delay (number_of code) t.slots t.world)
+  login_closed s xs code t = rw (last_is_end s xs (make setting (end_call code) t))
+      (closed_by_end setting.players setting.delay (number_of code) t.slots t.world)
 
   by_refusal : (s : RunState) (start : Made) (b : Bool) → (b ≡ true → is_open_at (slot_at start.state.slots 1) ≡ false)
       → is_open_at (slot_at (state_behind s (login_behind setting start b).made).slots 1) ≡ false
   by_refusal s start true shut = shut refl
-  by_refusal s start false shut = let c = course setting login_calls Success start.state in login_closed start.state c.made (end_code c.denied) (state_behind start.state c.made)
+  by_refusal s start false shut = let c = course setting login_calls Success start.state in
+      login_closed start.state c.made (end_code c.denied) (state_behind start.state c.made)
 
   pub login_closes : (s : RunState) → NoneIsOpen s.slots → is_open_at (slot_at (state_behind s (login_of setting service user s).made).slots 1) ≡ false
-  login_closes s none = by_refusal s (make setting (calls.Start service user) s) (is_refused (make setting (calls.Start service user) s).answer) (refused_start s.slots s.world none)
+  login_closes s none = by_refusal s (make setting (calls.Start service user) s) (is_refused (make setting (calls.Start service user) s).answer)
+      (refused_start s.slots s.world none)

@@ -1,5 +1,6 @@
 -- A whole login, by its parts.
-use Rattle.std.proofs.Common.{◌≡◌, ℕ, Bool, true, false, List, [], ◌∷◌, ◌++◌, Option, Some, None, Result, Ok, Err, IfOk, inl, inr, refl, sym, ap, subst, ◌∙◌, append_assoc, append-nil}
+use Rattle.std.proofs.Common.{◌≡◌, ℕ, Bool, true, false, List, [], ◌∷◌, ◌++◌, Option, Some, None, Result, Ok, Err, IfOk, inl, inr, refl}
+use Rattle.std.proofs.Common.{sym, ap, subst, ◌∙◌, append_assoc, append-nil}
 use Rattle.pam_base.specs.declared.code.Code.{Code}
 use Rattle.pam_base.specs.Code.{number_of}
 use Rattle.pam_base.specs.declared.fault.Failed.{Failed}
@@ -15,7 +16,8 @@ use Rattle.cmd_run.specs.State.{Setting, RunState}
 use Rattle.cmd_login.specs.declared.attempt.Verdict.{Verdict}
 use Rattle.cmd_login.specs.declared.attempt.Verdict.TheVariants.{Passed, Denied, Refused}
 use Rattle.cmd_login.specs.Ends.{closing_code}
-use Rattle.cmd_login.specs.Login.{Course, Login, Made, behind_calls, denied_line, end_call, last_line, lines_of_calls, logging_in, login_behind, login_by_course, login_end, login_of, make, state_behind, verdict_by}
+use Rattle.cmd_login.specs.Login.{Course, Login, Made, behind_calls, denied_line, end_call, last_line, lines_of_calls, logging_in}
+use Rattle.cmd_login.specs.Login.{login_behind, login_by_course, login_end, login_of, make, state_behind, verdict_by}
 use Rattle.cmd_login.specs.Told.{LogsInThen, LoginLeads, MakesCalls, MakesCourse, CallsLead, LogsIn, Makes, WritesDenial, as_it_is, ended_for}
 use Rattle.cmd_login.proofs.Closing.{end_of_closed, login_closes}
 use Rattle.cmd_login.proofs.Following.{Went, all_went, behind-append, goes_stopped, written_behind}
@@ -44,7 +46,8 @@ module _ (setting : Setting) where
 
   pub comes_stopped : (T : Type 0) (l : Login) (stop : Stop) (s t : RunState) (p q : SinkState) → MakesCalls {T = T} setting l.made (Err stop) s t p q
       → LogsInThen setting as_it_is l (Err stop) s t p q
-  comes_stopped T l stop s t p q g = record { whole = g.whole; others = g.others; among = g.among; part = g.part; written = g.written; to = stops_so T l stop s t g.whole g.others g.part g.to }
+  comes_stopped T l stop s t p q g = record { whole = g.whole; others = g.others; among = g.among; part = g.part; written = g.written;
+      to = stops_so T l stop s t g.whole g.others g.part g.to }
 
   -- ---- some calls, and then the rest
 
@@ -71,13 +74,15 @@ module _ (setting : Setting) where
 
   -- ---- a call that is made or not
 
-  pub made_as : (call other : AppCall) → call ≡ other → (result : Result Answer Stop) (s t : RunState) (p q : SinkState) → Makes setting (make setting call s) result s t p q
+  pub made_as : (call other : AppCall) → call ≡ other → (result : Result Answer Stop) (s t : RunState) (p q : SinkState)
+      → Makes setting (make setting call s) result s t p q
       → Makes setting (make setting other s) result s t p q
   made_as call other is result s t p q m = subst (λ (x : AppCall). Makes setting (make setting x s) result s t p q) is m
 
   -- ---- the end
 
-  module _ (denied : Option Code) (answer : Answer) (s t : RunState) (p q : SinkState) (g : MakesCalls {T = Answer} setting ((login_end setting denied s).made) (Ok answer) s t p q) where
+  module _ (denied : Option Code) (answer : Answer) (s t : RunState) (p q : SinkState)
+      (g : MakesCalls {T = Answer} setting ((login_end setting denied s).made) (Ok answer) s t p q) where
     end_made : Went setting ((login_end setting denied s).made) s t p q
     end_made = all_went setting ((login_end setting denied s).made) answer s t p q g
 
@@ -106,7 +111,8 @@ module _ (setting : Setting) where
         others = [];
         among = sym (append-nil ((login_end setting denied s).made));
         part = d.part;
-        written = d.written ∙ ap (λ (x : List ℕ). x ++ d.part) end_made.written ∙ append_assoc p.written (lines_of_calls ((login_end setting denied s).made)) d.part;
+        written = d.written ∙ ap (λ (x : List ℕ). x ++ d.part) end_made.written
+            ∙ append_assoc p.written (lines_of_calls ((login_end setting denied s).made)) d.part;
         to = denied_to result is d;
       }
 
@@ -114,7 +120,8 @@ module _ (setting : Setting) where
 
   pub logs_stopped : (s t : RunState) (c : Course) (stop : Stop) (p q : SinkState) → MakesCourse setting c (Err stop) s t p q
       → LogsInThen setting as_it_is (login_by_course setting s c) (Err stop) s t p q
-  logs_stopped s t c stop p q r = comes_stopped (Option Code) (login_by_course setting s c) stop s t p q (goes_stopped setting (Option Code) (Option Code) stop c.made (login_end setting c.denied (state_behind s c.made)).made s t p q r.goes)
+  logs_stopped s t c stop p q r = comes_stopped (Option Code) (login_by_course setting s c) stop s t p q
+      (goes_stopped setting (Option Code) (Option Code) stop c.made (login_end setting c.denied (state_behind s c.made)).made s t p q r.goes)
 
   pub logs_on : (s m t : RunState) (c : Course) (denied : Option Code) (result : Result Verdict Stop) (p q r : SinkState)
       → MakesCourse setting c (Ok denied) s m p q
@@ -145,7 +152,8 @@ module _ (setting : Setting) where
         let f = first (is_refused start.answer) in
         comes_stopped Answer (login_of setting service user s) stop s t p q (rw f.1 (goes_stopped setting Answer Answer stop (start ∷ []) f.0 s t p q g))
 
-    module _ (answer : Answer) (t : RunState) (p q : SinkState) (is : answer ≡ start.answer) (g : MakesCalls {T = Answer} setting (start ∷ []) (Ok answer) s t p q) where
+    module _ (answer : Answer) (t : RunState) (p q : SinkState) (is : answer ≡ start.answer)
+        (g : MakesCalls {T = Answer} setting (start ∷ []) (Ok answer) s t p q) where
       pub comes_refused : is_refused answer ≡ true → LogsInThen setting as_it_is (login_of setting service user s) (Ok Refused) s t p q
       comes_refused e =
           let b : is_refused start.answer ≡ true = ap is_refused (sym is) ∙ e in
@@ -173,7 +181,8 @@ module _ (setting : Setting) where
         → (c : LogsInThen setting as_it_is (login_of setting service user s) result s t p q) → NoneIsOpen s.slots
         → u ≡ (make setting (end_call (closing_code result)) t).state → (whole others : List Made) (part : List ℕ)
         → (login_of setting service user s).made ≡ whole ++ others
-        → LoginLeads setting as_it_is (login_of setting service user s) result s t whole others part → LoginLeads setting (ended_for setting) (login_of setting service user s) result s u whole others part
+        → LoginLeads setting as_it_is (login_of setting service user s) result s t whole others part
+            → LoginLeads setting (ended_for setting) (login_of setting service user s) result s u whole others part
     ended_to (Ok verdict) t u p q c none e whole others part among h =
         let all : whole ≡ (login_of setting service user s).made = sym (append-nil whole) ∙ ap (λ (x : List Made). whole ++ x) (sym h.0) ∙ sym among in
         let at : t ≡ state_behind s (login_of setting service user s).made = h.3 ∙ ap (state_behind s) all in

@@ -46,11 +46,13 @@ module _ (setting : Setting) where
     runs_stopped e stop t p q g =
         rw (due e)
         (elim (accepts c.accepted (code_in m.answer)) as (λ (b : Bool). MakesCourse setting (judged b m (course setting calls)) (Err stop) s t p q) [
-          | true ↦ record { denies = tt; goes = goes_stopped setting Answer (Option Code) stop (m ∷ []) (course setting calls (code_in m.answer) m.state).made s t p q g }
+          | true ↦ record { denies = tt; goes = goes_stopped setting Answer (Option Code) stop (m ∷ [])
+              (course setting calls (code_in m.answer) m.state).made s t p q g }
           | false ↦ record { denies = tt; goes = goes_stopped setting Answer (Option Code) stop (m ∷ []) [] s t p q g }
         ])
 
-    module _ (answer : Answer) (t : RunState) (p q : SinkState) (is_made : is_due c.when last ≡ true) (is : answer ≡ m.answer) (g : MakesCalls {T = Answer} setting (m ∷ []) (Ok answer) s t p q) where
+    module _ (answer : Answer) (t : RunState) (p q : SinkState) (is_made : is_due c.when last ≡ true) (is : answer ≡ m.answer)
+        (g : MakesCalls {T = Answer} setting (m ∷ []) (Ok answer) s t p q) where
       code_is : code_in m.answer ≡ code_in answer
       code_is = ap code_in (sym is)
 
@@ -67,7 +69,8 @@ module _ (setting : Setting) where
 
       -- it goes on after the first call
       pub runs_on : accepts c.accepted (code_in answer) ≡ true → (result : Result (Option Code) Stop) (u : RunState) (r : SinkState)
-          → MakesCourse setting (course setting calls (code_in answer) t) result t u q r → MakesCourse setting (course setting (c ∷ calls) last s) result s u p r
+          → MakesCourse setting (course setting calls (code_in answer) t) result t u q r
+              → MakesCourse setting (course setting (c ∷ calls) last s) result s u p r
       runs_on ok result u r more =
           let w = all_went setting (m ∷ []) answer s t p q g in
           let there : course setting calls (code_in answer) t ≡ course setting calls (code_in m.answer) m.state =
@@ -85,14 +88,16 @@ module _ (setting : Setting) (all : List LoginCall) (c : LoginCall) (calls : Lis
   told_not_due later result t p q g = rw (e, runs_not_due setting c calls last s later) g
 
   module _ (call : AppCall) (is : call ≡ call_of c) (is_made : is_due c.when last ≡ true) where
-    made : (result : Result Answer Stop) (t : RunState) (p q : SinkState) → Makes setting (make setting call s) result s t p q → Makes setting (make setting (call_of c) s) result s t p q
+    made : (result : Result Answer Stop) (t : RunState) (p q : SinkState) → Makes setting (make setting call s) result s t p q
+        → Makes setting (make setting (call_of c) s) result s t p q
     made result t p q m = subst (λ (x : AppCall). Makes setting (make setting x s) result s t p q) is m
 
     pub told_stopped : (stop : Stop) (t : RunState) (p q : SinkState) → Makes setting (make setting call s) (Err stop) s t p q
         → MakesCourse setting (course setting all last s) (Err stop) s t p q
     told_stopped stop t p q m = rw e (runs_stopped setting c calls last s is_made stop t p q (made (Err stop) t p q m).goes)
 
-    module _ (answer : Answer) (code : Code) (t : RunState) (p q : SinkState) (code_is : code ≡ code_in answer) (m : Makes setting (make setting call s) (Ok answer) s t p q) where
+    module _ (answer : Answer) (code : Code) (t : RunState) (p q : SinkState) (code_is : code ≡ code_in answer)
+        (m : Makes setting (make setting call s) (Ok answer) s t p q) where
       pub told_denied : accepts c.accepted code ≡ false → MakesCourse setting (course setting all last s) (Ok (Some code)) s t p q
       told_denied refuses =
           let d = made (Ok answer) t p q m in
@@ -102,5 +107,6 @@ module _ (setting : Setting) (all : List LoginCall) (c : LoginCall) (calls : Lis
           → MakesCourse setting (course setting calls code t) result t u q r → MakesCourse setting (course setting all last s) result s u p r
       told_on goes result u r g =
           let d = made (Ok answer) t p q m in
-          let next : MakesCourse setting (course setting calls (code_in answer) t) result t u q r = subst (λ (x : Code). MakesCourse setting (course setting calls x t) result t u q r) code_is g in
+          let next : MakesCourse setting (course setting calls (code_in answer) t) result t u q r =
+                  subst (λ (x : Code). MakesCourse setting (course setting calls x t) result t u q r) code_is g in
           rw e (runs_on setting c calls last s answer t p q is_made d.answers d.goes (ap (accepts c.accepted) (sym code_is) ∙ goes) result u r next)

@@ -45,7 +45,8 @@ end_ends code number status e =
     let same : calls.End (number_of code) ≡ calls.End status = same_call (calls.End (number_of code)) (calls.End status) 1 number e in
     (sym (ap (λ (s : Step). s.number) e), (let statuses : number_of code ≡ status = cc in sym statuses))
 
-pub end_ends_as : (code : Code) (call : AppCall) → call ≡ end_call code → (number status : ℕ) → IsEndStep (record { number = 1; call = call }) number status → IsEndWith code number status
+pub end_ends_as : (code : Code) (call : AppCall) → call ≡ end_call code → (number status : ℕ) → IsEndStep (record { number = 1; call = call }) number status
+    → IsEndWith code number status
 end_ends_as code call is number status e =
     let as_step : AppCall → Step = λ x. record { number = 1; call = x } in
     end_ends code number status (ap as_step (sym is) ∙ e)
@@ -69,16 +70,19 @@ closing_end (Err stop) number status e = inl e
 pub no_end : (result : Result Verdict Stop) (number status : ℕ) → IsNoEnd number status → IsEndOfLogin result number status
 no_end result number status e = absurd e
 
-pub start_no_end : (service : List ℕ) (user : Option (List ℕ)) (call : AppCall) → call ≡ calls.Start service user → (result : Result Verdict Stop) (number status : ℕ)
+pub start_no_end : (service : List ℕ) (user : Option (List ℕ)) (call : AppCall) → call ≡ calls.Start service user
+    → (result : Result Verdict Stop) (number status : ℕ)
     → IsEndStep (record { number = 1; call = call }) number status → IsEndOfLogin result number status
 start_no_end service user call is result number status e =
     let as_step : AppCall → Step = λ x. record { number = 1; call = x } in
     absurd (start_ends_none service user number status (ap as_step (sym is) ∙ e))
 
-pub closing_end_as : (result : Result Verdict Stop) (code : Code) → code ≡ closing_code result → (number status : ℕ) → IsEndWith code number status → IsEndOfLogin result number status
+pub closing_end_as : (result : Result Verdict Stop) (code : Code) → code ≡ closing_code result → (number status : ℕ) → IsEndWith code number status
+    → IsEndOfLogin result number status
 closing_end_as result code is number status e = closing_end result number status (e.0, e.1 ∙ ap number_of is)
 
-pub stack_no_end : (c : LoginCall) (call : AppCall) → call ≡ call_of c → (number status : ℕ) → IsEndStep (record { number = 1; call = call }) number status → IsNoEnd number status
+pub stack_no_end : (c : LoginCall) (call : AppCall) → call ≡ call_of c → (number status : ℕ) → IsEndStep (record { number = 1; call = call }) number status
+    → IsNoEnd number status
 stack_no_end c call is number status e =
     let as_step : AppCall → Step = λ x. record { number = 1; call = x } in
     stack_call_ends_none c.func c.flags number status (ap as_step (sym is) ∙ e)

@@ -1,5 +1,6 @@
 -- What a login reports, by its parts.
-use Rattle.std.proofs.Common.{◌≡◌, ℕ, Bool, true, false, List, [], ◌∷◌, ◌++◌, Option, Some, None, Result, Ok, Err, refl, sym, ap, ◌∙◌, subst, append_assoc, append-nil}
+use Rattle.std.proofs.Common.{◌≡◌, ℕ, Bool, true, false, List, [], ◌∷◌, ◌++◌, Option, Some, None, Result, Ok, Err, refl, sym, ap, ◌∙◌}
+use Rattle.std.proofs.Common.{subst, append_assoc, append-nil}
 use Rattle.pam_base.specs.declared.code.Code.{Code}
 use Rattle.pam_base.specs.declared.code.Code.TheVariants.{Success}
 use Rattle.pam_base.specs.declared.call.AppCall.{AppCall}
@@ -20,7 +21,8 @@ use Rattle.cmd_login.specs.declared.attempt.Verdict.TheVariants.{Passed, Refused
 use Rattle.cmd_login.specs.declared.calls.LoginCall.{LoginCall}
 use Rattle.cmd_login.specs.Calls.{accepts, call_of, code_in, is_due, login_calls}
 use Rattle.cmd_login.specs.Login.{answer_line, end_call, end_code, last_line, verdict_by}
-use Rattle.cmd_login.specs.Reported.{IsResult, Reporting, Reports, SaysBehind, SaysCalls, SaysCourse, SaysDenial, SaysLastLines, SaysLogin, SaysMade, SaysOthers, SaysResult, SaysTurn}
+use Rattle.cmd_login.specs.Reported.{IsResult, Reporting, Reports, SaysBehind, SaysCalls, SaysCourse, SaysDenial, SaysLastLines, SaysLogin}
+use Rattle.cmd_login.specs.Reported.{SaysMade, SaysOthers, SaysResult, SaysTurn}
 
 -- ---- one text
 
@@ -56,7 +58,8 @@ module _ {T U : Type 0} (Says : T → List ℕ → Type 0) (Tells : U → List �
 pub reports_so : {T : Type 0} (Says Tells : T → List ℕ → Type 0) (result : Result T Stop) (p q : SinkState) → Reports {T = T} Says result p q
     → ((t : T) (text : List ℕ) → Says t text → Tells t text) → Reports {T = T} Tells result p q
 reports_so Says Tells (Ok t) p q r so = record { text = r.text; written = r.written; says = so t r.text r.says }
-reports_so Says Tells (Err stop) p q r so = record { text = r.text; written = r.written; says = (r.says.0, r.says.1, so r.says.0 (r.text ++ r.says.1) r.says.2) }
+reports_so Says Tells (Err stop) p q r so = record { text = r.text; written = r.written;
+    says = (r.says.0, r.says.1, so r.says.0 (r.text ++ r.says.1) r.says.2) }
 
 -- ---- one after the other
 
@@ -81,8 +84,10 @@ reports_then Says Next Tells t (Err stop) p q r a b so = record {
 -- ---- the calls
 
 -- a result that the library returned
-pub by_outcome : (call : AppCall) (slot next : Option PlainSlot) (o : Outcome) → AnswersBy (refusal slot call) call o.answer → TracesAt call slot next (plain_outcome o) → IsResult call o.answer
-by_outcome call slot next o answers traces = record { slot = slot; next = next; outcome = plain_outcome o; answer_is = refl; answers = answers; traces = traces }
+pub by_outcome : (call : AppCall) (slot next : Option PlainSlot) (o : Outcome) → AnswersBy (refusal slot call) call o.answer
+    → TracesAt call slot next (plain_outcome o) → IsResult call o.answer
+by_outcome call slot next o answers traces = record { slot = slot; next = next; outcome = plain_outcome o; answer_is = refl; answers = answers;
+    traces = traces }
 
 -- a result that is always possible
 pub possible : (call : AppCall) → SaysResult call BadNumber (answer_line call BadNumber)
@@ -134,7 +139,8 @@ module _ (all : List LoginCall) (c : LoginCall) (calls : List LoginCall) (last :
         let m = some_made (SaysCourse calls) (some_course calls) c answer text (by_call answer text says) in
         (m.0, m.1, says_turn true due m.0 (text ++ m.1) m.2))
 
-    module _ (answer : Answer) (code : Code) (code_is : code ≡ code_in answer) (p q : SinkState) (r : Reports {T = Answer} (SaysResult call) (Ok answer) p q) where
+    module _ (answer : Answer) (code : Code) (code_is : code ≡ code_in answer) (p q : SinkState)
+        (r : Reports {T = Answer} (SaysResult call) (Ok answer) p q) where
       made : (goes : Bool) → accepts c.accepted code ≡ goes → (denied : Option Code) (text rest : List ℕ) → SaysResult call answer text
           → SaysOthers goes code (SaysCourse calls) denied rest → SaysCourse all last denied (text ++ rest)
       made goes is_goes denied text rest says others =
@@ -159,11 +165,13 @@ module _ (all : List LoginCall) (c : LoginCall) (calls : List LoginCall) (last :
 -- ---- the end
 
 module _ (denied : Option Code) (call : AppCall) (is : call ≡ end_call (end_code denied)) where
-  says_last_lines : (verdict : Verdict) (answer : Answer) (text last : List ℕ) → verdict ≡ verdict_by denied → last ≡ last_line verdict → SaysResult call answer text
+  says_last_lines : (verdict : Verdict) (answer : Answer) (text last : List ℕ) → verdict ≡ verdict_by denied → last ≡ last_line verdict
+      → SaysResult call answer text
       → SaysLastLines denied verdict (text ++ last)
   says_last_lines verdict answer text last verdict_is last_is says =
       let mine : SaysResult (end_call (end_code denied)) answer text = subst (λ (x : AppCall). SaysResult x answer text) is says in
-      record { verdict_is = verdict_is; answer = answer; can = mine.0; text_is = ap (λ (x : List ℕ). x ++ last) mine.1 ∙ ap (λ (x : List ℕ). answer_line (end_call (end_code denied)) answer ++ x) last_is }
+      record { verdict_is = verdict_is; answer = answer; can = mine.0; text_is = ap (λ (x : List ℕ). x ++ last) mine.1
+          ∙ ap (λ (x : List ℕ). answer_line (end_call (end_code denied)) answer ++ x) last_is }
 
   pub said_end_stopped : (stop : Stop) (p q : SinkState) → Reports {T = Answer} (SaysResult call) (Err stop) p q
       → Reports {T = Verdict} (SaysLastLines denied) (Err stop) p q
@@ -176,13 +184,16 @@ module _ (denied : Option Code) (call : AppCall) (is : call ≡ end_call (end_co
       subst (SaysLastLines denied Passed) (append-nil text) (says_last_lines Passed answer text [] (sym (ap verdict_by none)) refl says))
 
   pub said_denial : (code : Code) → denied ≡ Some code → (answer : Answer) (result : Result Verdict Stop) (p q r : SinkState)
-      → Reports {T = Answer} (SaysResult call) (Ok answer) p q → Reports {T = Verdict} (SaysDenial code) result q r → Reports {T = Verdict} (SaysLastLines denied) result p r
-  said_denial code some answer result p q r a b = reports_then (SaysResult call) (SaysDenial code) (SaysLastLines denied) answer result p q r a b (λ verdict text last says is_last.
+      → Reports {T = Answer} (SaysResult call) (Ok answer) p q → Reports {T = Verdict} (SaysDenial code) result q r
+          → Reports {T = Verdict} (SaysLastLines denied) result p r
+  said_denial code some answer result p q r a b = reports_then (SaysResult call) (SaysDenial code) (SaysLastLines denied) answer result p q r a b
+      (λ verdict text last says is_last.
       says_last_lines verdict answer text last (is_last.0 ∙ sym (ap verdict_by some)) (is_last.1 ∙ ap last_line (sym is_last.0)) says)
 
 -- ---- the whole
 
-with_end : (denied : Option Code) (lines : List ℕ) → SaysCourse login_calls Success denied lines → (verdict : Verdict) × (more : List ℕ) × SaysCalls verdict (lines ++ more)
+with_end : (denied : Option Code) (lines : List ℕ) → SaysCourse login_calls Success denied lines → (verdict : Verdict) × (more : List ℕ)
+    × SaysCalls verdict (lines ++ more)
 with_end denied lines course =
     let end = end_call (end_code denied) in (
       verdict_by denied,
@@ -201,9 +212,11 @@ pub said_course_stopped : (stop : Stop) (p q : SinkState) → Reports {T = Optio
     → Reports {T = Verdict} SaysCalls (Err stop) p q
 said_course_stopped stop p q r = reports_stop (SaysCourse login_calls Success) SaysCalls stop p q r with_end
 
-pub said_calls : (denied : Option Code) (result : Result Verdict Stop) (p q r : SinkState) → Reports {T = Option Code} (SaysCourse login_calls Success) (Ok denied) p q
+pub said_calls : (denied : Option Code) (result : Result Verdict Stop) (p q r : SinkState)
+    → Reports {T = Option Code} (SaysCourse login_calls Success) (Ok denied) p q
     → Reports {T = Verdict} (SaysLastLines denied) result q r → Reports {T = Verdict} SaysCalls result p r
-said_calls denied result p q r a b = reports_then (SaysCourse login_calls Success) (SaysLastLines denied) SaysCalls denied result p q r a b (λ verdict lines end course last_lines.
+said_calls denied result p q r a b = reports_then (SaysCourse login_calls Success) (SaysLastLines denied) SaysCalls denied result p q r a b
+    (λ verdict lines end course last_lines.
     record { denied = denied; lines = lines; end = end; text_is = refl; course = course; last_lines = last_lines })
 
 some_calls : (verdict : Verdict) × (text : List ℕ) × SaysCalls verdict text
@@ -214,7 +227,8 @@ some_behind true = (Refused, [], (refl, refl))
 some_behind false = some_calls
 
 module _ (service : List ℕ) (user : Option (List ℕ)) where
-  with_behind : (answer : Answer) (text : List ℕ) → SaysResult (Start service user) answer text → (verdict : Verdict) × (more : List ℕ) × SaysLogin service user verdict (text ++ more)
+  with_behind : (answer : Answer) (text : List ℕ) → SaysResult (Start service user) answer text → (verdict : Verdict) × (more : List ℕ)
+      × SaysLogin service user verdict (text ++ more)
   with_behind answer text says =
       let b = some_behind (is_refused answer) in
       (b.0, b.1, record { answer = answer; can = says.0; rest = b.1; text_is = ap (λ (x : List ℕ). x ++ b.1) says.1; follows = b.2 })
@@ -231,10 +245,12 @@ module _ (service : List ℕ) (user : Option (List ℕ)) where
 
     pub said_start_stopped : (stop : Stop) (p q : SinkState) → Reports {T = Answer} (SaysResult call) (Err stop) p q
         → Reports {T = Verdict} (SaysLogin service user) (Err stop) p q
-    said_start_stopped stop p q r = reports_stop (SaysResult call) (SaysLogin service user) stop p q r (λ answer text says. with_behind answer text (as_start answer text says))
+    said_start_stopped stop p q r = reports_stop (SaysResult call) (SaysLogin service user) stop p q r
+        (λ answer text says. with_behind answer text (as_start answer text says))
 
     module _ (answer : Answer) (p q : SinkState) (r : Reports {T = Answer} (SaysResult call) (Ok answer) p q) where
-      begun : (refused : Bool) → is_refused answer ≡ refused → (verdict : Verdict) (text rest : List ℕ) → SaysResult call answer text → SaysBehind refused verdict rest
+      begun : (refused : Bool) → is_refused answer ≡ refused → (verdict : Verdict) (text rest : List ℕ) → SaysResult call answer text
+          → SaysBehind refused verdict rest
           → SaysLogin service user verdict (text ++ rest)
       begun refused e verdict text rest says behind =
           let mine = as_start answer text says in
@@ -246,4 +262,5 @@ module _ (service : List ℕ) (user : Option (List ℕ)) where
 
       pub said_login : is_refused answer ≡ false → (result : Result Verdict Stop) (s : SinkState) → Reports {T = Verdict} SaysCalls result q s
           → Reports {T = Verdict} (SaysLogin service user) result p s
-      said_login e result s more = reports_then (SaysResult call) SaysCalls (SaysLogin service user) answer result p q s r more (λ verdict a b. begun false e verdict a b)
+      said_login e result s more = reports_then (SaysResult call) SaysCalls (SaysLogin service user) answer result p q s r more
+          (λ verdict a b. begun false e verdict a b)

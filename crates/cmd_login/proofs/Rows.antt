@@ -25,7 +25,8 @@ use Rattle.cmd_login.specs.Login.{course, login_of, login_text}
 abbrev answers_by : (Func → Code) → Player
 answers_by by = record {
   name = codes "p";
-  plays = λ (call : PlainCall) (room : SeenRoom) (datums : List NamedData) (sight : Sight). record { code = by call.func; room = room; births = []; files = sight.files; locks = same_locks; calls = 0; draws = 0 };
+  plays = λ (call : PlainCall) (room : SeenRoom) (datums : List NamedData) (sight : Sight).
+      record { code = by call.func; room = room; births = []; files = sight.files; locks = same_locks; calls = 0; draws = 0 };
   note = length_note;
   breaks = never_breaks;
 }
@@ -39,7 +40,8 @@ place = closed (record { offers = []; waits = false; handed = [] })
 -- a service with a line of each type
 abbrev start : RunState
 start = state_of (place ∷ []) (record {
-  vault = record { files = record { path = codes "/r/etc/pam.d/t"; bytes = codes "auth required p\naccount required p\npassword required p\nsession required p" } ∷ []; locks = no_locks; calls = 0; fails = [] };
+  vault = record { files = record { path = codes "/r/etc/pam.d/t"; bytes =
+      codes "auth required p\naccount required p\npassword required p\nsession required p" } ∷ []; locks = no_locks; calls = 0; fails = [] };
   clock = record { moment = 0; word = 0; draws = 0 };
   nap = record { waits = 0; sum = 0 };
   process = record { ledger = record { births = []; filed = [] }; root = codes "/r"; caller = 0 };

@@ -1,5 +1,6 @@
 -- The items that were found in a modelled text, and what they ask for.
-use Rattle.std.proofs.Common.{◌≡◌, ◌+◌, ◌<◌, ◌⊎◌, inl, inr, ℕ, Bool, true, false, List, [], ◌∷◌, ◌++◌, length, length-append, take, drop, Result, Ok, Err, refl, sym, ◌∙◌, ap, append_assoc, subst, cond, leb, arith}
+use Rattle.std.proofs.Common.{◌≡◌, ◌+◌, ◌<◌, ◌⊎◌, inl, inr, ℕ, Bool, true, false, List, [], ◌∷◌, ◌++◌, length, length-append, take, drop}
+use Rattle.std.proofs.Common.{Result, Ok, Err, refl, sym, ◌∙◌, ap, append_assoc, subst, cond, leb, arith}
 use Rattle.std.proofs.lemmas.List.{append-nil}
 use Rattle.std.proofs.lemmas.List.Elements.{All-take}
 use Rattle.std.specs.Prelude.{All}
@@ -42,27 +43,36 @@ module _ {Kind : Type 0} (looked : Looks) (refuses : Refuses) (asked : Asking Ki
       → All (λ b. b < 256) item → (number status : ℕ) → IsEnd (asked n item) number status → HasEndAmong looked asked n text number status
   one_asks n text item behind first bytes number status a =
       let same : n ≡ n + length {A = List ℕ} [] = omega arith in
-      record { before = []; item = item; behind = behind; among = first; accepted = tt; asks = subst (λ (k : ℕ). IsEnd (asked k item) number status) same a; bytes = bytes }
+      record { before = []; item = item; behind = behind; among = first; accepted = tt; asks = subst (λ (k : ℕ). IsEnd (asked k item) number status) same a;
+          bytes = bytes }
 
-  module _ (found : Result NextItem Failed) (n item_size size : ℕ) (before held : List ℕ) (x y : SourceState) (is : IsItem looked n item_size size held) (finds : Finds looked refuses found n before held x y) where
+  module _ (found : Result NextItem Failed) (n item_size size : ℕ) (before held : List ℕ) (x y : SourceState) (is : IsItem looked n item_size size held)
+      (finds : Finds looked refuses found n before held x y) where
     pub item_first : looked n (before ++ x.left) true ≡ take item_size held ∷ looked (n + 1) (drop size held ++ y.left) true
     item_first = ap (λ (t : List ℕ). looked n t true) (all_left found n before held x y finds) ∙ is.seen y.left true
 
     first_bytes : All (λ b. b < 256) held → All (λ b. b < 256) (take item_size held)
     first_bytes all = All-take (λ b. b < 256) item_size held all
 
-    pub item_leads : All (λ b. b < 256) held → (line : Line) × (asked n (take item_size held) ≡ Ok line) → LeadsOn looked asked n (before ++ x.left) (n + 1) (drop size held ++ y.left)
-    item_leads all a = record { items = take item_size held ∷ []; number = refl; accepted = (record { line = a.0; asks = a.1; bytes = first_bytes all }, tt); among = item_first }
+    pub item_leads : All (λ b. b < 256) held → (line : Line) × (asked n (take item_size held) ≡ Ok line)
+        → LeadsOn looked asked n (before ++ x.left) (n + 1) (drop size held ++ y.left)
+    item_leads all a = record { items = take item_size held ∷ []; number = refl; accepted = (record { line = a.0; asks = a.1; bytes = first_bytes all }, tt);
+        among = item_first }
 
-    pub item_asks : All (λ b. b < 256) held → (number status : ℕ) → IsEnd (asked n (take item_size held)) number status → HasEndAmong looked asked n (before ++ x.left) number status
-    item_asks all number status a = one_asks n (before ++ x.left) (take item_size held) (looked (n + 1) (drop size held ++ y.left) true) item_first (first_bytes all) number status a
+    pub item_asks : All (λ b. b < 256) held → (number status : ℕ) → IsEnd (asked n (take item_size held)) number status
+        → HasEndAmong looked asked n (before ++ x.left) number status
+    item_asks all number status a = one_asks n (before ++ x.left) (take item_size held) (looked (n + 1) (drop size held ++ y.left) true) item_first
+        (first_bytes all) number status a
 
-    pub item_asks_first : (number status : ℕ) → IsEnd (asked n (take item_size held)) number status → FirstAsks asked n (looked n (before ++ x.left) true) number status
+    pub item_asks_first : (number status : ℕ) → IsEnd (asked n (take item_size held)) number status
+        → FirstAsks asked n (looked n (before ++ x.left) true) number status
     item_asks_first number status a = rw item_first a
 
   -- ---- the last item
 
-  module _ (wrapped : List ℕ → List ℕ) (step : Setting → ItemStep RunState Kind) (fails : Setting → RunState → List ℕ → RunState → Type 0) (read_step : ItemStep (Unit {0}) Kind) (does : Does asked wrapped step fails read_step) (keeps : Keeps looked refuses read_step) (n : ℕ) (before held : List ℕ) (x y : SourceState) (finds : Finds looked refuses (Ok Rest) n before held x y) where
+  module _ (wrapped : List ℕ → List ℕ) (step : Setting → ItemStep RunState Kind) (fails : Setting → RunState → List ℕ → RunState → Type 0)
+      (read_step : ItemStep (Unit {0}) Kind) (does : Does asked wrapped step fails read_step) (keeps : Keeps looked refuses read_step) (n : ℕ)
+      (before held : List ℕ) (x y : SourceState) (finds : Finds looked refuses (Ok Rest) n before held x y) where
     -- what is refused in every state asks for nothing
     never_asked : (line : Line) → refuses n held → asked n held ≡ Ok line → ⊥
     never_asked line refused e = keeps.refused n held refused tt (tt, []) (does.reads n held ∙ ap (λ (r : Result Line Kind). read_as r) e)
@@ -77,7 +87,8 @@ module _ {Kind : Type 0} (looked : Looks) (refuses : Refuses) (asked : Asking Ki
     pub rest_is : (line : Line) → asked n held ≡ Ok line → looked n (before ++ x.left) true ≡ held ∷ []
     rest_is line e = rest_by line e finds.ended.fits
 
-    pub rest_asks : All (λ b. b < 256) held → (number status : ℕ) → IsEnd (asked n held) number status → HasEndAmong looked asked n (before ++ x.left) number status
+    pub rest_asks : All (λ b. b < 256) held → (number status : ℕ) → IsEnd (asked n held) number status
+        → HasEndAmong looked asked n (before ++ x.left) number status
     rest_asks all number status a = one_asks n (before ++ x.left) held [] (rest_is _ a) all number status a
 
     pub rest_asks_first : (number status : ℕ) → IsEnd (asked n held) number status → FirstAsks asked n (looked n (before ++ x.left) true) number status
@@ -130,10 +141,12 @@ as_parsed n text line e = by_many (leb 65536 n) (parsed text) line e
 abbrev pub AllLooked : Type 0
 AllLooked = (n : ℕ) (bytes : List ℕ) → looked_lines n bytes true ≡ lines_of bytes
 
-pub by_line : AllLooked → (tells : Bool) (text : List ℕ) (number status : ℕ) → IsEndAmong looked_lines line_asked tells 0 text number status → IsEndOfRun tells text number status
+pub by_line : AllLooked → (tells : Bool) (text : List ℕ) (number status : ℕ) → IsEndAmong looked_lines line_asked tells 0 text number status
+    → IsEndOfRun tells text number status
 by_line all tells text number status has told =
     let h : HasEndAmong looked_lines line_asked 0 text number status = has told in
-    let there : HasEnd text number status = record { line = h.item; before = h.before; behind = h.behind; among = sym (all 0 text) ∙ h.among; asks = as_parsed _ h.item _ h.asks } in
+    let there : HasEnd text number status = record { line = h.item; before = h.before; behind = h.behind; among = sym (all 0 text) ∙ h.among;
+            asks = as_parsed _ h.item _ h.asks } in
     inr there
 
 -- ---- after the lines

@@ -1,5 +1,6 @@
 -- The steps of a run's lines, and their results.
-use Rattle.std.proofs.Common.{◌≡◌, ℕ, ◌+◌, Bool, true, false, cond, leb, ltb, List, [], ◌∷◌, ◌++◌, length, Result, Ok, Err, refl, sym, ap, ◌∙◌, append_assoc, append-nil}
+use Rattle.std.proofs.Common.{◌≡◌, ℕ, ◌+◌, Bool, true, false, cond, leb, ltb, List, [], ◌∷◌, ◌++◌, length, Result, Ok, Err, refl, sym, ap}
+use Rattle.std.proofs.Common.{◌∙◌, append_assoc, append-nil}
 use Rattle.pam_base.specs.declared.fault.ScriptKind.{ScriptKind}
 use Rattle.pam_base.specs.declared.fault.ScriptKind.TheVariants.{LineTooLong, TooManyLines}
 use Rattle.report_step.specs.dispatch_core.specs.Lines.{names_of}
@@ -58,19 +59,23 @@ module _ (setting : Setting) where
   -- ---- some steps, and others after them
 
   slots-append : (xs ys : List Met) (slots : List PlainSlot)
-      → slots_after setting.players setting.delay slots (xs ++ ys) ≡ slots_after setting.players setting.delay (slots_after setting.players setting.delay slots xs) ys
+      → slots_after setting.players setting.delay slots (xs ++ ys) ≡ slots_after setting.players setting.delay
+          (slots_after setting.players setting.delay slots xs) ys
   slots-append [] ys slots = refl
   slots-append (x ∷ xs) ys slots = slots-append xs ys (stepped setting.players setting.delay slots x.world x.step).slots
 
   abbrev told : List PlainSlot → Met → List ℕ
-  told slots m = let t = stepped setting.players setting.delay slots m.world m.step in step_text (names_of setting.players) m.step t.outcome t.world.process.ledger
+  told slots m = let t = stepped setting.players setting.delay slots m.world m.step in
+      step_text (names_of setting.players) m.step t.outcome t.world.process.ledger
 
   report-append : (xs ys : List Met) (slots : List PlainSlot)
-      → report_of_steps setting slots (xs ++ ys) ≡ report_of_steps setting slots xs ++ report_of_steps setting (slots_after setting.players setting.delay slots xs) ys
+      → report_of_steps setting slots (xs ++ ys) ≡ report_of_steps setting slots xs
+          ++ report_of_steps setting (slots_after setting.players setting.delay slots xs) ys
   report-append [] ys slots = refl
   report-append (x ∷ xs) ys slots =
       let next : List PlainSlot = (stepped setting.players setting.delay slots x.world x.step).slots in
-      ap (λ (t : List ℕ). told slots x ++ t) (report-append xs ys next) ∙ sym (append_assoc (told slots x) (report_of_steps setting next xs) (report_of_steps setting (slots_after setting.players setting.delay next xs) ys))
+      ap (λ (t : List ℕ). told slots x ++ t) (report-append xs ys next)
+          ∙ sym (append_assoc (told slots x) (report_of_steps setting next xs) (report_of_steps setting (slots_after setting.players setting.delay next xs) ys))
 
   -- ---- many lines
 
@@ -82,7 +87,8 @@ module _ (setting : Setting) where
       → SlotsAre s (steps_behind setting s l r (λ t. steps_in setting (n + 1) t ls)) (after n s r (rest_of n ls)).last
   slots_by n s l ls next (Ok x) e =
       slots-append (step_of s (parsed l)) (steps_in setting (n + 1) x.0 ls) s.slots
-      ∙ ap (λ (slots : List PlainSlot). slots_after setting.players setting.delay slots (steps_in setting (n + 1) x.0 ls)) (one_slots s (parsed l) x (as_read n s l x e))
+      ∙ ap (λ (slots : List PlainSlot). slots_after setting.players setting.delay slots (steps_in setting (n + 1) x.0 ls))
+          (one_slots s (parsed l) x (as_read n s l x e))
       ∙ next x.0
   slots_by n s l ls next (Err kind) e = refl
 
@@ -100,7 +106,8 @@ module _ (setting : Setting) where
       let behind = steps_in setting (n + 1) x.0 ls in
       ap (λ (t : List ℕ). x.1 ++ t) (next x.0)
       ∙ ap (λ (t : List ℕ). t ++ report_of_steps setting x.0.slots behind) (sym (one_text s (parsed l) x read))
-      ∙ ap (λ (slots : List PlainSlot). report_of_steps setting s.slots (step_of s (parsed l)) ++ report_of_steps setting slots behind) (sym (one_slots s (parsed l) x read))
+      ∙ ap (λ (slots : List PlainSlot). report_of_steps setting s.slots (step_of s (parsed l)) ++ report_of_steps setting slots behind)
+          (sym (one_slots s (parsed l) x read))
       ∙ sym (report-append (step_of s (parsed l)) behind s.slots)
   text_by n s l ls next (Err kind) e = refl
 

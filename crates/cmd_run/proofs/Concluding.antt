@@ -32,13 +32,15 @@ pub runs_script : AllLooked → ((setting : Setting) → CallsStand setting) →
     → RunsOrStops looked line_asked as_it_is script_last script_step Fails setting result start end x y p q → RunsScript setting result start end x y p q
 runs_script all calls ends setting (Ok ending) start end x y p q r =
     ended_run setting start x y p r.between ending r.items r.last end q r.serves.runs tt r.ends
-    (λ closed. run_stands all setting (ending_status ending) (calls setting) (ends setting (ending_status ending)) r.items start r.last end x.left _ p r.between r.serves.served.1 r.few closed)
+    (λ closed. run_stands all setting (ending_status ending) (calls setting) (ends setting (ending_status ending)) r.items start r.last end x.left _ p r.between
+        r.serves.served.1 r.few closed)
 runs_script all calls ends setting (Err stop) start end x y p q (inl r) =
     stopped_lines setting start x y p q all stop r.items r.last end r.serves.runs r.stops.closed
     (λ text written. cut_short setting all (calls setting) (stop_status stop) r.items start r.last end x.left text p q r.serves.served r.stops.closes written)
 runs_script all calls ends setting (Err stop) start end x y p q (inr r) =
     stopped_behind setting start x y p r.between r.ending r.items r.last r.middle q r.serves.runs stop end r.ends r.stops.closed
-    (cut_behind setting all (calls setting) (ending_status r.ending) (stop_status stop) r.items start r.last end r.middle.world.process.ledger (lists_of r.middle.slots) x.left p r.between
+    (cut_behind setting all (calls setting) (ending_status r.ending) (stop_status stop) r.items start r.last end r.middle.world.process.ledger
+        (lists_of r.middle.slots) x.left p r.between
     r.serves.served r.closes r.stops.closes)
 
 -- if only the source is
@@ -46,7 +48,8 @@ pub reads_script : ReadsSo looked (step_at line_read) ReadsScript
 reads_script = record { whole = script_read; left = script_left }
 
 -- no run stops without a cause
-ended : (ending : Ending) (m a b c d : ℕ) (x y : SourceState) → ReadsAll looked (step_at line_read) (Ok ending) m x y → RisesIf (has_read_fault (Ok (Some ending))) a b
+ended : (ending : Ending) (m a b c d : ℕ) (x y : SourceState) → ReadsAll looked (step_at line_read) (Ok ending) m x y
+    → RisesIf (has_read_fault (Ok (Some ending))) a b
     → Completes (Ok ending) x.left (Rose a b) (Rose c d)
 ended Done m a b c d x y r read = λ accepted no_read no_write. inl refl
 ended ReadFault m a b c d x y r read = λ accepted no_read no_write. absurd (no_read read)
@@ -54,7 +57,8 @@ ended (Refused kind) m a b c d x y r read = λ accepted no_read no_write.
     let none : ◌≡◌ {A = Option ScriptKind} (Some kind) None = sym (script_read (Ok (Refused kind)) m x y r).by ∙ accepted in
     absurd cc
 
-stopped : (stop : Stop) (input : List ℕ) (a b c d : ℕ) → RisesIf (has_write_fault {T = Ending} (Err stop)) c d → Completes (Err stop) input (Rose a b) (Rose c d)
+stopped : (stop : Stop) (input : List ℕ) (a b c d : ℕ) → RisesIf (has_write_fault {T = Ending} (Err stop)) c d
+    → Completes (Err stop) input (Rose a b) (Rose c d)
 stopped NoMemory input a b c d written = λ accepted no_read no_write. inr refl
 stopped WriteFault input a b c d written = λ accepted no_read no_write. absurd (no_write written)
 

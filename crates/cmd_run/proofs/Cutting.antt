@@ -57,16 +57,20 @@ module _ (setting : Setting) (all_looked : AllLooked) (law : CallsStand setting)
       → StandOn (notes_of setting.players) (line_events setting s (take m (lines_of input)) ++ events_of t.world.process.ledger g.went.calls) s u
   lines_then Is m s t u input others p q w g = λ events stand.
       let front = lines_stand setting law w.served m s t w.text w.lead events stand in
-      let whole = law (notes_of setting.players) 17 g.went.calls t.world.process.ledger (lists_of t.slots) (events ++ line_events setting s w.served) front g.went.moves in
-      rw (first_lines setting m s t input others p q all_looked w, ← append_assoc events (line_events setting s w.served) (events_of t.world.process.ledger g.went.calls))
+      let whole = law (notes_of setting.players) 17 g.went.calls t.world.process.ledger (lists_of t.slots) (events ++ line_events setting s w.served) front
+              g.went.moves in
+      rw (first_lines setting m s t input others p q all_looked w, ← append_assoc events (line_events setting s w.served)
+          (events_of t.world.process.ledger g.went.calls))
       (rw (g.went.ledger, g.went.lists_are) at whole)
 
-  pub cut_short : (status : Code) (m : ℕ) (s t u : RunState) (input text : List ℕ) (p q : SinkState) → Broken looked line_asked script_step setting 0 m s t input p q
+  pub cut_short : (status : Code) (m : ℕ) (s t u : RunState) (input text : List ℕ) (p q : SinkState)
+      → Broken looked line_asked script_step setting 0 m s t input p q
       → Goes (IsStatusOf status) t u → q.written ≡ p.written ++ text → StandsCut setting status m s u input text
   cut_short status m s t u input text p q b closing written =
       let others : List (List ℕ) = drop m (lines_of input) in
       let behind : others ≡ b.others = last_lines setting m s b.middle input b.others p b.sink all_looked b.served in
-      let line : Goes (IsLaterEnd status others) b.middle t = proceeds_so (FirstAsks line_asked m b.others) (IsLaterEnd status others) (λ number ended a. inl (rw behind (first_asks m b.others number ended a))) _ _ _ _ _ b.later in
+      let line : Goes (IsLaterEnd status others) b.middle t = proceeds_so (FirstAsks line_asked m b.others) (IsLaterEnd status others)
+              (λ number ended a. inl (rw behind (first_asks m b.others number ended a))) _ _ _ _ _ b.later in
       let last : Goes (IsLaterEnd status others) t u = proceeds_so (IsStatusOf status) (IsLaterEnd status others) (λ number ended h. inr h) _ _ _ _ _ closing in
       let all : Goes (IsLaterEnd status others) b.middle u = goes_on (IsLaterEnd status others) (notes_of setting.players) _ _ _ _ _ _ line last in
       let w = b.served in
@@ -75,7 +79,8 @@ module _ (setting : Setting) (all_looked : AllLooked) (law : CallsStand setting)
         whole = w.text;
         part = b.part;
         run = rw (first_lines setting m s b.middle input b.others p b.sink all_looked w) (lead_runs setting w.served 0 m s b.middle w.text w.lead);
-        parts = same_behind p.written text (w.text ++ b.part) (sym written ∙ b.written ∙ ap (λ (x : List ℕ). x ++ b.part) w.written ∙ append_assoc p.written w.text b.part);
+        parts = same_behind p.written text (w.text ++ b.part) (sym written ∙ b.written ∙ ap (λ (x : List ℕ). x ++ b.part) w.written
+            ∙ append_assoc p.written w.text b.part);
         later = events_of b.middle.world.process.ledger all.went.calls;
         ends_are = events_are (IsLaterEnd status others) b.middle.world.process.ledger all.went.calls all.ends_are;
         stand = lines_then (IsLaterEnd status others) m s b.middle u input b.others p b.sink w all;
@@ -88,7 +93,8 @@ module _ (setting : Setting) (all_looked : AllLooked) (law : CallsStand setting)
       → StandsBehind setting status stopped m s v input
   cut_behind status stopped m s t v ledger lists input p q w a b =
       let Is : ℕ → ℕ → Type 0 = λ (number : ℕ) (ended : ℕ). IsStatusOf status number ended ⊎ IsStatusOf stopped number ended in
-      let all : Goes Is t v = goes_on Is (notes_of setting.players) _ _ _ _ _ _ (proceeds_so (IsStatusOf status) Is (λ number ended h. inl h) _ _ _ _ _ a) (proceeds_so (IsStatusOf stopped) Is (λ number ended h. inr h) _ _ _ _ _ b) in
+      let all : Goes Is t v = goes_on Is (notes_of setting.players) _ _ _ _ _ _ (proceeds_so (IsStatusOf status) Is (λ number ended h. inl h) _ _ _ _ _ a)
+              (proceeds_so (IsStatusOf stopped) Is (λ number ended h. inr h) _ _ _ _ _ b) in
       record {
         later = events_of t.world.process.ledger all.went.calls;
         ends_are = events_are Is t.world.process.ledger all.went.calls all.ends_are;

@@ -1,5 +1,6 @@
 -- Transactions that are ended after the lines, in two runs that are alike for a number.
-use Rattle.std.proofs.Common.{◌≡◌, ℕ, zero, suc, ◌+◌, ◌≤◌, Bool, true, false, nat_eq, List, [], ◌∷◌, ◌++◌, length, Option, Some, None, slice_get, slice_set, refl, sym, ap, ◌∙◌, subst, arith, append_assoc, append-nil}
+use Rattle.std.proofs.Common.{◌≡◌, ℕ, zero, suc, ◌+◌, ◌≤◌, Bool, true, false, nat_eq, List, [], ◌∷◌, ◌++◌, length, Option, Some, None}
+use Rattle.std.proofs.Common.{slice_get, slice_set, refl, sym, ap, ◌∙◌, subst, arith, append_assoc, append-nil}
 use Rattle.std.proofs.lemmas.Bool.Decides.{nat_tests}
 use Rattle.pam_base.specs.declared.call.AppCall.TheVariants.{End}
 use Rattle.pam_base.specs.declared.call.Step.{Step}
@@ -49,7 +50,8 @@ module _ (setting : Setting) (status : Code) where
   -- ---- the implicit ends are calls
 
   abbrev by_place : ℕ → RunState → Option PlainSlot → RunState
-  by_place number s found = let t : Stepped = stepped_at setting.players setting.delay s.slots s.world number (End (number_of status)) found in state_of t.slots t.world
+  by_place number s found = let t : Stepped = stepped_at setting.players setting.delay s.slots s.world number (End (number_of status)) found in
+      state_of t.slots t.world
 
   by_found : (number : ℕ) (s : RunState) (found : Option PlainSlot) → slot_at s.slots number ≡ found → end_at number s ≡ by_place number s found
   unfolding stepped
@@ -68,9 +70,11 @@ module _ (setting : Setting) (status : Code) where
   left_behind (opened h) = closed h.room.conv
 
   ends_place : (x : PlainSlot) (front slots : List PlainSlot) (w : PlainWorld)
-      → by_place (suc (length front)) (state_of (front ++ x ∷ slots) w) (Some x) ≡ state_of (front ++ left_behind x ∷ slots) (world_left setting.players status x w)
+      → by_place (suc (length front)) (state_of (front ++ x ∷ slots) w) (Some x)
+          ≡ state_of (front ++ left_behind x ∷ slots) (world_left setting.players status x w)
   ends_place (closed conv) front slots w = ap (λ (l : List PlainSlot). state_of l w) (set_at_front front slots (closed conv) (closed conv))
-  ends_place (opened h) front slots w = ap (λ (l : List PlainSlot). state_of l (world_behind setting.players status h w)) (set_at_front front slots (opened h) (closed h.room.conv))
+  ends_place (opened h) front slots w = ap (λ (l : List PlainSlot). state_of l (world_behind setting.players status h w))
+      (set_at_front front slots (opened h) (closed h.room.conv))
 
   pub ends_next : (x : PlainSlot) (front slots : List PlainSlot) (i : ℕ) (w : PlainWorld) → i ≡ length front
       → end_at (suc i) (state_of (front ++ x ∷ slots) w) ≡ state_of (front ++ left_behind x ∷ slots) (world_left setting.players status x w)
@@ -81,12 +85,15 @@ module _ (setting : Setting) (status : Code) where
 
   behind_all : (x : PlainSlot) (front slots : List PlainSlot) (w : PlainWorld) →
       last_state (state_of (front ++ x ∷ slots) w) (closings_behind setting.players status front (x ∷ slots) w)
-      ≡ last_state (state_of ((front ++ left_behind x ∷ []) ++ slots) (world_left setting.players status x w)) (closings_behind setting.players status (front ++ left_behind x ∷ []) slots (world_left setting.players status x w))
+      ≡ last_state (state_of ((front ++ left_behind x ∷ []) ++ slots) (world_left setting.players status x w))
+          (closings_behind setting.players status (front ++ left_behind x ∷ []) slots (world_left setting.players status x w))
   unfolding closings_behind
   behind_all (closed conv) front slots w =
-      ap (λ (l : List PlainSlot). last_state (state_of l w) (closings_behind setting.players status (front ++ closed conv ∷ []) slots w)) (sym (append_assoc front (closed conv ∷ []) slots))
+      ap (λ (l : List PlainSlot). last_state (state_of l w) (closings_behind setting.players status (front ++ closed conv ∷ []) slots w))
+          (sym (append_assoc front (closed conv ∷ []) slots))
   behind_all (opened h) front slots w =
-      ap (λ (l : List PlainSlot). last_state (state_of l (world_behind setting.players status h w)) (closings_behind setting.players status (front ++ closed h.room.conv ∷ []) slots (world_behind setting.players status h w)))
+      ap (λ (l : List PlainSlot). last_state (state_of l (world_behind setting.players status h w))
+          (closings_behind setting.players status (front ++ closed h.room.conv ∷ []) slots (world_behind setting.players status h w)))
       (sym (append_assoc front (closed h.room.conv ∷ []) slots))
 
   closed_by_calls : (slots front : List PlainSlot) (i k : ℕ) (w : PlainWorld) → i ≡ length front → length slots ≤ k →
@@ -100,7 +107,8 @@ module _ (setting : Setting) (status : Code) where
       let more : List PlainSlot = front ++ left_behind x ∷ [] in
       let v : PlainWorld = world_left setting.players status x w in
       let next : suc i ≡ length more = ap suc at ∙ sym (one_longer front (left_behind x)) in
-      let rest : last_state (state_of (more ++ slots) v) (closings_behind setting.players status more slots v) ≡ ends_from (suc i) k (state_of (more ++ slots) v) = closed_by_calls slots more (suc i) k v next (omega arith) in
+      let rest : last_state (state_of (more ++ slots) v) (closings_behind setting.players status more slots v)
+              ≡ ends_from (suc i) k (state_of (more ++ slots) v) = closed_by_calls slots more (suc i) k v next (omega arith) in
       behind_all x front slots w
       ∙ rest
       ∙ ap (λ (l : List PlainSlot). ends_from (suc i) k (state_of l v)) (append_assoc front (left_behind x ∷ []) slots)
@@ -117,7 +125,8 @@ module _ (setting : Setting) (status : Code) where
   by_place_files number s (Some (opened h)) = refl
 
   end_files : (number : ℕ) (s : RunState) → (end_at number s).world.vault.files ≡ s.world.vault.files
-  end_files number s = ap (λ (t : RunState). t.world.vault.files) (by_found number s (slot_at s.slots number) refl) ∙ by_place_files number s (slot_at s.slots number)
+  end_files number s = ap (λ (t : RunState). t.world.vault.files) (by_found number s (slot_at s.slots number) refl)
+      ∙ by_place_files number s (slot_at s.slots number)
 
   module _ (number : ℕ) (own : OwnCalls) (other : OtherCalls) where
     turned : (s t : RunState) → Alike setting number s t → Alike setting number t s
@@ -134,11 +143,14 @@ module _ (setting : Setting) (status : Code) where
     end_alike m s t true is h =
         let same : number ≡ m = grind (arith, nat_tests) in
         subst (λ (j : ℕ). AreAlike j (end_at m s).slots (end_at m s).world (end_at m t).slots (end_at m t).world) (sym same)
-        (own setting.players setting.delay (end_step m) s.slots t.slots s.world t.world (subst (λ (j : ℕ). AreAlike j s.slots s.world t.slots t.world) same h)).alike
+        (own setting.players setting.delay (end_step m) s.slots t.slots s.world t.world
+            (subst (λ (j : ℕ). AreAlike j s.slots s.world t.slots t.world) same h)).alike
     end_alike m s t false is h =
-        let one : Alike setting number (end_at m s) t = other setting.players setting.delay number (end_step m) s.slots t.slots s.world t.world is h (end_files m s) in
+        let one : Alike setting number (end_at m s) t = other setting.players setting.delay number (end_step m) s.slots t.slots s.world t.world is h
+                (end_files m s) in
         turned (end_at m t) (end_at m s)
-        (other setting.players setting.delay number (end_step m) t.slots (end_at m s).slots t.world (end_at m s).world is (turned (end_at m s) t one) (end_files m t))
+        (other setting.players setting.delay number (end_step m) t.slots (end_at m s).slots t.world (end_at m s).world is (turned (end_at m s) t one)
+            (end_files m t))
 
     pub ends_alike : (k i : ℕ) (s t : RunState) → Alike setting number s t → Alike setting number (ends_from i k s) (ends_from i k t)
     unfolding ends_from

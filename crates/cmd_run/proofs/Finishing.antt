@@ -1,5 +1,6 @@
 -- What is ended and written after the items of a run.
-use Rattle.std.proofs.Common.{◌≡◌, ℕ, ◌+◌, ◌≤◌, inl, inr, IsTrue, List, [], ◌∷◌, ◌++◌, length, Option, Some, None, Result, Ok, Err, refl, sym, ap, ◌∙◌, append_assoc, append-nil, length-append, arith}
+use Rattle.std.proofs.Common.{◌≡◌, ℕ, ◌+◌, ◌≤◌, inl, inr, IsTrue, List, [], ◌∷◌, ◌++◌, length, Option, Some, None, Result, Ok, Err, refl}
+use Rattle.std.proofs.Common.{sym, ap, ◌∙◌, append_assoc, append-nil, length-append, arith}
 use Rattle.std.specs.Prelude.{is_some}
 use Rattle.pam_base.specs.declared.fault.Failed.{Failed}
 use Rattle.pam_outside.specs.Streams.{SourceState, SinkState, WritesWhole}
@@ -18,10 +19,12 @@ use Rattle.cmd_run.specs.Reading.{TakesBytes, WritesScript, WritesSome}
 use Rattle.cmd_run.specs.Reported.{Closes, ClosesTo}
 use Rattle.cmd_run.specs.Run.{ClosesBy, EndsTo, EndsWith, RunsOrStops, text_of}
 
-module _ {Kind : Type 0} (wrapped : List ℕ → List ℕ) (last_text : Ending Kind → ℕ → Option (List ℕ)) (players : List Player) (ending : Ending Kind) (n : ℕ) where
+module _ {Kind : Type 0} (wrapped : List ℕ → List ℕ) (last_text : Ending Kind → ℕ → Option (List ℕ)) (players : List Player) (ending : Ending Kind)
+    (n : ℕ) where
   -- the run stopped in the implicit ends
   cut_short : (stop : Stop) (s t : RunState) (whole others : List Closing) (part : List ℕ)
-      → ClosesTo wrapped players (ending_status ending) (Err stop) s t whole others part → EndsTo wrapped last_text players ending n (Err stop) s t whole others part
+      → ClosesTo wrapped players (ending_status ending) (Err stop) s t whole others part
+          → EndsTo wrapped last_text players ending n (Err stop) s t whole others part
   cut_short stop s t whole [] part h = absurd h
   cut_short stop s t whole (c ∷ cs) part h = h
 
@@ -39,7 +42,8 @@ module _ {Kind : Type 0} (wrapped : List ℕ → List ℕ) (last_text : Ending K
   }
 
   -- all are ended, and nothing comes after them
-  pub nothing_last : (s t : RunState) (p q : SinkState) (done u : Unit {0}) → Closes wrapped players (ending_status ending) (Ok done) s t p q → last_text ending n ≡ None
+  pub nothing_last : (s t : RunState) (p q : SinkState) (done u : Unit {0}) → Closes wrapped players (ending_status ending) (Ok done) s t p q
+      → last_text ending n ≡ None
       → EndsWith wrapped last_text players ending n (Ok u) s t p q
   nothing_last s t p q done u c is = record {
     whole = c.whole;
@@ -58,7 +62,8 @@ module _ {Kind : Type 0} (wrapped : List ℕ → List ℕ) (last_text : Ending K
     closed_text = ap (λ (x : List ℕ). closings_text c.whole ++ x) c.to.1 ∙ append-nil (closings_text c.whole)
 
     behind : (part : List ℕ) → r.written ≡ q.written ++ part → r.written ≡ p.written ++ (closings_text c.whole ++ part)
-    behind part w = w ∙ ap (λ (x : List ℕ). x ++ part) (c.written ∙ ap (λ (x : List ℕ). p.written ++ x) closed_text) ∙ append_assoc p.written (closings_text c.whole) part
+    behind part w = w ∙ ap (λ (x : List ℕ). x ++ part) (c.written ∙ ap (λ (x : List ℕ). p.written ++ x) closed_text)
+        ∙ append_assoc p.written (closings_text c.whole) part
 
     counted : (part : List ℕ) → r.calls ≤ q.calls + length part + 1 → r.calls ≤ p.calls + length (closings_text c.whole ++ part) + 1
     counted part w =
@@ -114,7 +119,8 @@ module _ {Kind : Type 0} (wrapped : List ℕ → List ℕ) (last_text : Ending K
   }
 
 -- what a run wrote whose items were served
-pub run_written : {Kind : Type 0} (wrapped : List ℕ → List ℕ) (last_text : Ending Kind → ℕ → Option (List ℕ)) (players : List Player) (ending : Ending Kind) (n : ℕ) (result : Result (Unit {0}) Stop) (s t : RunState) (p q r : SinkState)
+pub run_written : {Kind : Type 0} (wrapped : List ℕ → List ℕ) (last_text : Ending Kind → ℕ → Option (List ℕ)) (players : List Player) (ending : Ending Kind)
+    (n : ℕ) (result : Result (Unit {0}) Stop) (s t : RunState) (p q r : SinkState)
     → WritesSome {T = Ending Kind} (Ok ending) p q → EndsWith wrapped last_text players ending n result s t q r → WritesScript p r
 run_written wrapped last_text players ending n result s t p q r a b =
     let words : List ℕ = closings_text b.whole ++ b.part in
@@ -126,20 +132,27 @@ run_written wrapped last_text players ending n result s t p q r a b =
 
 -- ---- the whole run
 
-module _ {Kind : Type 0} (looked : Looks) (asked : Asking Kind) (wrapped : List ℕ → List ℕ) (last_text : Ending Kind → ℕ → Option (List ℕ)) (step : Setting → ItemStep RunState Kind)
+module _ {Kind : Type 0} (looked : Looks) (asked : Asking Kind) (wrapped : List ℕ → List ℕ) (last_text : Ending Kind → ℕ → Option (List ℕ))
+    (step : Setting → ItemStep RunState Kind)
     (fails : Setting → RunState → List ℕ → RunState → Type 0) (setting : Setting) (start : RunState) (x y : SourceState) (p : SinkState) where
-  pub runs_out : (ending : Ending Kind) (items : ℕ) (last end : RunState) (between q : SinkState) → TellsAll looked asked step fails setting (Ok ending) items start last x y p between → TakesBytes [] x y
+  pub runs_out : (ending : Ending Kind) (items : ℕ) (last end : RunState) (between q : SinkState)
+      → TellsAll looked asked step fails setting (Ok ending) items start last x y p between → TakesBytes [] x y
       → length last.slots ≤ 16 → (done : Unit {0}) → EndsWith wrapped last_text setting.players ending items (Ok done) last end between q
       → RunsOrStops looked asked wrapped last_text step fails setting (Ok ending) start end x y p q
-  runs_out ending items last end between q serves takes few done ends = record { items = items; last = last; between = between; serves = serves; takes = takes; few = few; ends = ends }
+  runs_out ending items last end between q serves takes few done ends =
+      record { items = items; last = last; between = between; serves = serves; takes = takes; few = few; ends = ends }
 
-  pub stops_early : (stop : Stop) (items : ℕ) (last end : RunState) (q : SinkState) → TellsAll looked asked step fails setting (Err stop) items start last x y p q → TakesBytes [] x y
+  pub stops_early : (stop : Stop) (items : ℕ) (last end : RunState) (q : SinkState)
+      → TellsAll looked asked step fails setting (Err stop) items start last x y p q → TakesBytes [] x y
       → end ≡ all_closed setting.players (stop_status stop) last → ClosesBy setting.players (stop_status stop) last end
       → RunsOrStops looked asked wrapped last_text step fails setting (Err stop) start end x y p q
-  stops_early stop items last end q serves takes closed closes = inl (record { items = items; last = last; serves = serves; takes = takes; stops = record { closed = closed; closes = closes } })
+  stops_early stop items last end q serves takes closed closes = inl (record { items = items; last = last; serves = serves; takes = takes;
+      stops = record { closed = closed; closes = closes } })
 
-  pub stops_late : (stop : Stop) (ending : Ending Kind) (items : ℕ) (last middle end : RunState) (between q : SinkState) → TellsAll looked asked step fails setting (Ok ending) items start last x y p between
-      → TakesBytes [] x y → EndsWith wrapped last_text setting.players ending items (Err stop) last middle between q → ClosesBy setting.players (ending_status ending) last middle
+  pub stops_late : (stop : Stop) (ending : Ending Kind) (items : ℕ) (last middle end : RunState) (between q : SinkState)
+      → TellsAll looked asked step fails setting (Ok ending) items start last x y p between
+      → TakesBytes [] x y → EndsWith wrapped last_text setting.players ending items (Err stop) last middle between q
+          → ClosesBy setting.players (ending_status ending) last middle
       → end ≡ all_closed setting.players (stop_status stop) middle → ClosesBy setting.players (stop_status stop) middle end
       → RunsOrStops looked asked wrapped last_text step fails setting (Err stop) start end x y p q
   stops_late stop ending items last middle end between q serves takes ends before closed closes = inr (record {

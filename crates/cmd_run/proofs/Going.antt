@@ -55,7 +55,8 @@ pub still_told : (Is : ℕ → ℕ → Type 0) (a b : Seen) → Went Is a b → 
 still_told Is a b w told = rw (w.tells, w.world_tells) told
 
 -- no call was made
-pub went_quietly : (Is : ℕ → ℕ → Type 0) (a b : Seen) → b.players ≡ a.players → b.tells ≡ a.tells → b.world_tells ≡ a.world_tells → ((number : Code → ℕ → ℕ) → a.gives number → b.gives number)
+pub went_quietly : (Is : ℕ → ℕ → Type 0) (a b : Seen) → b.players ≡ a.players → b.tells ≡ a.tells → b.world_tells ≡ a.world_tells
+    → ((number : Code → ℕ → ℕ) → a.gives number → b.gives number)
     → ((number : Code → ℕ → ℕ) → b.gives number → a.gives number)
     → b.slots ≡ a.slots → b.world.process.ledger ≡ a.world.process.ledger → IsSoundIn a → Went Is a b
 went_quietly Is a b players tells world_tells gives no_other slots ledger sound = record {
@@ -69,9 +70,11 @@ went_quietly Is a b players tells world_tells gives no_other slots ledger sound 
 }
 
 -- one call was made
-pub went_once : (Is : ℕ → ℕ → Type 0) (a b : Seen) → b.players ≡ a.players → b.tells ≡ a.tells → b.world_tells ≡ a.world_tells → ((number : Code → ℕ → ℕ) → a.gives number → b.gives number)
+pub went_once : (Is : ℕ → ℕ → Type 0) (a b : Seen) → b.players ≡ a.players → b.tells ≡ a.tells → b.world_tells ≡ a.world_tells
+    → ((number : Code → ℕ → ℕ) → a.gives number → b.gives number)
     → ((number : Code → ℕ → ℕ) → b.gives number → a.gives number)
-    → (ended : List Event) → Moves (notes_of a.players) 17 ended a.world.process.ledger (lists_of a.slots) b.world.process.ledger (lists_of b.slots) → EndsAre Is ended → IsSoundIn b
+    → (ended : List Event) → Moves (notes_of a.players) 17 ended a.world.process.ledger (lists_of a.slots) b.world.process.ledger (lists_of b.slots)
+        → EndsAre Is ended → IsSoundIn b
     → Went Is a b
 went_once Is a b players tells world_tells gives no_other ended moves are sound = record {
   players = players;
@@ -84,9 +87,11 @@ went_once Is a b players tells world_tells gives no_other ended moves are sound 
 }
 
 -- the call was made that an item asks for
-pub went_as_asked : {Kind : Type 0} (asked : Result Line Kind) (step : Step) → asked ≡ Ok (lines.Step step) → (a b : Seen) → b.players ≡ a.players → ((number : Code → ℕ → ℕ) → a.gives number → b.gives number)
+pub went_as_asked : {Kind : Type 0} (asked : Result Line Kind) (step : Step) → asked ≡ Ok (lines.Step step) → (a b : Seen) → b.players ≡ a.players
+    → ((number : Code → ℕ → ℕ) → a.gives number → b.gives number)
     → ((number : Code → ℕ → ℕ) → b.gives number → a.gives number)
     → Keeps (ended_by step a) a b → Went (IsEnd asked) a b
 went_as_asked asked step e a b players gives no_other k =
     went_so (IsEndStep step) (IsEnd asked) (λ number status is. e ∙ ap (λ (s : Step). Ok (lines.Step s)) is) a b
-    (went_once (IsEndStep step) a b players k.tells k.world_tells gives no_other (ended_by step a) k.moves (call_ends (slot_of step a) step.number step.call) k.sound)
+    (went_once (IsEndStep step) a b players k.tells k.world_tells gives no_other (ended_by step a) k.moves
+        (call_ends (slot_of step a) step.number step.call) k.sound)

@@ -1,5 +1,6 @@
 -- The events of a run's lines, and of its implicit ends.
-use Rattle.std.proofs.Common.{◌≡◌, ℕ, zero, suc, ◌+◌, ◌≤◌, ◌<◌, false, nat_eq, List, [], ◌∷◌, ◌++◌, length, take, drop, reverse, Some, None, refl, sym, ap, ◌∙◌, subst, append_assoc, append-nil, length-append, arith}
+use Rattle.std.proofs.Common.{◌≡◌, ℕ, zero, suc, ◌+◌, ◌≤◌, ◌<◌, false, nat_eq, List, [], ◌∷◌, ◌++◌, length, take, drop, reverse, Some, None}
+use Rattle.std.proofs.Common.{refl, sym, ap, ◌∙◌, subst, append_assoc, append-nil, length-append, arith}
 use Rattle.std.specs.Prelude.{slice_get}
 use Rattle.std.proofs.lemmas.Bool.Decides.{nat_tests}
 use Rattle.data_cleanup.specs.Cleanup.{Notes, ledger_after}
@@ -64,7 +65,8 @@ module _ (setting : Setting) where
   lead_runs (l ∷ ls) n m s t text a = rw (a.4, lead_runs ls (n + 1) m a.0 t a.2 a.6, a.3) refl
 
   abbrev pub CallsStand : Type 0
-  CallsStand = (note : Notes) (limit : ℕ) (calls : List Moved) (ledger : PlainLedger) (lists : Lists) (events : List Event) → StandFor note limit ledger lists events → MoveOn note limit ledger lists calls
+  CallsStand = (note : Notes) (limit : ℕ) (calls : List Moved) (ledger : PlainLedger) (lists : Lists) (events : List Event)
+      → StandFor note limit ledger lists events → MoveOn note limit ledger lists calls
       → StandFor note limit (last_ledger ledger calls) (last_lists lists calls) (events ++ events_of ledger calls)
 
   pub lines_stand : CallsStand → (ls : List (List ℕ)) (m : ℕ) (s t : RunState) (text : List ℕ) → LinesLead 0 s ls m t text
@@ -81,7 +83,8 @@ drop-front : (xs ys : List (List ℕ)) → drop (length xs) (xs ++ ys) ≡ ys
 drop-front [] ys = refl
 drop-front (x ∷ xs) ys = drop-front xs ys
 
-module _ (setting : Setting) (m : ℕ) (s t : RunState) (input : List ℕ) (others : List (List ℕ)) (p q : SinkState) (all : AllLooked) (w : LinesServed setting 0 m s t input others p q) where
+module _ (setting : Setting) (m : ℕ) (s t : RunState) (input : List ℕ) (others : List (List ℕ)) (p q : SinkState) (all : AllLooked)
+    (w : LinesServed setting 0 m s t input others p q) where
   lines_are_served : lines_of input ≡ w.served ++ others
   lines_are_served = sym (all 0 input) ∙ w.among
 
@@ -120,7 +123,8 @@ list_here front rest x = ap (data_in (suc (length front))) (here front rest x)
 module _ (players : List Player) (code : Code) where
   abbrev pub EndStands : Type 0
   EndStands = (note : Notes) (limit handle status : ℕ) (events : List Event) (before after : PlainLedger) (lists next : Lists)
-      → StandFor note limit before lists events → handle < limit → after ≡ ledger_after note status (reverse (lists handle).live) before → next handle ≡ clean_list handle []
+      → StandFor note limit before lists events → handle < limit → after ≡ ledger_after note status (reverse (lists handle).live) before
+          → next handle ≡ clean_list handle []
       → ((h : ℕ) → nat_eq h handle ≡ false → next h ≡ lists h) → StandFor note limit after next (events ++ ends handle status ∷ [])
 
   abbrev Stand : PlainWorld → List PlainSlot → List Event → Type 0
@@ -132,10 +136,12 @@ module _ (players : List Player) (code : Code) where
       Stand t.world t.slots (events ++ closing_events (length front + 1) (number_of code) slots)
 
   one_end : EndStands → (front rest : List PlainSlot) (h : PlainHandle) (w : PlainWorld) (events : List Event) → length front + 1 < 17
-      → Stand w (front ++ opened h ∷ rest) events → Stand (world_behind players code h w) (front ++ closed h.room.conv ∷ rest) (events ++ ends (length front + 1) (number_of code) ∷ [])
+      → Stand w (front ++ opened h ∷ rest) events → Stand (world_behind players code h w) (front ++ closed h.room.conv ∷ rest)
+          (events ++ ends (length front + 1) (number_of code) ∷ [])
   one_end law front rest h w events few stand =
       let k : length front + 1 ≡ suc (length front) = omega arith in
-      law (notes_of players) 17 (length front + 1) (number_of code) events w.process.ledger (world_behind players code h w).process.ledger (lists_of (front ++ opened h ∷ rest)) (lists_of (front ++ closed h.room.conv ∷ rest))
+      law (notes_of players) 17 (length front + 1) (number_of code) events w.process.ledger (world_behind players code h w).process.ledger
+          (lists_of (front ++ opened h ∷ rest)) (lists_of (front ++ closed h.room.conv ∷ rest))
       stand few
       (rw (k, list_here front rest (opened h)) refl)
       (rw (k, list_here front rest (closed h.room.conv)) refl)
@@ -161,9 +167,11 @@ module _ (players : List Player) (code : Code) where
       let front2 : List PlainSlot = front ++ x ∷ [] in
       let v : PlainWorld = world_behind players code h w in
       let more : List Event = events ++ ends (length front + 1) (number_of code) ∷ [] in
-      let stand2 : Stand v (front2 ++ slots) more = subst (λ (l : List PlainSlot). Stand v l more) (sym (moved_over front slots x)) (one_end law front slots h w events (omega (arith, few)) stand) in
+      let stand2 : Stand v (front2 ++ slots) more = subst (λ (l : List PlainSlot). Stand v l more) (sym (moved_over front slots x))
+              (one_end law front slots h w events (omega (arith, few)) stand) in
       let rest : Behind front2 slots v more = behind law slots front2 v more (omega (arith, few, one_longer front x)) stand2 in
-      rw (moved_over front slots x, one_longer front x, append_assoc events (ends (length front + 1) (number_of code) ∷ []) (closing_events (length front + 1 + 1) (number_of code) slots)) at rest
+      rw (moved_over front slots x, one_longer front x, append_assoc events (ends (length front + 1) (number_of code) ∷ [])
+          (closing_events (length front + 1 + 1) (number_of code) slots)) at rest
 
   pub closings_stand : EndStands → (s : RunState) → length s.slots ≤ 16
       → StandOn (notes_of players) (closing_events 1 (number_of code) s.slots) s (all_closed players code s)
@@ -178,4 +186,5 @@ pub run_stands : AllLooked → (setting : Setting) (code : Code) → CallsStand 
 run_stands all setting code calls law m s t end input others p q w few e = λ events stand.
     let front = lines_stand setting calls w.served m s t w.text w.lead events stand in
     let whole = closings_stand setting.players code law t few (events ++ line_events setting s w.served) front in
-    rw (e, first_lines setting m s t input others p q all w, ← append_assoc events (line_events setting s w.served) (closing_events 1 (number_of code) t.slots)) whole
+    rw (e, first_lines setting m s t input others p q all w, ← append_assoc events (line_events setting s w.served)
+        (closing_events 1 (number_of code) t.slots)) whole

@@ -25,7 +25,9 @@ module _ (wrapped : List ℕ → List ℕ) (names : List (List ℕ)) where
   pub made_broken : {T : Type 0} (stop : Stop) (slots next : List PlainSlot) (p : SinkState) → ReportsCalls wrapped names {T = T} (Err stop) slots next p p
   made_broken stop slots next p = record { made = []; middle = slots; are_made = refl; part = []; written = sym (append-nil p.written); to = inl refl }
 
-  module _ (step : Step) (o : PlainOutcome) (ledger : PlainLedger) (slots next : List PlainSlot) (answers : AnswersBy (refusal (slot_at slots step.number) step.call) step.call o.answer) (traces : TracesAt step.call (slot_at slots step.number) (slot_at next step.number) o)
+  module _ (step : Step) (o : PlainOutcome) (ledger : PlainLedger) (slots next : List PlainSlot)
+      (answers : AnswersBy (refusal (slot_at slots step.number) step.call) step.call o.answer)
+      (traces : TracesAt step.call (slot_at slots step.number) (slot_at next step.number) o)
       (others : (number : ℕ) → (number ≡ step.number → ⊥) → slot_at next number ≡ slot_at slots number) (p q : SinkState) where
     abbrev call : Made
     call = record { step = step; outcome = o; ledger = ledger; slots = slots; next = next }
@@ -50,25 +52,32 @@ module _ (wrapped : List ℕ → List ℕ) (names : List (List ℕ)) where
       are_made = refl;
       part = w.1.front;
       written = w.1.written;
-      to = inr (record { call = call; first = refl; last = refl; made = record { answers = answers; traces = traces; others = others }; cut = (w.1.back, w.1.parts) });
+      to = inr (record { call = call; first = refl; last = refl; made = record { answers = answers; traces = traces; others = others };
+          cut = (w.1.back, w.1.parts) });
     }
-    made_cut {T} NoMemory same = subst (λ (s : SinkState). ReportsCalls wrapped names {T = T} (Err NoMemory) slots next p s) (sym same) (made_broken NoMemory slots next p)
+    made_cut {T} NoMemory same = subst (λ (s : SinkState). ReportsCalls wrapped names {T = T} (Err NoMemory) slots next p s) (sym same)
+        (made_broken NoMemory slots next p)
 
-  pub made_ok_as : {T U : Type 0} (t : T) (u : U) (slots next : List PlainSlot) (p q : SinkState) → ReportsCalls wrapped names {T = T} (Ok t) slots next p q → ReportsCalls wrapped names {T = U} (Ok u) slots next p q
+  pub made_ok_as : {T U : Type 0} (t : T) (u : U) (slots next : List PlainSlot) (p q : SinkState) → ReportsCalls wrapped names {T = T} (Ok t) slots next p q
+      → ReportsCalls wrapped names {T = U} (Ok u) slots next p q
   made_ok_as t u slots next p q r = record { made = r.made; middle = r.middle; are_made = r.are_made; part = r.part; written = r.written; to = r.to }
 
-  pub made_err_as : {T U : Type 0} (stop : Stop) (slots next : List PlainSlot) (p q : SinkState) → ReportsCalls wrapped names {T = T} (Err stop) slots next p q → ReportsCalls wrapped names {T = U} (Err stop) slots next p q
+  pub made_err_as : {T U : Type 0} (stop : Stop) (slots next : List PlainSlot) (p q : SinkState) → ReportsCalls wrapped names {T = T} (Err stop) slots next p q
+      → ReportsCalls wrapped names {T = U} (Err stop) slots next p q
   made_err_as stop slots next p q r = record { made = r.made; middle = r.middle; are_made = r.are_made; part = r.part; written = r.written; to = r.to }
 
   -- one part after another
-  joined : (w x y : List ℕ) (a b : List Made) → x ≡ [] → (w ++ (reports_of wrapped names a ++ x)) ++ (reports_of wrapped names b ++ y) ≡ w ++ (reports_of wrapped names (a ++ b) ++ y)
+  joined : (w x y : List ℕ) (a b : List Made) → x ≡ [] → (w ++ (reports_of wrapped names a ++ x)) ++ (reports_of wrapped names b ++ y)
+      ≡ w ++ (reports_of wrapped names (a ++ b) ++ y)
   joined w x y a b none =
       append_assoc w (reports_of wrapped names a ++ x) (reports_of wrapped names b ++ y)
-      ∙ ap (λ (l : List ℕ). w ++ (l ++ (reports_of wrapped names b ++ y))) (ap (λ (l : List ℕ). reports_of wrapped names a ++ l) none ∙ append-nil (reports_of wrapped names a))
+      ∙ ap (λ (l : List ℕ). w ++ (l ++ (reports_of wrapped names b ++ y)))
+          (ap (λ (l : List ℕ). reports_of wrapped names a ++ l) none ∙ append-nil (reports_of wrapped names a))
       ∙ ap (λ (l : List ℕ). w ++ l) (sym (append_assoc (reports_of wrapped names a) (reports_of wrapped names b) y))
       ∙ ap (λ (l : List ℕ). w ++ (l ++ y)) (sym (flat_map-append (report_of wrapped names) a b))
 
-  pub made_on : {T U : Type 0} (t : T) (result : Result U Stop) (a b c : List PlainSlot) (p q r : SinkState) → ReportsCalls wrapped names {T = T} (Ok t) a b p q → ReportsCalls wrapped names {T = U} result b c q r
+  pub made_on : {T U : Type 0} (t : T) (result : Result U Stop) (a b c : List PlainSlot) (p q r : SinkState) → ReportsCalls wrapped names {T = T} (Ok t) a b p q
+      → ReportsCalls wrapped names {T = U} result b c q r
       → ReportsCalls wrapped names {T = U} result a c p r
   made_on t result a b c p q r x y = record {
     made = x.made ++ y.made;

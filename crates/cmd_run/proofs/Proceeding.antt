@@ -26,7 +26,8 @@ grown note modules old new before after g = rw g.filed (omega (arith, length-app
 
 spent : (note : Notes) (modules : ℕ) (call : AppCall) (old new : PlainDataList) (before after : PlainLedger)
     → SpendsAs note modules call old before new after → length before.filed ≤ length after.filed
-spent note modules (calls.End status) old new before after e = rw e.ledger (omega (arith, length-append before.filed (receipts_for note status (length before.births) (reverse old.live))))
+spent note modules (calls.End status) old new before after e = rw e.ledger
+    (omega (arith, length-append before.filed (receipts_for note status (length before.births) (reverse old.live))))
 spent note modules (calls.Start service user) old new before after g = grown note modules old new before after g
 spent note modules (calls.Authenticate flags) old new before after g = grown note modules old new before after g
 spent note modules (calls.SetCred flags) old new before after g = grown note modules old new before after g

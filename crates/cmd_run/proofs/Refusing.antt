@@ -16,12 +16,14 @@ abbrev pub Agree : Run RunState → Run (Unit {0}) → Type 0
 Agree r q = (r.refused ≡ q.refused) × (r.items ≡ q.items)
 
 module _ (setting : Setting) where
-  by_parsed : (n : ℕ) (s : RunState) (found : Result Line ScriptKind) (next : RunState → Run RunState) (others : Unit {0} → Run (Unit {0})) → ((t : RunState) → Agree (next t) (others tt))
+  by_parsed : (n : ℕ) (s : RunState) (found : Result Line ScriptKind) (next : RunState → Run RunState) (others : Unit {0} → Run (Unit {0}))
+      → ((t : RunState) → Agree (next t) (others tt))
       → Agree (after n s (applied_or_refused setting s found) next) (after n tt (read_as found) others)
   by_parsed n s (Ok line) next others agree = agree (applied setting s line).0
   by_parsed n s (Err kind) next others agree = (refl, refl)
 
-  by_flags : (many long : Bool) (n : ℕ) (s : RunState) (line : List ℕ) (next : RunState → Run RunState) (others : Unit {0} → Run (Unit {0})) → ((t : RunState) → Agree (next t) (others tt))
+  by_flags : (many long : Bool) (n : ℕ) (s : RunState) (line : List ℕ) (next : RunState → Run RunState) (others : Unit {0} → Run (Unit {0}))
+      → ((t : RunState) → Agree (next t) (others tt))
       → Agree (after n s (cond many (Err TooManyLines) (cond long (Err LineTooLong) (line_step setting s line))) next)
       (after n tt (cond many (Err TooManyLines) (cond long (Err LineTooLong) (line_read tt line))) others)
   unfolding line_step line_read
@@ -29,12 +31,15 @@ module _ (setting : Setting) where
   by_flags false true n s line next others agree = (refl, refl)
   by_flags false false n s line next others agree = by_parsed n s (parsed line) next others agree
 
-  lines_agree : (lines : List (List ℕ)) (n : ℕ) (s : RunState) → Agree (run_items (step_at (line_step setting)) n s lines) (run_items (step_at line_read) n tt lines)
+  lines_agree : (lines : List (List ℕ)) (n : ℕ) (s : RunState) → Agree (run_items (step_at (line_step setting)) n s lines)
+      (run_items (step_at line_read) n tt lines)
   unfolding run_items step_at
   lines_agree [] n s = (refl, refl)
   lines_agree (line ∷ rest) n s =
-      by_flags (leb 65536 n) (ltb 513 (length line)) n s line (λ t. run_items (step_at (line_step setting)) (n + 1) t rest) (λ u. run_items (step_at line_read) (n + 1) u rest) (λ t. lines_agree rest (n + 1) t)
+      by_flags (leb 65536 n) (ltb 513 (length line)) n s line (λ t. run_items (step_at (line_step setting)) (n + 1) t rest)
+          (λ u. run_items (step_at line_read) (n + 1) u rest) (λ t. lines_agree rest (n + 1) t)
 
-  pub bytes_agree : (start : RunState) (bytes : List ℕ) (ended : Bool) → Agree (run_of (line_step setting) 0 start bytes ended) (run_of line_read 0 tt bytes ended)
+  pub bytes_agree : (start : RunState) (bytes : List ℕ) (ended : Bool) → Agree (run_of (line_step setting) 0 start bytes ended)
+      (run_of line_read 0 tt bytes ended)
   unfolding run_looked
   bytes_agree start bytes ended = lines_agree (looked 0 bytes ended) 0 start

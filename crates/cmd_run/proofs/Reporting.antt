@@ -1,5 +1,6 @@
 -- Transactions that are ended and reported one after another.
-use Rattle.std.proofs.Common.{◌≡◌, ℕ, ◌+◌, ◌≤◌, map, true, false, List, [], ◌∷◌, ◌++◌, length, Ok, Err, refl, sym, ap, ◌∙◌, append_assoc, append-nil, length-append, arith}
+use Rattle.std.proofs.Common.{◌≡◌, ℕ, ◌+◌, ◌≤◌, map, true, false, List, [], ◌∷◌, ◌++◌, length, Ok, Err, refl, sym, ap, ◌∙◌, append_assoc}
+use Rattle.std.proofs.Common.{append-nil, length-append, arith}
 use Rattle.pam_base.specs.declared.code.Code.{Code}
 use Rattle.pam_outside.specs.Streams.{SinkState}
 use Rattle.report_step.specs.pam_room.specs.Module.{Player}
@@ -25,20 +26,27 @@ last-append s (x ∷ xs) c = last-append x.state xs c
 module _ (wrapped : List ℕ → List ℕ) (players : List Player) (status : Code) where
   -- ---- one of them
 
-  as_text_of_end : (number : ℕ) (s t : RunState) (text : List ℕ) (names : List (List ℕ)) (filed : ℕ) → text ≡ closing_text names number status t.world.process.ledger filed → names ≡ names_of players
+  as_text_of_end : (number : ℕ) (s t : RunState) (text : List ℕ) (names : List (List ℕ)) (filed : ℕ)
+      → text ≡ closing_text names number status t.world.process.ledger filed → names ≡ names_of players
       → filed ≡ length s.world.process.ledger.filed → text ≡ text_of_end players status number s.world t.world
   as_text_of_end number s t text names filed e n f = rw (← n, ← f) e
 
-  wrapped_first : (number : ℕ) (s t : RunState) → EndsNext players status number s t → wrapped_closings wrapped players status s ≡ record { text = wrapped (text_of_end players status number s.world t.world); state = t } ∷ wrapped_closings wrapped players status t
+  wrapped_first : (number : ℕ) (s t : RunState) → EndsNext players status number s t
+      → wrapped_closings wrapped players status s ≡ record { text = wrapped (text_of_end players status number s.world t.world); state = t }
+      ∷ wrapped_closings wrapped players status t
   wrapped_first number s t e = ap (map (wrapped_closing wrapped)) e.first
 
   -- an allocation for it failed
-  pub one_unwritten : (number : ℕ) (s t : RunState) (p : SinkState) → EndsNext players status number s t → ClosesNext wrapped players status (Err NoMemory) s t p p
+  pub one_unwritten : (number : ℕ) (s t : RunState) (p : SinkState) → EndsNext players status number s t
+      → ClosesNext wrapped players status (Err NoMemory) s t p p
   one_unwritten number s t p e =
-      ([], record { text = wrapped (text_of_end players status number s.world t.world); first = wrapped_first number s t e; written = sym (append-nil p.written); calls = omega arith }, refl)
+      ([], record { text = wrapped (text_of_end players status number s.world t.world); first = wrapped_first number s t e;
+          written = sym (append-nil p.written); calls = omega arith }, refl)
 
   -- it was ended, and its lines were to be written
-  module _ (number : ℕ) (s t : RunState) (text : List ℕ) (names : List (List ℕ)) (filed : ℕ) (p q : SinkState) (e : EndsNext players status number s t) (is : text ≡ closing_text names number status t.world.process.ledger filed) (n : names ≡ names_of players) (f : filed ≡ length s.world.process.ledger.filed) where
+  module _ (number : ℕ) (s t : RunState) (text : List ℕ) (names : List (List ℕ)) (filed : ℕ) (p q : SinkState) (e : EndsNext players status number s t)
+      (is : text ≡ closing_text names number status t.world.process.ledger filed) (n : names ≡ names_of players)
+      (f : filed ≡ length s.world.process.ledger.filed) where
     whole : wrapped text ≡ wrapped (text_of_end players status number s.world t.world)
     whole = ap wrapped (as_text_of_end number s t text names filed is n f)
 

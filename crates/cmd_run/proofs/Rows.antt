@@ -49,7 +49,8 @@ world = record {
 start : RunState
 start = state_of places world
 
-refused_third_line : run_of (line_step setting) 0 start (codes "end 1 0\nat 5\nx\nend 2 0") false ≡ come_to (codes "1 end not open\n") (state_of places (at_moment 5 world)) 2 (Some BadWord)
+refused_third_line : run_of (line_step setting) 0 start (codes "end 1 0\nat 5\nx\nend 2 0") false
+    ≡ come_to (codes "1 end not open\n") (state_of places (at_moment 5 world)) 2 (Some BadWord)
 unfolding start setting places world run_of_items run_items step_at line_step looked last_looked cut words_of stepped digits
 refused_third_line = refl
 
@@ -77,7 +78,9 @@ end_behind_a_refused_line = λ told. inl (inl (Refused BadWord, refl))
 abbrev sets_datum : Player
 sets_datum = record {
   name = codes "p";
-  plays = λ (call : PlainCall) (room : SeenRoom) (datums : List NamedData) (sight : Sight). record { code = Code.Success; room = room; births = record { name = codes "a"; payload = codes "x" } ∷ []; files = sight.files; locks = same_locks; calls = 0; draws = 0 };
+  plays = λ (call : PlainCall) (room : SeenRoom) (datums : List NamedData) (sight : Sight).
+      record { code = Code.Success; room = room; births = record { name = codes "a"; payload = codes "x" } ∷ []; files = sight.files; locks = same_locks;
+      calls = 0; draws = 0 };
   note = length_note;
   breaks = never_breaks;
 }
@@ -89,7 +92,8 @@ abbrev service_files : List File
 service_files = record { path = codes "/r/etc/pam.d/t"; bytes = codes "auth required p" } ∷ []
 
 abbrev with_service : RunState
-with_service = state_of (closed (record { offers = []; waits = false; handed = [] }) ∷ closed (record { offers = []; waits = false; handed = [] }) ∷ []) (record {
+with_service = state_of (closed (record { offers = []; waits = false; handed = [] }) ∷ closed (record { offers = []; waits = false; handed = [] })
+    ∷ []) (record {
   vault = record { files = service_files; locks = no_locks; calls = 0; fails = [] };
   clock = record { moment = 0; word = 0; draws = 0 };
   nap = record { waits = 0; sum = 0 };

@@ -30,7 +30,8 @@ module _ (setting : Setting) where
   short true s line e = sym (ap (applied_or_refused setting s) (long_line line (ltb-true 513 (length line) e)))
   short false s line e = refl
 
-  few : (many : Bool) (s : RunState) (line : List ℕ) → cond many (Err TooManyLines) (line_step setting s line) ≡ served_line as_it_is setting s (cond many (Err TooManyLines) (parsed line))
+  few : (many : Bool) (s : RunState) (line : List ℕ) → cond many (Err TooManyLines) (line_step setting s line)
+      ≡ served_line as_it_is setting s (cond many (Err TooManyLines) (parsed line))
   unfolding line_step
   few true s line = refl
   few false s line = as_served s (parsed line)
@@ -70,6 +71,7 @@ accepted_by : (setting : Setting) (many : Bool) (r : Result (RunState × List �
 accepted_by setting true r p x e = absurd cc
 accepted_by setting false r p x e = refl
 
-pub asked_for : (setting : Setting) (n : ℕ) (s : RunState) (line : List ℕ) (x : RunState × List ℕ) → script_step setting n s line ≡ Ok x → line_asked n line ≡ parsed line
+pub asked_for : (setting : Setting) (n : ℕ) (s : RunState) (line : List ℕ) (x : RunState × List ℕ) → script_step setting n s line ≡ Ok x
+    → line_asked n line ≡ parsed line
 unfolding step_at
 asked_for setting n s line x e = accepted_by setting (leb 65536 n) _ (parsed line) x e

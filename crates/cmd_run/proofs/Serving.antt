@@ -1,5 +1,6 @@
 -- What an item does, from what it asks for.
-use Rattle.std.proofs.Common.{◌≡◌, ℕ, ◌-◌, ◌<◌, Bool, true, false, ◌&&◌, List, length, take, cond, Option, Result, Ok, Err, refl, ap, subst, ◌∙◌, inl, inr, arith}
+use Rattle.std.proofs.Common.{◌≡◌, ℕ, ◌-◌, ◌<◌, Bool, true, false, ◌&&◌, List, length, take, cond, Option, Result, Ok, Err, refl, ap, subst}
+use Rattle.std.proofs.Common.{◌∙◌, inl, inr, arith}
 use Rattle.std.proofs.lemmas.List.{length-take}
 use Rattle.std.proofs.lemmas.Bool.{lt-ltb}
 use Rattle.std.specs.List.{ends_with}
@@ -49,14 +50,17 @@ pub failed_stack : (players : List Player) (tells : Bool) (call : AppCall) (old 
     → StopsAt players tells call old new w v → StopsAt players true call old new w v
 failed_stack players tells call old new w v told stops = subst (λ (b : Bool). StopsAt players b call old new w v) told stops
 
-module _ {Kind : Type 0} (asked : Asking Kind) (wrapped : List ℕ → List ℕ) (step : Setting → ItemStep RunState Kind) (fails : Setting → RunState → List ℕ → RunState → Type 0) (read_step : ItemStep (Unit {0}) Kind) (does : Does asked wrapped step fails read_step) (setting : Setting) (n : ℕ) (s : RunState) (item : List ℕ) where
+module _ {Kind : Type 0} (asked : Asking Kind) (wrapped : List ℕ → List ℕ) (step : Setting → ItemStep RunState Kind)
+    (fails : Setting → RunState → List ℕ → RunState → Type 0) (read_step : ItemStep (Unit {0}) Kind) (does : Does asked wrapped step fails read_step)
+    (setting : Setting) (n : ℕ) (s : RunState) (item : List ℕ) where
   as_served : (r : Result Line Kind) → asked n item ≡ r → step setting n s item ≡ served_line wrapped setting s r
   as_served r e = does.steps setting n s item ∙ ap (λ (r : Result Line Kind). served_line wrapped setting s r) e
 
   pub refused : (kind : Kind) → asked n item ≡ Err kind → step setting n s item ≡ Err kind
   refused kind e = as_served (Err kind) e
 
-  pub accepted : (line : Line) → asked n item ≡ Ok line → step setting n s item ≡ Ok ((applied setting s line).0, written_for wrapped line (applied setting s line).1)
+  pub accepted : (line : Line) → asked n item ≡ Ok line → step setting n s item
+      ≡ Ok ((applied setting s line).0, written_for wrapped line (applied setting s line).1)
   accepted line e = as_served (Ok line) e
 
   -- ---- a call
@@ -78,7 +82,10 @@ module _ {Kind : Type 0} (asked : Asking Kind) (wrapped : List ℕ → List ℕ)
     }
 
 -- an item was applied, and its report isn't whole
-pub report_stopped : {Kind : Type 0} (step : ItemStep RunState Kind) (fails : RunState → List ℕ → RunState → Type 0) → WrittenIsServed step fails → BegunIsServed step fails
-    → (stop : Stop) (n : ℕ) (item text : List ℕ) (c d : RunState) (p q : SinkState) → step n c item ≡ Ok (d, text) → WritesReport (Err stop) text p q → ServesItem step fails (Err stop) n item c d p q
+pub report_stopped : {Kind : Type 0} (step : ItemStep RunState Kind) (fails : RunState → List ℕ → RunState → Type 0) → WrittenIsServed step fails
+    → BegunIsServed step fails
+    → (stop : Stop) (n : ℕ) (item text : List ℕ) (c d : RunState) (p q : SinkState) → step n c item ≡ Ok (d, text) → WritesReport (Err stop) text p q
+        → ServesItem step fails (Err stop) n item c d p q
 report_stopped step fails written begun WriteFault n item text c d p q e w = written (Err w.0) n item text c d p q e w.1
-report_stopped step fails written begun NoMemory n item text c d p q e same = rw same (begun n item c d p (record { after = d; text = text; accepted = e; state = inl refl }))
+report_stopped step fails written begun NoMemory n item text c d p q e same =
+    rw same (begun n item c d p (record { after = d; text = text; accepted = e; state = inl refl }))

@@ -1,5 +1,6 @@
 -- A whole run: its lines, and what is ended and written after them.
-use Rattle.std.proofs.Common.{◌≡◌, ℕ, ◌+◌, ◌≤◌, inl, inr, true, List, [], ◌∷◌, ◌++◌, length, map, take, Ok, Err, refl, sym, ap, ◌∙◌, append_assoc, append-nil, length-append, arith}
+use Rattle.std.proofs.Common.{◌≡◌, ℕ, ◌+◌, ◌≤◌, inl, inr, true, List, [], ◌∷◌, ◌++◌, length, map, take, Ok, Err, refl, sym, ap, ◌∙◌}
+use Rattle.std.proofs.Common.{append_assoc, append-nil, length-append, arith}
 use Rattle.std.proofs.Math.Seq.{take-append_seam}
 use Rattle.pam_base.specs.Lines.{lines_of}
 use Rattle.pam_outside.specs.Streams.{SourceState, SinkState}
@@ -25,7 +26,8 @@ as_they_are [] = refl
 as_they_are (c ∷ cs) = ap (λ (x : List Closing). c ∷ x) (as_they_are cs)
 
 module _ (players : List Player) (ending : Ending) (n : ℕ) where
-  ended_as : (s : RunState) (whole others : List Closing) → wrapped_closings as_it_is players (ending_status ending) s ≡ whole ++ others → closings players (ending_status ending) s ≡ whole ++ others
+  ended_as : (s : RunState) (whole others : List Closing) → wrapped_closings as_it_is players (ending_status ending) s ≡ whole ++ others
+      → closings players (ending_status ending) s ≡ whole ++ others
   ended_as s whole others among = sym (as_they_are (closings players (ending_status ending) s)) ∙ among
 
   -- ---- the state after a stop
@@ -44,12 +46,14 @@ module _ (players : List Player) (ending : Ending) (n : ℕ) where
       → u ≡ all_closed players (stop_status stop) t → StopsClosing players stop ending n s u (closings_text w.whole ++ w.part)
   stops_closing stop s t u p q w e =
       let among = ended_as s w.whole w.others w.among in
-      record { whole = w.whole; others = w.others; among = among; part = w.part; written = refl; stopped = stops_in stop s t u w.whole w.others w.part among w.to e }
+      record { whole = w.whole; others = w.others; among = among; part = w.part; written = refl;
+          stopped = stops_in stop s t u w.whole w.others w.part among w.to e }
 
   pub words_whole : (s t : RunState) (p q : SinkState) (done : Unit {0}) → (w : EndsWith as_it_is script_last players ending n (Ok done) s t p q)
       → closings_text w.whole ++ w.part ≡ last_words players ending n s
   words_whole s t p q done w =
-      let all : w.whole ≡ closings players (ending_status ending) s = sym (append-nil w.whole) ∙ ap (λ (x : List Closing). w.whole ++ x) (sym w.to.0) ∙ sym (ended_as s w.whole w.others w.among) in
+      let all : w.whole ≡ closings players (ending_status ending) s = sym (append-nil w.whole) ∙ ap (λ (x : List Closing). w.whole ++ x) (sym w.to.0)
+              ∙ sym (ended_as s w.whole w.others w.among) in
       ap (λ (x : List ℕ). closings_text w.whole ++ x) w.to.1 ∙ ap (λ (x : List Closing). closings_text x ++ last_line ending n) all
 
   pub all_ended : (s t : RunState) (p q : SinkState) (done : Unit {0}) → EndsWith as_it_is script_last players ending n (Ok done) s t p q
@@ -59,7 +63,8 @@ module _ (players : List Player) (ending : Ending) (n : ℕ) where
 -- ---- the whole run
 
 -- the items that the stream served are the first lines of the script
-first_served : AllLooked → (n : ℕ) (input taken left : List ℕ) (served others : List (List ℕ)) → input ≡ taken ++ left → n ≡ 0 + length served → looked 0 (taken ++ left) true ≡ served ++ others
+first_served : AllLooked → (n : ℕ) (input taken left : List ℕ) (served others : List (List ℕ)) → input ≡ taken ++ left → n ≡ 0 + length served
+    → looked 0 (taken ++ left) true ≡ served ++ others
     → served ≡ take n (lines_of input)
 first_served all n input taken left served others source number among =
     let count : n ≡ length served = omega (arith, number) in
@@ -70,7 +75,8 @@ module _ (setting : Setting) (start : RunState) (x y : SourceState) (p q : SinkS
   -- it stopped among its lines
   pub stopped_lines : AllLooked → (stop : Stop) (n : ℕ) (t u : RunState) → Runs (line_step setting) (Fails setting) (Err stop) n start t x y p q
       → u ≡ all_closed setting.players (stop_status stop) t
-      → ((text : List ℕ) → q.written ≡ p.written ++ text → StandsCut setting (stop_status stop) n start u x.left text) → RunsScript setting (Err stop) start u x y p q
+      → ((text : List ℕ) → q.written ≡ p.written ++ text → StandsCut setting (stop_status stop) n start u x.left text)
+          → RunsScript setting (Err stop) start u x y p q
   stopped_lines all stop n t u r e stands = record {
     taken = r.taken;
     text = r.text;
@@ -99,7 +105,8 @@ module _ (setting : Setting) (start : RunState) (x y : SourceState) (p q : SinkS
     writes words w = omega (arith, w, r.writes_ok, length-append r.text words)
 
     pub ended_run : (done : Unit {0}) → EndsWith as_it_is script_last setting.players ending n (Ok done) s t q z
-        → ((t ≡ all_closed setting.players (ending_status ending) s) → StandOn (notes_of setting.players) (run_events setting (ending_status ending) start x.left n s) start t)
+        → ((t ≡ all_closed setting.players (ending_status ending) s) → StandOn (notes_of setting.players)
+            (run_events setting (ending_status ending) start x.left n s) start t)
         → RunsScript setting (Ok ending) start t x y p z
     ended_run done w stands =
         let words = closings_text w.whole ++ w.part in

@@ -1,5 +1,6 @@
 -- The frames that were found in a modelled input, and what they ask for.
-use Rattle.std.proofs.Common.{◌≡◌, ◌+◌, ◌<◌, inl, inr, ℕ, suc, Bool, true, false, cond, leb, List, [], ◌∷◌, ◌++◌, length, Option, Some, None, Result, Ok, Err, refl, sym, ◌∙◌, ap, append_assoc, arith}
+use Rattle.std.proofs.Common.{◌≡◌, ◌+◌, ◌<◌, inl, inr, ℕ, suc, Bool, true, false, cond, leb, List, [], ◌∷◌, ◌++◌, length, Option, Some}
+use Rattle.std.proofs.Common.{None, Result, Ok, Err, refl, sym, ◌∙◌, ap, append_assoc, arith}
 use Rattle.std.specs.List.{AllByRecursion, concat}
 use Rattle.std.proofs.lemmas.Bool.{leb-false}
 use Rattle.pam_base.specs.Code.{number_of}
@@ -39,7 +40,8 @@ framed-append (step ∷ a) b x y = (x.0, framed-append a b x.1 y)
 joined : (bytes middle rest : List ℕ) (a b : List Step) → AreFramesOf bytes a middle → AreFramesOf middle b rest → AreFramesOf bytes (a ++ b) rest
 joined bytes middle rest a b x y = record {
   framed = framed-append a b x.framed y.framed;
-  parts = x.parts ∙ ap (λ (z : List ℕ). frames_of a ++ z) y.parts ∙ sym (append_assoc (frames_of a) (frames_of b) rest) ∙ ap (λ (z : List ℕ). z ++ rest) (sym (frames-append a b));
+  parts = x.parts ∙ ap (λ (z : List ℕ). frames_of a ++ z) y.parts ∙ sym (append_assoc (frames_of a) (frames_of b) rest)
+      ∙ ap (λ (z : List ℕ). z ++ rest) (sym (frames-append a b));
 }
 
 one_framed : (bytes frame rest : List ℕ) (step : Step) → bytes ≡ frame ++ rest → IsFrame frame step → AreFramesOf bytes (step ∷ []) rest
@@ -94,7 +96,8 @@ concat-append [] ys = refl
 concat-append (x ∷ xs) ys = ap (λ (z : List ℕ). x ++ z) (concat-append xs ys) ∙ sym (append_assoc x (concat xs) (concat ys))
 
 -- an item that asks for an end, after items that are accepted, is a frame after frames
-has_end : AllAreLookedAt → ReadsTable → (input : List ℕ) (number status : ℕ) → HasEndAmong looked frame_asked 0 input number status → HasEndFrom 0 input number status
+has_end : AllAreLookedAt → ReadsTable → (input : List ℕ) (number status : ℕ) → HasEndAmong looked frame_asked 0 input number status
+    → HasEndFrom 0 input number status
 has_end all law input number status h =
     let before : AreFrames h.before = are_frames law 0 h.before h.accepted in
     let f : IsFrame h.item (end_call number status) = (law h.item (end_call number status)).1 h.bytes (as_step _ h.item (end_call number status) h.asks) in
@@ -105,17 +108,21 @@ has_end all law input number status h =
     record {
       before = before.steps;
       rest = behind;
-      among = joined input (h.item ++ behind) behind before.steps (end_call number status ∷ []) front (one_framed (h.item ++ behind) h.item behind (end_call number status) refl f);
+      among = joined input (h.item ++ behind) behind before.steps (end_call number status ∷ []) front
+          (one_framed (h.item ++ behind) h.item behind (end_call number status) refl f);
       few = omega (arith, leb-false 65536 (0 + length h.before) (few_by (leb 65536 (0 + length h.before)) (step_of h.item) _ h.asks), before.count);
     }
 
 -- ---- after the frames
 
-pub by_ending : (tells : Bool) (input : List ℕ) (ending : Ending FrameFault) (code : Code) → code ≡ ending_status ending → (number status : ℕ) → IsStatusOf code number status → IsEndOfRun tells input number status
+pub by_ending : (tells : Bool) (input : List ℕ) (ending : Ending FrameFault) (code : Code) → code ≡ ending_status ending → (number status : ℕ)
+    → IsStatusOf code number status → IsEndOfRun tells input number status
 by_ending tells input ending code e number status is told = inl (inl (ending, is ∙ ap number_of e))
 
-pub by_stop : (tells : Bool) (input : List ℕ) (stop : Stop) (code : Code) → code ≡ stop_status stop → (number status : ℕ) → IsStatusOf code number status → IsEndOfRun tells input number status
+pub by_stop : (tells : Bool) (input : List ℕ) (stop : Stop) (code : Code) → code ≡ stop_status stop → (number status : ℕ) → IsStatusOf code number status
+    → IsEndOfRun tells input number status
 by_stop tells input stop code e number status is told = inl (inr (stop, is ∙ ap number_of e))
 
-pub by_frame : AllAreLookedAt → ReadsTable → (tells : Bool) (input : List ℕ) (number status : ℕ) → IsEndAmong looked frame_asked tells 0 input number status → IsEndOfRun tells input number status
+pub by_frame : AllAreLookedAt → ReadsTable → (tells : Bool) (input : List ℕ) (number status : ℕ) → IsEndAmong looked frame_asked tells 0 input number status
+    → IsEndOfRun tells input number status
 by_frame all law tells input number status has told = inr (has_end all law input number status (has told))

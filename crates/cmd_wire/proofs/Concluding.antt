@@ -26,7 +26,8 @@ use Rattle.cmd_wire.proofs.Wording.{answers_all, completes, completes_not, frame
 
 -- nothing comes after the answers of the implicit ends
 module _ (players : List Player) (ending : Ending FrameFault) (n : ℕ) (s t : RunState) (p q : SinkState) where
-  closes_to : (result : Result (Unit {0}) Stop) (whole others : List Closing) (part : List ℕ) → EndsTo answer_of nothing_last players ending n result s t whole others part
+  closes_to : (result : Result (Unit {0}) Stop) (whole others : List Closing) (part : List ℕ)
+      → EndsTo answer_of nothing_last players ending n result s t whole others part
       → ClosesTo players (ending_status ending) result s t whole others part
   closes_to (Ok done) whole others part to = to
   closes_to (Err stop) whole [] part to =
@@ -34,7 +35,8 @@ module _ (players : List Player) (ending : Ending FrameFault) (n : ℕ) (s t : R
       absurd cc
   closes_to (Err stop) whole (c ∷ cs) part to = to
 
-  closes : (result : Result (Unit {0}) Stop) → EndsWith answer_of nothing_last players ending n result s t p q → Closes players (ending_status ending) result s t p q
+  closes : (result : Result (Unit {0}) Stop) → EndsWith answer_of nothing_last players ending n result s t p q
+      → Closes players (ending_status ending) result s t p q
   closes result e = record {
     whole = e.whole;
     others = e.others;
@@ -51,7 +53,8 @@ pub runs_frames : BytesSpell → ((setting : Setting) → RunIsOfSteps (answers 
     → (setting : Setting) (result : Result (Ending FrameFault) Stop) (start end : RunState) (x y : SourceState) (p q : SinkState)
     → RunsOrStops looked frame_asked answer_of nothing_last frame_step Fails setting result start end x y p q → RunsAnswered setting result start end x y p q
 runs_frames spell steps served setting (Ok ending) start end x y p q r =
-    let closed : Closes setting.players (ending_status ending) (Ok tt) r.last end r.between q = closes setting.players ending r.items r.last end r.between q (Ok tt) r.ends in
+    let closed : Closes setting.players (ending_status ending) (Ok tt) r.last end r.between q =
+            closes setting.players ending r.items r.last end r.between q (Ok tt) r.ends in
     record {
       told = ended setting start x y p ending r.items r.last end r.between q r.serves.runs tt closed;
       answered = answers_all setting spell (steps setting) start x y p ending r.items r.last end r.between q r.serves.runs r.takes tt closed;
@@ -61,10 +64,12 @@ runs_frames spell steps served setting (Err stop) start end x y p q (inl r) = re
   answered = inl (stops_among setting (served setting) start r.last end x y p q stop r.items r.serves.runs r.takes r.stops.closed);
 }
 runs_frames spell steps served setting (Err stop) start end x y p q (inr r) =
-    let closed : Closes setting.players (ending_status r.ending) (Err stop) r.last r.middle r.between q = closes setting.players r.ending r.items r.last r.middle r.between q (Err stop) r.ends in
+    let closed : Closes setting.players (ending_status r.ending) (Err stop) r.last r.middle r.between q =
+            closes setting.players r.ending r.items r.last r.middle r.between q (Err stop) r.ends in
     record {
       told = broken setting start x y p r.ending r.items r.last r.middle end r.between q r.serves.runs stop closed r.stops.closed;
-      answered = inr (stops_behind setting spell (steps setting) start x y p r.ending r.items r.last end r.between q r.serves.runs r.takes stop r.middle closed r.stops.closed);
+      answered = inr (stops_behind setting spell (steps setting) start x y p r.ending r.items r.last end r.between q r.serves.runs r.takes stop r.middle closed
+          r.stops.closed);
     }
 
 -- if only the source is

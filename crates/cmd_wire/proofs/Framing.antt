@@ -24,7 +24,8 @@ steps : (setting : Setting) (n : ℕ) (s : RunState) (frame : List ℕ) → fram
 unfolding step_at
 steps setting n s frame = step_by setting (leb 65536 n) s (step_of frame)
 
-read_by : (many : Bool) (found : Option Step) → cond many (Err TooManyFrames) (called call_read tt found) ≡ read_as (cond many (Err TooManyFrames) (framed found))
+read_by : (many : Bool) (found : Option Step) → cond many (Err TooManyFrames) (called call_read tt found)
+    ≡ read_as (cond many (Err TooManyFrames) (framed found))
 read_by true found = refl
 read_by false None = refl
 read_by false (Some step) = refl

@@ -16,16 +16,21 @@ use Rattle.cmd_wire.specs.Whole.{RunsFrames, ending_status}
 
 module _ (setting : Setting) (start : RunState) (x y : SourceState) (p : SinkState) where
   -- it stops among the frames
-  pub stopped : (stop : Stop) (frames : ℕ) (last end : RunState) (q : SinkState) → Runs looked (step_at (answers setting)) (Fails setting) (Err stop) frames start last x y p q
+  pub stopped : (stop : Stop) (frames : ℕ) (last end : RunState) (q : SinkState)
+      → Runs looked (step_at (answers setting)) (Fails setting) (Err stop) frames start last x y p q
       → end ≡ all_closed setting.players (stop_status stop) last → RunsFrames setting (Err stop) start end x y p q
   stopped stop frames last end q r e = record { served = Err stop; frames = frames; last = last; between = q; runs = r; behind = (refl, e, refl) }
 
   -- all frames are answered
-  pub ended : (ending : Ending FrameFault) (frames : ℕ) (last end : RunState) (between q : SinkState) → Runs looked (step_at (answers setting)) (Fails setting) (Ok ending) frames start last x y p between
+  pub ended : (ending : Ending FrameFault) (frames : ℕ) (last end : RunState) (between q : SinkState)
+      → Runs looked (step_at (answers setting)) (Fails setting) (Ok ending) frames start last x y p between
       → (done : Unit {0}) → Closes setting.players (ending_status ending) (Ok done) last end between q → RunsFrames setting (Ok ending) start end x y p q
   ended ending frames last end between q r done c = record { served = Ok ending; frames = frames; last = last; between = between; runs = r; behind = (refl, c) }
 
   -- it stops after the frames
-  pub broken : (ending : Ending FrameFault) (frames : ℕ) (last middle end : RunState) (between q : SinkState) → Runs looked (step_at (answers setting)) (Fails setting) (Ok ending) frames start last x y p between
-      → (stop : Stop) → Closes setting.players (ending_status ending) (Err stop) last middle between q → end ≡ all_closed setting.players (stop_status stop) middle → RunsFrames setting (Err stop) start end x y p q
-  broken ending frames last middle end between q r stop c e = record { served = Ok ending; frames = frames; last = last; between = between; runs = r; behind = (middle, c, e) }
+  pub broken : (ending : Ending FrameFault) (frames : ℕ) (last middle end : RunState) (between q : SinkState)
+      → Runs looked (step_at (answers setting)) (Fails setting) (Ok ending) frames start last x y p between
+      → (stop : Stop) → Closes setting.players (ending_status ending) (Err stop) last middle between q
+          → end ≡ all_closed setting.players (stop_status stop) middle → RunsFrames setting (Err stop) start end x y p q
+  broken ending frames last middle end between q r stop c e = record { served = Ok ending; frames = frames; last = last; between = between; runs = r;
+      behind = (middle, c, e) }

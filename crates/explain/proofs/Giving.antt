@@ -19,7 +19,8 @@ use Rattle.cmd_audit.specs.declared.transcript.Transcript.{Transcript}
 use Rattle.cmd_audit.specs.declared.transcript.Transcript.TheVariants.{Whole, TooLong, Unread}
 use Rattle.explain.specs.Explained.{Explains, ExplainsBy, IsExplained, OrUnread, Written, explained_of, refused_explained, unread_explained}
 use Rattle.cmd_audit.specs.Transcript.{IsRead, IsShort, is_unread}
-use Rattle.explain.specs.Program.{Answers, Asked, Ends, Exits, ExplainsIf, ExplainsInput, ExplainsRead, IsOutputOfInput, IsOutputOfRead, too_long_written, usage_written}
+use Rattle.explain.specs.Program.{Answers, Asked, Ends, Exits, ExplainsIf, ExplainsInput, ExplainsRead, IsOutputOfInput, IsOutputOfRead}
+use Rattle.explain.specs.Program.{too_long_written, usage_written}
 
 -- ---- what was read
 
@@ -32,7 +33,8 @@ module _ (old new : VaultState) (root service : List ℕ) (before now : ℕ) whe
       (subst (λ (l : List ℕ). Explains (λ w. IsExplained e w) old root service l new) same is))
 
   pub given_by : {E : Type 0} (r : Result Output E) (report : Transcript) (left : List ℕ)
-      → IsRead report left → IsShort report → RisesIf (is_unread report) before now → IfOk r (λ e. ExplainsRead (λ w. IsExplained e w) report old root service new)
+      → IsRead report left → IsShort report → RisesIf (is_unread report) before now
+          → IfOk r (λ e. ExplainsRead (λ w. IsExplained e w) report old root service new)
       → IfOk r (λ e. ExplainsInput (λ w. IsExplained e w) old root service left new before now)
   given_by (Ok e) (Whole text) left read short rises is = whole_input e text left read short is
   given_by (Ok e) TooLong left read short rises is =
@@ -40,7 +42,8 @@ module _ (old new : VaultState) (root service : List ℕ) (before now : ℕ) whe
   given_by (Ok e) Unread left read short rises is = inr (is, rises)
   given_by (Err x) report left read short rises is = tt
 
-pub shown_input : {E : Type 0} (r : Result Output E) (report : Transcript) (input_before input_now before now : ℕ) → RisesIf (is_unread report) input_before input_now
+pub shown_input : {E : Type 0} (r : Result Output E) (report : Transcript) (input_before input_now before now : ℕ)
+    → RisesIf (is_unread report) input_before input_now
     → IfOk r (λ e. IsOutputOfRead e report before now) → IfOk r (λ e. IsOutputOfInput e input_before input_now before now)
 shown_input (Ok e) report input_before input_now before now rises shows = record { report = report; read = rises; shown = shows }
 shown_input (Err x) report input_before input_now before now rises shows = tt
@@ -89,7 +92,8 @@ module _ (P Q : Written → Type 0) (also : (w : Written) → P w → Q w) where
   answers_too None old input new before now p = also usage_written p
   answers_too (Some words) old input new before now p = by_input old words.root words.service input new before now p
 
-pub ends_so : (status : ℕ) (e : Output) (words : Option Asked) (old : VaultState) (input : List ℕ) (new : VaultState) (before now : ℕ) (out_old out_new : SinkState)
+pub ends_so : (status : ℕ) (e : Output) (words : Option Asked) (old : VaultState) (input : List ℕ) (new : VaultState) (before now : ℕ)
+    (out_old out_new : SinkState)
     → Answers (λ w. IsExplained e w) words old input new before now → ((w : Written) → IsExplained e w → Exits status w out_old out_new)
     → Ends status words old input new before now out_old out_new
 ends_so status e words old input new before now out_old out_new given exits =

@@ -28,7 +28,8 @@ module _ (input_before input_now before now : ℕ) where
     unwritten = λ six. not6 (sym is ∙ six);
   }
 
-  unread_status : (place : Asked) (status : ℕ) → status ≡ 5 → Rose input_before input_now ⊎ Rose before now → Causes status (Some place) input_before input_now before now
+  unread_status : (place : Asked) (status : ℕ) → status ≡ 5 → Rose input_before input_now ⊎ Rose before now
+      → Causes status (Some place) input_before input_now before now
   unread_status place status is cause = record {
     usage = λ none. absurd cc;
     no_usage = λ two. absurd (omega (arith, is, two));
@@ -48,13 +49,16 @@ module _ (input_before input_now before now : ℕ) where
 
   explained_status : (place : Asked) (status : ℕ) (line : Option ℕ) (text : List ℕ) → status ≡ (explained_by line text).status
       → Causes status (Some place) input_before input_now before now
-  explained_status place status None text is = other_status place 0 status is (λ e. omega (arith, e)) (λ e. omega (arith, e)) (λ e. omega (arith, e)) (λ e. omega (arith, e))
-  explained_status place status (Some line) text is = other_status place 11 status is (λ e. omega (arith, e)) (λ e. omega (arith, e)) (λ e. omega (arith, e)) (λ e. omega (arith, e))
+  explained_status place status None text is = other_status place 0 status is (λ e. omega (arith, e)) (λ e. omega (arith, e)) (λ e. omega (arith, e))
+      (λ e. omega (arith, e))
+  explained_status place status (Some line) text is = other_status place 11 status is (λ e. omega (arith, e)) (λ e. omega (arith, e)) (λ e. omega (arith, e))
+      (λ e. omega (arith, e))
 
   stacks_status : (place : Asked) (e : Output) (text : List ℕ) (stacks : Stacks) → IsOutputBy e stacks text before now
       → Causes e.status (Some place) input_before input_now before now
   stacks_status place e text stacks (inl by) =
-      explained_status place e.status (differs stacks (lines_read read_line text)) (explained_from stacks by.sources all_shut [] (bare_lines text)) by.explained.status
+      explained_status place e.status (differs stacks (lines_read read_line text)) (explained_from stacks by.sources all_shut [] (bare_lines text))
+          by.explained.status
   stacks_status place e text stacks (inr failure) = unread_status place e.status failure.nothing.status (inr failure.failed)
 
   shown_status : (place : Asked) (e : Output) (text : List ℕ) → IsOutputOf e text before now → Causes e.status (Some place) input_before input_now before now

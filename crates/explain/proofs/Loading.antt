@@ -24,7 +24,8 @@ use Rattle.explain.specs.Explained.{Explains, ExplainsBy, IsExplained, IsExplain
 
 -- ---- the second reading
 
-pub told_with : {E : Type 0} (r : Result Output E) (found : Result Sources (Refuse Failed)) (stacks : Stacks) (sources : Sources) (report : List ℕ) (vault : VaultState)
+pub told_with : {E : Type 0} (r : Result Output E) (found : Result Sources (Refuse Failed)) (stacks : Stacks) (sources : Sources) (report : List ℕ)
+    (vault : VaultState)
     → IfOk found (λ s. s ≡ sources) → IfNamed found (λ f. IsTrue (ends_failing vault))
     → IfOk r (λ e. IsExplainedWith e stacks found report) → IfOk r (λ e. OrUnread (λ w. IsExplained e w) (explained_of stacks sources report) vault)
 told_with (Ok e) (Ok s) stacks sources report vault same planned is =
@@ -50,7 +51,8 @@ sources_stay : (root service : List ℕ) (first mid : VaultState) → OnlyCalls 
     → sources_at (texts_of root mid) (has_folder mid root) service ≡ sources_at (texts_of root first) (has_folder first root) service
 sources_stay root service first mid only = ap (λ (v : VaultState). sources_at (texts_of root v) (has_folder v root) service) only
 
-by_load : {E : Type 0} (r : Result Output E) (trees : Trees) (looked : Result Counts Stop) (mid new : VaultState) (stack : RuleType → Stack) (found sources : Sources) (report : List ℕ)
+by_load : {E : Type 0} (r : Result Output E) (trees : Trees) (looked : Result Counts Stop) (mid new : VaultState) (stack : RuleType → Stack)
+    (found sources : Sources) (report : List ℕ)
     → LoadsTrees trees looked mid stack → found ≡ sources → IfOk r (λ e. OrUnread (λ w. IsExplained e w) (explained_of (stacks_in trees) found report) new)
     → IfOk r (λ e. ExplainsBy (λ w. IsExplained e w) looked stack sources report new)
 by_load (Ok e) trees looked mid new stack found sources report loads same is =
@@ -68,7 +70,8 @@ loaded_so r trees first mid new root service report loads stays is =
     (sources_at (texts_of root mid) (has_folder mid root) service) (sources_at (texts_of root first) (has_folder first root) service) report
     loads (sources_stay root service first mid stays) is
 
-refused_by_load : {E : Type 0} (r : Result Output E) (stop : Refuse LoadFault) (looked : Result Counts Stop) (mid : VaultState) (stack : RuleType → Stack) (sources : Sources) (report : List ℕ)
+refused_by_load : {E : Type 0} (r : Result Output E) (stop : Refuse LoadFault) (looked : Result Counts Stop) (mid : VaultState) (stack : RuleType → Stack)
+    (sources : Sources) (report : List ℕ)
     → LoadsBy (Err stop) looked mid stack → IfOk r (λ e. IsRefused e stop) → IfOk r (λ e. ExplainsBy (λ w. IsExplained e w) looked stack sources report mid)
 refused_by_load (Ok e) (Named fault) looked mid stack sources report fails is =
     subst (λ (l : Result Counts Stop). ExplainsBy (λ w. IsExplained e w) l stack sources report mid) (sym fails) is
@@ -89,7 +92,8 @@ pub loaded_shows : {E : Type 0} (r : Result Output E) (stacks : Stacks) (report 
 loaded_shows (Ok e) stacks report before mid now same shows = inl (stacks, subst (λ (b : ℕ). IsOutputBy e stacks report b now) same shows)
 loaded_shows (Err x) stacks report before mid now same shows = tt
 
-pub refused_shows : {E : Type 0} (r : Result Output E) (stop : Refuse LoadFault) (report : List ℕ) (before now : ℕ) → CountsFaults {A = Trees} (Err stop) before now
+pub refused_shows : {E : Type 0} (r : Result Output E) (stop : Refuse LoadFault) (report : List ℕ) (before now : ℕ)
+    → CountsFaults {A = Trees} (Err stop) before now
     → IfOk r (λ e. IsRefused e stop) → IfOk r (λ e. IsOutputOf e report before now)
 refused_shows (Ok e) (Named fault) report before now counts is = inr (record { fault = fault; refused = is; counts = counts })
 refused_shows (Ok e) NoMemory report before now counts is = absurd is

@@ -15,7 +15,8 @@ on_ok (Ok x) f p = f p
 on_ok (Err e) f p = tt
 
 -- both passes, if no codes of a first one are held
-pub both_left : {A E : Type 0} (stacks : Stacks) (sources : Sources) (number : ℕ) (past : List Code) (first : Option KeptAnswers) (h : Held) (told : Telling) (old new : List ℕ) (r : Result A E)
+pub both_left : {A E : Type 0} (stacks : Stacks) (sources : Sources) (number : ℕ) (past : List Code) (first : Option KeptAnswers) (h : Held) (told : Telling)
+    (old new : List ℕ) (r : Result A E)
     → first ≡ None → OnOk r ((any : Held) → new ≡ old ++ check_text stacks sources number past any told)
     → OnOk r (new ≡ old ++ change_text stacks sources number past first h told)
 both_left stacks sources number past first h told old new r is adds =

@@ -1,5 +1,6 @@
 -- The rows of a walk over a list, node by node.
-use Rattle.std.proofs.Common.{◌≡◌, ℕ, zero, suc, ◌+◌, ◌-◌, ◌<◌, Bool, true, false, if◌then◌else◌, ◌≤◌, List, [], ◌∷◌, ◌++◌, length, drop, length-drop, None, refl, sym, ◌∙◌, ap, arith, add-zero, append_assoc, append-nil}
+use Rattle.std.proofs.Common.{◌≡◌, ℕ, zero, suc, ◌+◌, ◌-◌, ◌<◌, Bool, true, false, if◌then◌else◌, ◌≤◌, List, [], ◌∷◌, ◌++◌, length, drop}
+use Rattle.std.proofs.Common.{length-drop, None, refl, sym, ◌∙◌, ap, arith, add-zero, append_assoc, append-nil}
 use Rattle.pam_base.specs.declared.code.Code.{Code}
 use Rattle.control_words.specs.declared.control.Action.{Action}
 use Rattle.control_words.specs.declared.nodes.Node.{Node, Line, Sub, Sub'}
@@ -69,7 +70,8 @@ over_sub why first at all here inner rest before shown new was is adds =
 
 module _ {State : Type 0} (kind : PassKind) (serve : Serving State) where
   -- a walk over the whole list of which `here` is left, and whose rows so far are these
-  pub record IsShowing (all : Stack) (first : ℕ) (entry : Opinion) (start : State) (reason : Fate) (before : List Row) (here : Stack) (skip at : ℕ) (opinion : Opinion) (state : State) (why : Fate) (shown : List Row) : Type 0 where
+  pub record IsShowing (all : Stack) (first : ℕ) (entry : Opinion) (start : State) (reason : Fate) (before : List Row) (here : Stack) (skip at : ℕ)
+      (opinion : Opinion) (state : State) (why : Fate) (shown : List Row) : Type 0 where
     pub shows : shown ++ rows kind serve skip why here (at + 1) entry opinion state ≡ before ++ rows kind serve 0 reason all (first + 1) entry entry start
 
   skipped : (node : Node) (rest : Stack) (skip at : ℕ) (entry opinion : Opinion) (state : State) (why : Fate)
@@ -81,7 +83,8 @@ module _ {State : Type 0} (kind : PassKind) (serve : Serving State) where
       ap (λ n. rows_over why at inner ++ rows kind serve skip why rest (at + n) entry opinion state) (sym (add-zero (lines_in inner)))
       ∙ ap (λ (xs : List Row). xs ++ rows kind serve skip why rest (at + (lines_in inner + 0)) entry opinion state) (sym (append-nil (rows_over why at inner)))
 
-  pub showing_skip : (all : Stack) (first : ℕ) (entry : Opinion) (start : State) (reason : Fate) (before : List Row) (here rest : Stack) (node : Node) (skip at skip' at' : ℕ) (opinion : Opinion) (state : State) (why : Fate) (shown new : List Row)
+  pub showing_skip : (all : Stack) (first : ℕ) (entry : Opinion) (start : State) (reason : Fate) (before : List Row) (here rest : Stack) (node : Node)
+      (skip at skip' at' : ℕ) (opinion : Opinion) (state : State) (why : Fate) (shown new : List Row)
       → IsShowing all first entry start reason before here skip at opinion state why shown → here ≡ node_on node rest → 0 < skip → skip' ≡ skip - 1
       → at' ≡ at + lines_in (node_on node none) → new ≡ shown ++ rows_over why (at + 1) (node_on node none)
       → IsShowing all first entry start reason before rest skip' at' opinion state why new
@@ -119,7 +122,8 @@ module _ {State : Type 0} (kind : PassKind) (serve : Serving State) where
       let new : Opinion = acted kind action served.answer served.deciding entry opinion in
       rows kind serve 0 why (line rule rest) at entry opinion old
       ≡ row_of at rule (Ran served.answer served.deciding action (new_or_overrun action (count rest) new))
-      ∷ rows kind serve (skip_of (next_of action (count rest) new) (count rest)) (why_by (next_of action (count rest) new) at) rest (at + 1) entry (new_or_overrun action (count rest) new) served.state
+      ∷ rows kind serve (skip_of (next_of action (count rest) new) (count rest)) (why_by (next_of action (count rest) new) at) rest (at + 1) entry
+          (new_or_overrun action (count rest) new) served.state
   line_runs rule rest at entry opinion old why is = rw is refl
 
   line_is : (rule : Rule) (rest : Stack) (at : ℕ) (entry opinion : Opinion) (old new : State) (why : Fate) (answer deciding : Code)
@@ -142,29 +146,39 @@ module _ {State : Type 0} (kind : PassKind) (serve : Serving State) where
       → row ≡ row_of at rule (Ran answer deciding action turn.opinion) → after ≡ shown ++ row ∷ []
       → shown ++ rows kind serve 0 why (line rule rest) at entry opinion old
       ≡ after ++ rows kind serve turn.skip turn.why rest (at + 1) entry turn.opinion new
-  runs rule rest at entry opinion old new why answer deciding action left acts turn row shown after served action_is acts_is counted opinion_is skip_is why_is made adds =
-      ap (λ (xs : List Row). shown ++ xs) (line_is rule rest at entry opinion old new why answer deciding action left acts turn served action_is acts_is counted opinion_is skip_is why_is)
-      ∙ sym (append_assoc shown (row_of at rule (Ran answer deciding action turn.opinion) ∷ []) (rows kind serve turn.skip turn.why rest (at + 1) entry turn.opinion new))
+  runs rule rest at entry opinion old new why answer deciding action left acts turn row shown after served action_is acts_is counted opinion_is skip_is
+      why_is made adds =
+      ap (λ (xs : List Row). shown ++ xs) (line_is rule rest at entry opinion old new why answer deciding action left acts turn served action_is acts_is counted
+          opinion_is skip_is why_is)
+      ∙ sym (append_assoc shown (row_of at rule (Ran answer deciding action turn.opinion) ∷ [])
+          (rows kind serve turn.skip turn.why rest (at + 1) entry turn.opinion new))
       ∙ ap (λ (r : Row). (shown ++ r ∷ []) ++ rows kind serve turn.skip turn.why rest (at + 1) entry turn.opinion new) (sym made)
       ∙ ap (λ (xs : List Row). xs ++ rows kind serve turn.skip turn.why rest (at + 1) entry turn.opinion new) (sym adds)
 
-  pub showing_line : (all : Stack) (first : ℕ) (entry : Opinion) (start : State) (reason : Fate) (before : List Row) (here rest : Stack) (rule : Rule) (skip at at' left' : ℕ) (opinion : Opinion) (state new : State) (why : Fate) (turn : Turn) (shown after : List Row)
-      → IsShowing all first entry start reason before here skip at opinion state why shown → here ≡ line rule rest → skip ≡ 0 → at' ≡ at + 1 → count rest ≡ left'
-      → (count rest ≡ left' → shown ++ rows kind serve 0 why (line rule rest) (at + 1) entry opinion state ≡ after ++ rows kind serve turn.skip turn.why rest (at + 1 + 1) entry turn.opinion new)
+  pub showing_line : (all : Stack) (first : ℕ) (entry : Opinion) (start : State) (reason : Fate) (before : List Row) (here rest : Stack) (rule : Rule)
+      (skip at at' left' : ℕ) (opinion : Opinion) (state new : State) (why : Fate) (turn : Turn) (shown after : List Row)
+      → IsShowing all first entry start reason before here skip at opinion state why shown → here ≡ line rule rest → skip ≡ 0 → at' ≡ at + 1
+          → count rest ≡ left'
+      → (count rest ≡ left' → shown ++ rows kind serve 0 why (line rule rest) (at + 1) entry opinion state
+          ≡ after ++ rows kind serve turn.skip turn.why rest (at + 1 + 1) entry turn.opinion new)
       → IsShowing all first entry start reason before rest turn.skip at' turn.opinion new turn.why after
-  showing_line all first entry start reason before here rest rule skip at at' left' opinion state new why turn shown after was is none_over further counted goes = record {
+  showing_line all first entry start reason before here rest rule skip at at' left' opinion state new why turn shown after was is none_over further counted
+      goes = record {
     shows = ap (λ n. after ++ rows kind serve turn.skip turn.why rest (n + 1) entry turn.opinion new) further ∙ sym (goes counted)
         ∙ ap (λ (s : Stack). shown ++ rows kind serve 0 why s (at + 1) entry opinion state) (sym is)
         ∙ ap (λ n. shown ++ rows kind serve n why here (at + 1) entry opinion state) (sym none_over) ∙ was.shows;
   }
 
   -- a line at which the walk waits, and the lines that weren't reached
-  pub showing_waits : (all : Stack) (first : ℕ) (entry : Opinion) (start : State) (reason : Fate) (before : List Row) (here rest left : Stack) (rule : Rule) (skip at at' left' : ℕ) (opinion : Opinion) (state : State) (why : Fate) (shown after final : List Row)
-      → IsShowing all first entry start reason before here skip at opinion state why shown → here ≡ line rule rest → skip ≡ 0 → count rest ≡ left' → at' ≡ at + 1 → left ≡ rest
+  pub showing_waits : (all : Stack) (first : ℕ) (entry : Opinion) (start : State) (reason : Fate) (before : List Row) (here rest left : Stack) (rule : Rule)
+      (skip at at' left' : ℕ) (opinion : Opinion) (state : State) (why : Fate) (shown after final : List Row)
+      → IsShowing all first entry start reason before here skip at opinion state why shown → here ≡ line rule rest → skip ≡ 0 → count rest ≡ left'
+          → at' ≡ at + 1 → left ≡ rest
       → (count rest ≡ left' → shown ++ rows kind serve 0 why (line rule rest) (at + 1) entry opinion state ≡ after ++ rows_over Unreached (at + 1 + 1) rest)
       → final ≡ after ++ rows_over Unreached (at' + 1) left
       → final ≡ before ++ rows kind serve 0 reason all (first + 1) entry entry start
-  showing_waits all first entry start reason before here rest left rule skip at at' left' opinion state why shown after final was is none_over counted further left_is goes adds =
+  showing_waits all first entry start reason before here rest left rule skip at at' left' opinion state why shown after final was is none_over counted further
+      left_is goes adds =
       adds ∙ ap (λ n. after ++ rows_over Unreached (n + 1) left) further
       ∙ ap (λ (s : Stack). after ++ rows_over Unreached (at + 1 + 1) s) left_is ∙ sym (goes counted)
       ∙ ap (λ (s : Stack). shown ++ rows kind serve 0 why s (at + 1) entry opinion state) (sym is)
@@ -172,12 +186,14 @@ module _ {State : Type 0} (kind : PassKind) (serve : Serving State) where
 
   -- ---- a substack
 
-  sub_goes : (inner rest : Stack) (at : ℕ) (entry opinion inside : Opinion) (state new : State) (why : Fate) → walk kind serve 0 inner at opinion opinion state ≡ walked inside new
+  sub_goes : (inner rest : Stack) (at : ℕ) (entry opinion inside : Opinion) (state new : State) (why : Fate)
+      → walk kind serve 0 inner at opinion opinion state ≡ walked inside new
       → rows kind serve 0 why (sub inner rest) at entry opinion state
       ≡ rows kind serve 0 why inner at opinion opinion state ++ rows kind serve 0 why rest (at + lines_in inner) entry inside new
   sub_goes inner rest at entry opinion inside state new why is = rw is refl
 
-  pub showing_sub : (all : Stack) (first : ℕ) (entry : Opinion) (start : State) (reason : Fate) (before : List Row) (here inner rest : Stack) (skip at at' : ℕ) (opinion inside : Opinion) (state new : State) (why : Fate) (shown after : List Row)
+  pub showing_sub : (all : Stack) (first : ℕ) (entry : Opinion) (start : State) (reason : Fate) (before : List Row) (here inner rest : Stack) (skip at at' : ℕ)
+      (opinion inside : Opinion) (state new : State) (why : Fate) (shown after : List Row)
       → IsShowing all first entry start reason before here skip at opinion state why shown → here ≡ sub inner rest → skip ≡ 0 → at' ≡ at + lines_in inner
       → walk kind serve 0 inner (at + 1) opinion opinion state ≡ walked inside new
       → after ≡ shown ++ rows kind serve 0 why inner (at + 1) opinion opinion state
@@ -197,13 +213,16 @@ module _ {State : Type 0} (kind : PassKind) (serve : Serving State) where
   on_halt : (inside : Walked State) (own over behind : List Row) → inside.stopped ≡ true → own ++ (if inside.stopped then over else behind) ≡ own ++ over
   on_halt inside own over behind is = ap (λ (b : Bool). own ++ (if b then over else behind)) is
 
-  pub sub_waits : (all : Stack) (first : ℕ) (entry : Opinion) (start : State) (reason : Fate) (before : List Row) (here inner rest left : Stack) (skip at at' : ℕ) (opinion : Opinion) (state new : State) (why : Fate) (shown after final : List Row)
-      → IsShowing all first entry start reason before here skip at opinion state why shown → here ≡ sub inner rest → skip ≡ 0 → at' ≡ at + lines_in inner → left ≡ rest
+  pub sub_waits : (all : Stack) (first : ℕ) (entry : Opinion) (start : State) (reason : Fate) (before : List Row) (here inner rest left : Stack)
+      (skip at at' : ℕ) (opinion : Opinion) (state new : State) (why : Fate) (shown after final : List Row)
+      → IsShowing all first entry start reason before here skip at opinion state why shown → here ≡ sub inner rest → skip ≡ 0 → at' ≡ at + lines_in inner
+          → left ≡ rest
       → WalkEnds (walk kind serve 0 inner (at + 1) opinion opinion state) None new
       → after ≡ shown ++ rows kind serve 0 why inner (at + 1) opinion opinion state
       → final ≡ after ++ rows_over Unreached (at' + 1) left
       → final ≡ before ++ rows kind serve 0 reason all (first + 1) entry entry start
-  sub_waits all first entry start reason before here inner rest left skip at at' opinion state new why shown after final was is none_over further left_is comes adds all_added =
+  sub_waits all first entry start reason before here inner rest left skip at at' opinion state new why shown after final was is none_over further left_is comes
+      adds all_added =
       let place : at' + 1 ≡ at + 1 + lines_in inner = omega (arith, further) in
       let inside : Walked State = walk kind serve 0 inner (at + 1) opinion opinion state in
       let own : List Row = rows kind serve 0 why inner (at + 1) opinion opinion state in
@@ -211,7 +230,8 @@ module _ {State : Type 0} (kind : PassKind) (serve : Serving State) where
       all_added ∙ ap (λ n. after ++ rows_over Unreached n left) place
       ∙ ap (λ (s : Stack). after ++ rows_over Unreached (at + 1 + lines_in inner) s) left_is
       ∙ ap (λ (xs : List Row). xs ++ over) adds ∙ append_assoc shown own over
-      ∙ ap (λ (xs : List Row). shown ++ xs) (sym (on_halt inside own over (rows kind serve 0 why rest (at + 1 + lines_in inner) entry inside.opinion inside.state) (ap (λ (v : Walked State). v.stopped) comes)))
+      ∙ ap (λ (xs : List Row). shown ++ xs) (sym (on_halt inside own over
+          (rows kind serve 0 why rest (at + 1 + lines_in inner) entry inside.opinion inside.state) (ap (λ (v : Walked State). v.stopped) comes)))
       ∙ ap (λ (s : Stack). shown ++ rows kind serve 0 why s (at + 1) entry opinion state) (sym is)
       ∙ ap (λ n. shown ++ rows kind serve n why here (at + 1) entry opinion state) (sym none_over) ∙ was.shows
 
@@ -221,7 +241,8 @@ module _ {State : Type 0} (kind : PassKind) (serve : Serving State) where
   rows_none zero why at entry opinion state = refl
   rows_none (suc skip) why at entry opinion state = refl
 
-  pub showing_all : (all : Stack) (first : ℕ) (entry : Opinion) (start : State) (reason : Fate) (before : List Row) (here : Stack) (skip at : ℕ) (opinion : Opinion) (state : State) (why : Fate) (shown : List Row)
+  pub showing_all : (all : Stack) (first : ℕ) (entry : Opinion) (start : State) (reason : Fate) (before : List Row) (here : Stack) (skip at : ℕ)
+      (opinion : Opinion) (state : State) (why : Fate) (shown : List Row)
       → IsShowing all first entry start reason before here skip at opinion state why shown → here ≡ none
       → shown ≡ before ++ rows kind serve 0 reason all (first + 1) entry entry start
   showing_all all first entry start reason before here skip at opinion state why shown was is =

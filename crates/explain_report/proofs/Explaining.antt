@@ -1,5 +1,6 @@
 -- The text of a report, line after line.
-use Rattle.std.proofs.Common.{◌≡◌, ℕ, suc, ◌+◌, ◌-◌, ◌<◌, ◌≤◌, Bool, true, false, if◌then◌else◌, List, [], ◌∷◌, ◌++◌, map, length, get_or, Option, Some, None, refl, sym, ◌∙◌, ap, append_assoc, append-nil}
+use Rattle.std.proofs.Common.{◌≡◌, ℕ, suc, ◌+◌, ◌-◌, ◌<◌, ◌≤◌, Bool, true, false, if◌then◌else◌, List, [], ◌∷◌, ◌++◌, map, length, get_or}
+use Rattle.std.proofs.Common.{Option, Some, None, refl, sym, ◌∙◌, ap, append_assoc, append-nil}
 use Rattle.std.specs.Prelude.{string_bytes}
 use Rattle.std.specs.Option.{option_map}
 use Rattle.std.proofs.lemmas.List.{map-append}
@@ -59,7 +60,8 @@ module _ (stacks : Stacks) (sources : Sources) where
 
   -- ---- what is left to write
 
-  pub takes_told : (old new : Explainer) (form : Option Form) (line : Option Says) (number : ℕ) (visit : Option Seen) → option_map says_of form ≡ line → form ≡ Some (forms.Told number visit)
+  pub takes_told : (old new : Explainer) (form : Option Form) (line : Option Says) (number : ℕ) (visit : Option Seen) → option_map says_of form ≡ line
+      → form ≡ Some (forms.Told number visit)
       → string_bytes new.text ≡ string_bytes old.text → new.places.items ≡ old.places.items → new.told.items ≡ old.told.items ++ visit ∷ []
       → Takes stacks sources old line true new
   takes_told old new form line number visit read is text places told = λ lines.
@@ -84,19 +86,24 @@ module _ (stacks : Stacks) (sources : Sources) where
       ∙ append-nil (string_bytes old.text) ∙ sym text
 
   pub takes_fits : (old new : Explainer) (number : ℕ) (outcome : ReportedOutcome)
-      → string_bytes new.text ≡ string_bytes old.text ++ block_text stacks sources number (place_at (map place_of old.places.items) number) (visits_told (told_in old.told.items)) (result_of outcome)
-      → behind_block stacks (map place_of old.places.items) (block_of number (told_in old.told.items) (result_of outcome)) ≡ Some (map place_of new.places.items)
+      → string_bytes new.text ≡ string_bytes old.text ++ block_text stacks sources number (place_at (map place_of old.places.items) number)
+          (visits_told (told_in old.told.items)) (result_of outcome)
+      → behind_block stacks (map place_of old.places.items) (block_of number (told_in old.told.items) (result_of outcome))
+          ≡ Some (map place_of new.places.items)
       → new.told.items ≡ [] → Takes stacks sources old (Some (results number (result_of outcome))) true new
   takes_fits old new number outcome adds fits none = λ lines.
-      result_fits number (map place_of old.places.items) (map place_of new.places.items) (told_in old.told.items) (result_of outcome) (string_bytes old.text) (string_bytes new.text) lines adds fits
+      result_fits number (map place_of old.places.items) (map place_of new.places.items) (told_in old.told.items) (result_of outcome) (string_bytes old.text)
+          (string_bytes new.text) lines adds fits
       ∙ ap (λ (ts : List (Option Seen)). string_bytes new.text ++ explained_from stacks sources (map place_of new.places.items) (told_in ts) lines) (sym none)
 
   pub takes_differs : (old new : Explainer) (number : ℕ) (outcome : ReportedOutcome)
-      → string_bytes new.text ≡ string_bytes old.text ++ block_text stacks sources number (place_at (map place_of old.places.items) number) (visits_told (told_in old.told.items)) (result_of outcome)
+      → string_bytes new.text ≡ string_bytes old.text ++ block_text stacks sources number (place_at (map place_of old.places.items) number)
+          (visits_told (told_in old.told.items)) (result_of outcome)
       → behind_block stacks (map place_of old.places.items) (block_of number (told_in old.told.items) (result_of outcome)) ≡ None
       → Takes stacks sources old (Some (results number (result_of outcome))) false new
   takes_differs old new number outcome adds differs = λ lines.
-      result_differs number (map place_of old.places.items) (told_in old.told.items) (result_of outcome) (string_bytes old.text) (string_bytes new.text) lines adds differs
+      result_differs number (map place_of old.places.items) (told_in old.told.items) (result_of outcome) (string_bytes old.text) (string_bytes new.text) lines
+          adds differs
 
   -- ---- a stack call
 
@@ -104,7 +111,8 @@ module _ (stacks : Stacks) (sources : Sources) where
       → refused_text number ≡ called_text stacks sources number func code h vs
   call_refused number func code h vs is = ap (λ (b : Bool). if b then refused_text number else call_text stacks sources number func h (telling vs)) (sym is)
 
-  pub call_goes : (number : ℕ) (func : Func) (code : Code) (h : Held) (told : List (Option Seen)) → is_refused_change func code (visits_told (told_in told)) ≡ false
+  pub call_goes : (number : ℕ) (func : Func) (code : Code) (h : Held) (told : List (Option Seen))
+      → is_refused_change func code (visits_told (told_in told)) ≡ false
       → call_text stacks sources number func h (telling (visits_in told)) ≡ called_text stacks sources number func code h (visits_told (told_in told))
   call_goes number func code h told is =
       ap (λ (vs : List Visit). call_text stacks sources number func h (telling vs)) (sym (visits_are told))

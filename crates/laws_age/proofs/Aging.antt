@@ -1,5 +1,6 @@
 -- How an entry of shadow ages.
-use Rattle.std.proofs.Common.{◌≡◌, ◌⊎◌, inl, inr, ◌≤◌, ◌<◌, ◌+◌, ◌-◌, ◌==◌, ℕ, Bool, true, false, true≢false, nat_lt, if◌then◌else◌, Option, Some, None, refl, sym, ap, ◌∙◌, arith}
+use Rattle.std.proofs.Common.{◌≡◌, ◌⊎◌, inl, inr, ◌≤◌, ◌<◌, ◌+◌, ◌-◌, ◌==◌, ℕ, Bool, true, false, true≢false, nat_lt, if◌then◌else◌, Option}
+use Rattle.std.proofs.Common.{Some, None, refl, sym, ap, ◌∙◌, arith}
 use Rattle.std.proofs.lemmas.Bool.{eqb-true, leb-true, le-leb, le-ltb, ltb-true, lt-ltb}
 use Rattle.pam_base.specs.declared.code.Code.{Code}
 use Rattle.pam_base.specs.declared.code.Code.TheVariants as returns
@@ -33,12 +34,14 @@ later_past : (m age less more : ℕ) (inactive : Option ℕ) → less ≤ m → 
 later_past m age less more (Some days) a b e = later_lt (m + days) age (less + days) more (omega arith) b e
 later_past m age less more None a b e = e
 
-age_more : (age more : ℕ) (max less inactive : Option ℕ) → age ≤ more → is_at_most less max ≡ true → step (code_at_age age max inactive) ≤ step (code_at_age more less inactive)
+age_more : (age more : ℕ) (max less inactive : Option ℕ) → age ≤ more → is_at_most less max ≡ true
+    → step (code_at_age age max inactive) ≤ step (code_at_age more less inactive)
 age_more age more None less inactive a b = omega arith
 age_more age more (Some m) None inactive a b = absurd (true≢false (sym b))
 age_more age more (Some m) (Some l) inactive a b =
     let k : l ≤ m = leb-true l m b in
-    by_tests (is_past age m inactive) (nat_lt m age) (is_past more l inactive) (nat_lt l more) (later_past m age l more inactive k a) (later_lt m age l more k a)
+    by_tests (is_past age m inactive) (nat_lt m age) (is_past more l inactive) (nat_lt l more) (later_past m age l more inactive k a)
+        (later_lt m age l more k a)
 
 age_bound : (age : ℕ) (max inactive : Option ℕ) → step (code_at_age age max inactive) ≤ 2
 age_bound age None inactive = omega arith
@@ -60,7 +63,8 @@ change_bound_by true n a h = omega arith
 change_bound_by false true a h = omega arith
 change_bound_by false false a h = h
 
-change_more : (today later : ℕ) (last max less inactive : Option ℕ) → today ≤ later → is_at_most less max ≡ true → step (code_after_change today last max inactive) ≤ step (code_after_change later last less inactive)
+change_more : (today later : ℕ) (last max less inactive : Option ℕ) → today ≤ later → is_at_most less max ≡ true
+    → step (code_after_change today last max inactive) ≤ step (code_after_change later last less inactive)
 change_more today later None max less inactive a b = omega arith
 change_more today later (Some last) max less inactive a b =
     change_by (last == 0) (nat_lt today last) (nat_lt later last) (code_at_age (today - last) max inactive) (code_at_age (later - last) less inactive)
@@ -68,7 +72,8 @@ change_more today later (Some last) max less inactive a b =
 
 change_bound : (today : ℕ) (last max inactive : Option ℕ) → step (code_after_change today last max inactive) ≤ 2
 change_bound today None max inactive = omega arith
-change_bound today (Some last) max inactive = change_bound_by (last == 0) (nat_lt today last) (code_at_age (today - last) max inactive) (age_bound (today - last) max inactive)
+change_bound today (Some last) max inactive = change_bound_by (last == 0) (nat_lt today last) (code_at_age (today - last) max inactive)
+    (age_bound (today - last) max inactive)
 
 -- ---- by the day on which the account expires
 
@@ -98,15 +103,19 @@ same_max (Some m) = le-leb m m (omega arith)
 pub longer_maximum : LongerMaximum
 unfolding aged
 longer_maximum today entry more is =
-    aged_by (is_reached entry.expire today) (is_reached entry.expire today) (code_after_change today entry.last_change more entry.inactive) (code_after_change today entry.last_change entry.max entry.inactive) (λ e. e)
+    aged_by (is_reached entry.expire today) (is_reached entry.expire today) (code_after_change today entry.last_change more entry.inactive)
+        (code_after_change today entry.last_change entry.max entry.inactive) (λ e. e)
     (change_bound today entry.last_change more entry.inactive) (change_more today today entry.last_change more entry.max entry.inactive (omega arith) is)
 
 pub only_ages : OnlyAges
 unfolding aged
 only_ages today later entry is = (
-  aged_by (is_reached entry.expire today) (is_reached entry.expire later) (code_after_change today entry.last_change entry.max entry.inactive) (code_after_change later entry.last_change entry.max entry.inactive)
-      (reached_later entry.expire today later is) (change_bound today entry.last_change entry.max entry.inactive) (change_more today later entry.last_change entry.max entry.max entry.inactive is (same_max entry.max)),
-  aged_bound (is_reached entry.expire later) (code_after_change later entry.last_change entry.max entry.inactive) (change_bound later entry.last_change entry.max entry.inactive),
+  aged_by (is_reached entry.expire today) (is_reached entry.expire later) (code_after_change today entry.last_change entry.max entry.inactive)
+      (code_after_change later entry.last_change entry.max entry.inactive)
+      (reached_later entry.expire today later is) (change_bound today entry.last_change entry.max entry.inactive)
+          (change_more today later entry.last_change entry.max entry.max entry.inactive is (same_max entry.max)),
+  aged_bound (is_reached entry.expire later) (code_after_change later entry.last_change entry.max entry.inactive)
+      (change_bound later entry.last_change entry.max entry.inactive),
 )
 
 expires : (r : Bool) (a : Code) → r ≡ true → aged_code r a ≡ returns.AcctExpired
@@ -122,13 +131,16 @@ has_expired false a k e =
 pub accounts_expire : AccountsExpire
 unfolding aged
 accounts_expire today entry =
-    let from : is_reached entry.expire today ≡ true → aged today entry ≡ returns.AcctExpired = expires (is_reached entry.expire today) (code_after_change today entry.last_change entry.max entry.inactive) in
+    let from : is_reached entry.expire today ≡ true → aged today entry ≡ returns.AcctExpired =
+            expires (is_reached entry.expire today) (code_after_change today entry.last_change entry.max entry.inactive) in
     let before : aged today entry ≡ returns.AcctExpired → is_reached entry.expire today ≡ true =
-    has_expired (is_reached entry.expire today) (code_after_change today entry.last_change entry.max entry.inactive) (change_bound today entry.last_change entry.max entry.inactive) in
+    has_expired (is_reached entry.expire today) (code_after_change today entry.last_change entry.max entry.inactive)
+        (change_bound today entry.last_change entry.max entry.inactive) in
     record {
       from_its_day = from;
       not_before = before;
-      stays = λ later is e. expires (is_reached entry.expire later) (code_after_change later entry.last_change entry.max entry.inactive) (reached_later entry.expire today later is (before e));
+      stays = λ later is e. expires (is_reached entry.expire later) (code_after_change later entry.last_change entry.max entry.inactive)
+          (reached_later entry.expire today later is (before e));
     }
 
 -- ---- a password that was changed today
@@ -163,4 +175,5 @@ either false a e = inl e
 pub new_is_not_too_old : NewIsNotTooOld
 unfolding aged
 new_is_not_too_old today entry is e =
-    either (is_reached entry.expire today) (code_after_change today entry.last_change entry.max entry.inactive) (changed_today today entry.last_change entry.max entry.inactive is e)
+    either (is_reached entry.expire today) (code_after_change today entry.last_change entry.max entry.inactive)
+        (changed_today today entry.last_change entry.max entry.inactive is e)

@@ -22,7 +22,8 @@ use Rattle.mod_unix.specs.Look.{after_passwd, shadow_if_x, field_among, field_in
 use Rattle.mod_unix.specs.Unix.{act_of_func}
 use Rattle.laws_age.specs.Call.{GoesByTheEntry, HasEntry}
 
-read_so : (failing : Bool) (found : Option (List ℕ)) (text : List ℕ) → failing ≡ false → found ≡ Some text → length text ≤ account_limit → content_of failing account_limit found ≡ content.Holds text
+read_so : (failing : Bool) (found : Option (List ℕ)) (text : List ℕ) → failing ≡ false → found ≡ Some text → length text ≤ account_limit
+    → content_of failing account_limit found ≡ content.Holds text
 unfolding content_of
 read_so true found text f is fits = absurd cc
 read_so false found text f is fits =
@@ -36,7 +37,8 @@ entry_code : (entry : Shadow) (stage : Stage) → (judges (Shadowed entry) stage
 unfolding account_by sees_clock answers
 entry_code entry stage = refl
 
-module _ (user : List ℕ) (entry : Shadow) (stage : Stage) (fine : (n : ℕ) → stage.sight.failing n ≡ false) (h : HasEntry stage.sight.root stage.sight.files user entry) where
+module _ (user : List ℕ) (entry : Shadow) (stage : Stage) (fine : (n : ℕ) → stage.sight.failing n ≡ false)
+    (h : HasEntry stage.sight.root stage.sight.files user entry) where
   abbrev first : Stage
   first = record stage { sight = later stage.sight }
 
@@ -45,7 +47,8 @@ module _ (user : List ℕ) (entry : Shadow) (stage : Stage) (fine : (n : ℕ) �
 
   found_in_shadow : shadow_in user (content_seen (codes "/etc/shadow") account_limit first.sight) ≡ Shadowed entry
   found_in_shadow =
-      ap (λ (c : Content). shadow_in user c) (read_so (stage.sight.failing 1) (file_at (path_of stage.sight.root (codes "/etc/shadow")) stage.sight.files) h.shadow (fine 1) h.shadow_is h.shadow_fits)
+      ap (λ (c : Content). shadow_in user c) (read_so (stage.sight.failing 1) (file_at (path_of stage.sight.root (codes "/etc/shadow")) stage.sight.files)
+          h.shadow (fine 1) h.shadow_is h.shadow_fits)
       ∙ ap (λ (r : Result (List Shadow) DbFault). shadow_among user r) h.entries_are
       ∙ ap (λ (o : Option Shadow). shadowed o) h.entry_is
 
@@ -53,7 +56,8 @@ module _ (user : List ℕ) (entry : Shadow) (stage : Stage) (fine : (n : ℕ) �
   unfolding reads_file
   by_shadow = ap (λ (k : KnownPassword). (judges k second).code) found_in_shadow ∙ entry_code entry second
 
-  by_passwd : (after_passwd user (field_in user (content_seen (codes "/etc/passwd") account_limit stage.sight)) judges first).code ≡ aged (day_of stage.sight.clock.moment) entry
+  by_passwd : (after_passwd user (field_in user (content_seen (codes "/etc/passwd") account_limit stage.sight)) judges first).code
+      ≡ aged (day_of stage.sight.clock.moment) entry
   by_passwd =
       ap (λ (c : Content). (after_passwd user (field_in user c) judges first).code)
       (read_so (stage.sight.failing 0) (file_at (path_of stage.sight.root (codes "/etc/passwd")) stage.sight.files) h.passwd (fine 0) h.passwd_is h.passwd_fits)
@@ -71,7 +75,8 @@ asked_by : (act : List ℕ → Act) (user : List ℕ) (found : Option (List ℕ)
 asked_by act user (Some other) stage is e = ap (λ (o : Option (List ℕ)). (act (unwrap_or o []) stage).code) is
 asked_by act user None stage is e = absurd cc
 
-asked_first : (user : List ℕ) (entry : Shadow) (stage : Stage) → stage.room.items.user ≡ Some user → ((n : ℕ) → stage.sight.failing n ≡ false) → HasEntry stage.sight.root stage.sight.files user entry
+asked_first : (user : List ℕ) (entry : Shadow) (stage : Stage) → stage.room.items.user ≡ Some user → ((n : ℕ) → stage.sight.failing n ≡ false)
+    → HasEntry stage.sight.root stage.sight.files user entry
     → (checks_account answers stage).code ≡ aged (day_of stage.sight.clock.moment) entry
 unfolding checks_account asks_user
 asked_first user entry stage is fine h =

@@ -14,7 +14,9 @@ use Rattle.pam_handle.specs.Handle.{PlainHandle}
 use Rattle.dispatch_core.specs.Calls.{following, Held, Went, call_after, went}
 use Rattle.pam_handle.specs.Pass.{Passed, passed}
 use Rattle.pam_handle.specs.Call.{Called, tokens_cleared, begun_or_going_on, request_behind}
-use Rattle.pam_handle.specs.StackCalls.{authenticated, changed, authentication, credentials, account, opening, closing, update, behind_check, check, change_goes_on, stack_call, has_pass_flag, credential_flags, update_authtok, asking_by, held_in}
+use Rattle.pam_handle.specs.StackCalls.{authenticated, changed, authentication, credentials, account, opening, closing, update}
+use Rattle.pam_handle.specs.StackCalls.{behind_check, check, change_goes_on, stack_call, has_pass_flag, credential_flags, update_authtok}
+use Rattle.pam_handle.specs.StackCalls.{asking_by, held_in}
 use Rattle.pam_library.specs.SlotStep.{is_refused_for_flags}
 use Rattle.dispatch_core.specs.Calls as calls
 use Rattle.laws_audit.specs.Calls.{GoesAs, LibraryCallsGo}
@@ -26,7 +28,8 @@ record Leaves (code : Code) (h : PlainHandle) (c : Called) : Type 0 where
   trail_is : c.handle.room.transaction.trail ≡ h.room.transaction.trail
   stacks_is : c.handle.stacks ≡ h.stacks
 
-authenticated_leaves : (number : Code → ℕ → ℕ) (paused : Option (List Code)) (code : Code) (h : PlainHandle) (w : PlainWorld) → Leaves code h (authenticated number paused code h w)
+authenticated_leaves : (number : Code → ℕ → ℕ) (paused : Option (List Code)) (code : Code) (h : PlainHandle) (w : PlainWorld)
+    → Leaves code h (authenticated number paused code h w)
 authenticated_leaves number None code h w = record { code_is = refl; held_is = refl; trail_is = refl; stacks_is = refl }
 authenticated_leaves number (Some past) code h w = record { code_is = refl; held_is = refl; trail_is = refl; stacks_is = refl }
 
@@ -43,7 +46,8 @@ if_same : (b : Bool) (x y : Called) (P : Called → Type 0) → not b ≡ false 
 if_same true x y P own there = there
 if_same false x y P own there = absurd (true≢false own)
 
-goes_or_begins : (pending : Option Pending) (func : Func) (aborted begins : Called) (goes_on : Pending → Called) (P : List Code → Option KeptAnswers → Called → Type 0)
+goes_or_begins : (pending : Option Pending) (func : Func) (aborted begins : Called) (goes_on : Pending → Called)
+    (P : List Code → Option KeptAnswers → Called → Type 0)
     → is_other_pending pending func ≡ false → P [] None begins → ((p : Pending) → P p.past p.first (goes_on p))
     → P (past_in pending) (first_in pending) (begun_or_going_on pending func aborted begins goes_on)
 goes_or_begins None func aborted begins goes_on P own one two = one
@@ -51,30 +55,36 @@ goes_or_begins (Some p) func aborted begins goes_on P own one two = if_same (sam
 
 module _ (players : List Player) (number : Code → ℕ → ℕ) (flags : ℕ) where
   -- `r` is the room in which it begins
-  authentication_goes : (past : List Code) (first : Option KeptAnswers) (h : PlainHandle) (r : PlainRoom) (w : PlainWorld) → r.transaction.trail ≡ h.room.transaction.trail
+  authentication_goes : (past : List Code) (first : Option KeptAnswers) (h : PlainHandle) (r : PlainRoom) (w : PlainWorld)
+      → r.transaction.trail ≡ h.room.transaction.trail
       → GoesAs players Authenticate flags past first h (authentication players number flags past (record h { room = r }) w)
   authentication_goes past first h r w same =
       let p : Passed = passed players Authenticate flags kinds.Keep h.authenticated h.stacks.auth past (state_of r w) in
       let behind : Leaves p.code (record h { room = p.state.room; authenticated = p.kept; pending = pending_after Authenticate None p.paused }) _ =
-      authenticated_leaves number p.paused p.code (record h { room = p.state.room; authenticated = p.kept; pending = pending_after Authenticate None p.paused }) p.state.world in
+      authenticated_leaves number p.paused p.code (record h { room = p.state.room; authenticated = p.kept; pending = pending_after Authenticate None p.paused })
+          p.state.world in
       record { begun = state_of r w; trail = same; code = behind.code_is; held = behind.held_is; told = behind.trail_is; stacks = behind.stacks_is }
 
-  credentials_go : (past : List Code) (first : Option KeptAnswers) (h : PlainHandle) (w : PlainWorld) → GoesAs players SetCred flags past first h (credentials players flags past h w)
+  credentials_go : (past : List Code) (first : Option KeptAnswers) (h : PlainHandle) (w : PlainWorld)
+      → GoesAs players SetCred flags past first h (credentials players flags past h w)
   credentials_go past first h w =
       let p : Passed = passed players SetCred (credential_flags flags) (following h.authenticated) h.authenticated h.stacks.auth past (state_of h.room w) in
       record { begun = state_of h.room w; trail = refl; code = refl; held = refl; told = request_trail p.paused p.state.room; stacks = refl }
 
-  account_goes : (past : List Code) (first : Option KeptAnswers) (h : PlainHandle) (w : PlainWorld) → GoesAs players AcctMgmt flags past first h (account players flags past h w)
+  account_goes : (past : List Code) (first : Option KeptAnswers) (h : PlainHandle) (w : PlainWorld)
+      → GoesAs players AcctMgmt flags past first h (account players flags past h w)
   account_goes past first h w =
       let p : Passed = passed players AcctMgmt flags kinds.Keep None h.stacks.account past (state_of h.room w) in
       record { begun = state_of h.room w; trail = refl; code = refl; held = refl; told = request_trail p.paused p.state.room; stacks = refl }
 
-  opening_goes : (past : List Code) (first : Option KeptAnswers) (h : PlainHandle) (w : PlainWorld) → GoesAs players OpenSession flags past first h (opening players flags past h w)
+  opening_goes : (past : List Code) (first : Option KeptAnswers) (h : PlainHandle) (w : PlainWorld)
+      → GoesAs players OpenSession flags past first h (opening players flags past h w)
   opening_goes past first h w =
       let p : Passed = passed players OpenSession flags kinds.Keep h.opened h.stacks.session past (state_of h.room w) in
       record { begun = state_of h.room w; trail = refl; code = refl; held = refl; told = request_trail p.paused p.state.room; stacks = refl }
 
-  closing_goes : (past : List Code) (first : Option KeptAnswers) (h : PlainHandle) (w : PlainWorld) → GoesAs players CloseSession flags past first h (closing players flags past h w)
+  closing_goes : (past : List Code) (first : Option KeptAnswers) (h : PlainHandle) (w : PlainWorld)
+      → GoesAs players CloseSession flags past first h (closing players flags past h w)
   closing_goes past first h w =
       let p : Passed = passed players CloseSession flags (following h.opened) h.opened h.stacks.session past (state_of h.room w) in
       record { begun = state_of h.room w; trail = refl; code = refl; held = refl; told = request_trail p.paused p.state.room; stacks = refl }
@@ -94,13 +104,15 @@ module _ (players : List Player) (number : Code → ℕ → ℕ) (flags : ℕ) w
       changed_leaves p.paused p.code (record h { room = p.state.room; pending = pending_after ChAuthTok first p.paused }) p.state.world in
       record { code = behind.code_is; held = behind.held_is; told = behind.trail_is; stacks = behind.stacks_is }
 
-  rest_changes : (code : Code) (paused : Option (List Code)) (h : PlainHandle) (w : PlainWorld) → Changes h (went code (held_in h) (state_of h.room w)) (changed paused code h w)
+  rest_changes : (code : Code) (paused : Option (List Code)) (h : PlainHandle) (w : PlainWorld)
+      → Changes h (went code (held_in h) (state_of h.room w)) (changed paused code h w)
   rest_changes code paused h w =
       let behind : Leaves code h (changed paused code h w) = changed_leaves paused code h w in
       record { code = behind.code_is; held = behind.held_is; told = behind.trail_is; stacks = behind.stacks_is }
 
   behind_changes : (code : Code) (paused : Option (List Code)) (kept : Option KeptAnswers) (h : PlainHandle) (w : PlainWorld)
-      → Changes h (calls.behind_check (asking_by players flags) h.stacks code kept (held_in h) (state_of h.room w)) (behind_check players flags code paused kept h w)
+      → Changes h (calls.behind_check (asking_by players flags) h.stacks code kept (held_in h) (state_of h.room w))
+          (behind_check players flags code paused kept h w)
   behind_changes codes.Success paused kept h w = update_changes kept [] h w
   behind_changes code paused kept h w = rest_changes code paused h w
 
@@ -109,7 +121,8 @@ module _ (players : List Player) (number : Code → ℕ → ℕ) (flags : ℕ) w
   check_changes past h r w =
       let p : Passed = passed players ChAuthTok (bit_or flags prelim_check) kinds.Keep None h.stacks.password past (state_of r w) in
       let h' : PlainHandle = record h { room = p.state.room; pending = pending_after ChAuthTok None p.paused } in
-      let behind : Changes h' (calls.behind_check (asking_by players flags) h.stacks p.code p.kept (held_in h') p.state) (behind_check players flags p.code p.paused p.kept h' p.state.world) =
+      let behind : Changes h' (calls.behind_check (asking_by players flags) h.stacks p.code p.kept (held_in h') p.state)
+              (behind_check players flags p.code p.paused p.kept h' p.state.world) =
       behind_changes p.code p.paused p.kept h' p.state.world in
       record { code = behind.code; held = behind.held; told = behind.told; stacks = behind.stacks }
 
@@ -119,7 +132,8 @@ module _ (players : List Player) (number : Code → ℕ → ℕ) (flags : ℕ) w
       let behind : Changes h _ _ = check_changes past h r w in
       record { begun = state_of r w; trail = same; code = behind.code; held = behind.held; told = behind.told; stacks = behind.stacks }
 
-  change_goes : (past : List Code) (first : Option KeptAnswers) (h : PlainHandle) (w : PlainWorld) → GoesAs players ChAuthTok flags past first h (change_goes_on players flags past first h w)
+  change_goes : (past : List Code) (first : Option KeptAnswers) (h : PlainHandle) (w : PlainWorld)
+      → GoesAs players ChAuthTok flags past first h (change_goes_on players flags past first h w)
   change_goes past None h w = begins_change h h.room w past refl
   change_goes past (Some first) h w =
       let behind : Changes h _ _ = update_changes (Some first) past h w in
@@ -135,13 +149,17 @@ module _ (players : List Player) (number : Code → ℕ → ℕ) (flags : ℕ) w
       goes_or_begins h.pending Authenticate _ _ _ (λ past first c. GoesAs players Authenticate flags past first h c) own
       (authentication_goes [] None h (tokens_cleared h).room w refl) (λ p. authentication_goes p.past p.first h h.room w refl)
   goes SetCred h w flagged own =
-      goes_or_begins h.pending SetCred _ _ _ (λ past first c. GoesAs players SetCred flags past first h c) own (credentials_go [] None h w) (λ p. credentials_go p.past p.first h w)
+      goes_or_begins h.pending SetCred _ _ _ (λ past first c. GoesAs players SetCred flags past first h c) own (credentials_go [] None h w)
+          (λ p. credentials_go p.past p.first h w)
   goes AcctMgmt h w flagged own =
-      goes_or_begins h.pending AcctMgmt _ _ _ (λ past first c. GoesAs players AcctMgmt flags past first h c) own (account_goes [] None h w) (λ p. account_goes p.past p.first h w)
+      goes_or_begins h.pending AcctMgmt _ _ _ (λ past first c. GoesAs players AcctMgmt flags past first h c) own (account_goes [] None h w)
+          (λ p. account_goes p.past p.first h w)
   goes OpenSession h w flagged own =
-      goes_or_begins h.pending OpenSession _ _ _ (λ past first c. GoesAs players OpenSession flags past first h c) own (opening_goes [] None h w) (λ p. opening_goes p.past p.first h w)
+      goes_or_begins h.pending OpenSession _ _ _ (λ past first c. GoesAs players OpenSession flags past first h c) own (opening_goes [] None h w)
+          (λ p. opening_goes p.past p.first h w)
   goes CloseSession h w flagged own =
-      goes_or_begins h.pending CloseSession _ _ _ (λ past first c. GoesAs players CloseSession flags past first h c) own (closing_goes [] None h w) (λ p. closing_goes p.past p.first h w)
+      goes_or_begins h.pending CloseSession _ _ _ (λ past first c. GoesAs players CloseSession flags past first h c) own (closing_goes [] None h w)
+          (λ p. closing_goes p.past p.first h w)
   goes ChAuthTok h w flagged own =
       unless_flagged (has_pass_flag flags) _ _ (λ c. GoesAs players ChAuthTok flags (past_in h.pending) (first_in h.pending) h c) flagged
       (goes_or_begins h.pending ChAuthTok _ _ _ (λ past first c. GoesAs players ChAuthTok flags past first h c) own

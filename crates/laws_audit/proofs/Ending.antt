@@ -1,5 +1,6 @@
 -- The report of a whole run fits.
-use Rattle.std.proofs.Common.{◌≡◌, ℕ, zero, suc, ◌+◌, ◌^◌, List, [], ◌∷◌, ◌++◌, length, replicate, drop, slice_get, slice_set, Option, Some, Ok, refl, sym, ◌∙◌, ap, subst, append_assoc, add-one, arith}
+use Rattle.std.proofs.Common.{◌≡◌, ℕ, zero, suc, ◌+◌, ◌^◌, List, [], ◌∷◌, ◌++◌, length, replicate, drop, slice_get, slice_set, Option, Some}
+use Rattle.std.proofs.Common.{Ok, refl, sym, ◌∙◌, ap, subst, append_assoc, add-one, arith}
 use Rattle.std.proofs.lemmas.List.{length-map}
 use Rattle.std.specs.Option.{option_map}
 use Rattle.std.proofs.lemmas.Grind.{flat_map-append}
@@ -52,7 +53,8 @@ set_behind (z ∷ front) x y slots = ap (λ (xs : List PlainSlot). z ∷ xs) (se
 slot_behind : (front : List PlainSlot) (x : PlainSlot) (slots : List PlainSlot) → slot_at (front ++ x ∷ slots) (length front + 1) ≡ Some x
 slot_behind front x slots = ap (slot_at (front ++ x ∷ slots)) (add-one (length front)) ∙ get_behind front x slots
 
-with_behind_slot : (front : List PlainSlot) (x y : PlainSlot) (slots : List PlainSlot) → with_slot (front ++ x ∷ slots) (length front + 1) y ≡ front ++ y ∷ slots
+with_behind_slot : (front : List PlainSlot) (x y : PlainSlot) (slots : List PlainSlot)
+    → with_slot (front ++ x ∷ slots) (length front + 1) y ≡ front ++ y ∷ slots
 with_behind_slot front x y slots = ap (λ (n : ℕ). with_slot (front ++ x ∷ slots) n y) (add-one (length front)) ∙ set_behind front x y slots
 
 module _ (players : List Player) (status : Code) (stacks : Stacks) where
@@ -61,7 +63,8 @@ module _ (players : List Player) (status : Code) (stacks : Stacks) where
     behind : List SlotLog
     fits : fold stacks places blocks ≡ Some behind
 
-  moved : (front slots : List PlainSlot) (x : PlainSlot) (blocks : List Block) → FitsOn (places_of ((front ++ x ∷ []) ++ slots)) blocks → FitsOn (places_of (front ++ x ∷ slots)) blocks
+  moved : (front slots : List PlainSlot) (x : PlainSlot) (blocks : List Block) → FitsOn (places_of ((front ++ x ∷ []) ++ slots)) blocks
+      → FitsOn (places_of (front ++ x ∷ slots)) blocks
   moved front slots x blocks f = subst (λ (l : List PlainSlot). FitsOn (places_of l) blocks) (append_assoc front (x ∷ []) slots) f
 
   one_closed : (front slots : List PlainSlot) (h : _) (y : PlainSlot) (w v : PlainWorld) → place_of y ≡ shut
@@ -71,7 +74,8 @@ module _ (players : List Player) (status : Code) (stacks : Stacks) where
       let slots' : List PlainSlot = front ++ opened h ∷ slots in
       let b : Block = closing_reported (names_of players) (length front + 1) status v.process.ledger (length w.process.ledger.filed) in
       ap (behind_at stacks (places_of slots') b) (place_at-of slots' (length front + 1) ∙ ap (option_map place_of) (slot_behind front (opened h) slots))
-      ∙ ap (λ (vs : List Seen). with_behind stacks (places_of slots') (length front + 1) (behind_result stacks (running (held_in h)) vs (closed_by_program status)))
+      ∙ ap (λ (vs : List Seen). with_behind stacks (places_of slots') (length front + 1)
+          (behind_result stacks (running (held_in h)) vs (closed_by_program status)))
       (filed_visits (names_of players) v.process.ledger.births (drop (length w.process.ledger.filed) v.process.ledger.filed))
       ∙ ap (λ (p : SlotLog). Some (with_place (places_of slots') (length front + 1) p)) (sym is)
       ∙ ap (λ (x : List SlotLog). Some x) (with_place-of slots' (length front + 1) y ∙ ap places_of (with_behind_slot front (opened h) y slots))
@@ -82,13 +86,16 @@ module _ (players : List Player) (status : Code) (stacks : Stacks) where
   closings_fit front (opened h ∷ slots) w =
       let v : PlainWorld = world_behind players status h w in
       let y : PlainSlot = closed h.room.conv in
-      let rest : FitsOn (places_of (front ++ y ∷ slots)) (closing_blocks players status (front ++ y ∷ []) slots v) = moved front slots y _ (closings_fit (front ++ y ∷ []) slots v) in
+      let rest : FitsOn (places_of (front ++ y ∷ slots)) (closing_blocks players status (front ++ y ∷ []) slots v) =
+              moved front slots y _ (closings_fit (front ++ y ∷ []) slots v) in
       record {
         behind = rest.behind;
-        fits = ap (λ (x : Option (List SlotLog)). fold_on stacks x (λ p. fold stacks p (closing_blocks players status (front ++ y ∷ []) slots v))) (one_closed front slots h y w v refl) ∙ rest.fits;
+        fits = ap (λ (x : Option (List SlotLog)). fold_on stacks x (λ p. fold stacks p (closing_blocks players status (front ++ y ∷ []) slots v)))
+            (one_closed front slots h y w v refl) ∙ rest.fits;
       }
 
-  closings_print_all : (by : ByRemainders) (front slots : List PlainSlot) (w : PlainWorld) → blocks_text (closing_blocks players status front slots w) ≡ closings_text (closings_behind players status front slots w)
+  closings_print_all : (by : ByRemainders) (front slots : List PlainSlot) (w : PlainWorld)
+      → blocks_text (closing_blocks players status front slots w) ≡ closings_text (closings_behind players status front slots w)
   unfolding closings_behind
   closings_print_all by front [] w = refl
   closings_print_all by front (closed conv ∷ slots) w = closings_print_all by (front ++ closed conv ∷ []) slots w
@@ -117,7 +124,8 @@ last_prints : (by : ByRemainders) (ending : Ending) (n : ℕ) → last_line endi
 last_prints by Done n = refl
 last_prints by ReadFault n = refl
 last_prints by (Refused kind) n =
-    sym (ap (λ (l : List ℕ). codes "script " ++ (l ++ (codes " " ++ (script_fault_name kind ++ (codes " " ++ (decimal (script_fault_number kind) ++ codes "\n")))))) (by.long (n + 1)))
+    sym (ap (λ (l : List ℕ). codes "script " ++ (l ++ (codes " " ++ (script_fault_name kind
+        ++ (codes " " ++ (decimal (script_fault_number kind) ++ codes "\n")))))) (by.long (n + 1)))
 
 last_ends : (ending : Ending) (n : ℕ) → IsLast (last_of ending n)
 last_ends Done n = tt
@@ -128,7 +136,8 @@ record Comes (setting : Setting) (lines : List (List ℕ)) (start last : RunStat
   refused : Option ScriptKind
   is : run_lines (line_step setting) 0 start lines ≡ come_to body last n refused
 
-comes : (setting : Setting) (ending : Ending) (n : ℕ) (start last : RunState) (input taken left body : List ℕ) → Reports (line_step setting) (Fails setting) (Ok ending) n start last input taken left body
+comes : (setting : Setting) (ending : Ending) (n : ℕ) (start last : RunState) (input taken left body : List ℕ)
+    → Reports (line_step setting) (Fails setting) (Ok ending) n start last input taken left body
     → Comes setting (lines_looked setting ending input taken) start last n body
 unfolding run_of
 comes setting Done n start last input taken left body reports = record { refused = _; is = reports.1 }
@@ -143,24 +152,32 @@ runs_fit AreSuch prints setting stacks ending start end input taken left text e 
     let c : Comes setting ls start e.last e.lines e.body = comes setting ending e.lines start e.last input taken left e.body e.comes in
     let have : HaveStacks stacks start.slots = shut_stacks stacks start.slots 16 shuts in
     let sound : AreSound stacks (places_of start.slots) = subst (AreSound stacks) (sym shuts) (sound_shut stacks 16) in
-    let r : LinesFit by setting stacks start (run_lines (line_step setting) 0 start ls) (run_blocks setting 0 start ls) = lines_fit by setting stacks 0 start ls have sound (starts_have setting stacks 0 start ls have finds) in
+    let r : LinesFit by setting stacks start (run_lines (line_step setting) 0 start ls) (run_blocks setting 0 start ls) =
+            lines_fit by setting stacks 0 start ls have sound (starts_have setting stacks 0 start ls have finds) in
     let first : fold stacks all_shut (run_blocks setting 0 start ls) ≡ Some (places_of e.last.slots) =
-    ap (λ (p : List SlotLog). fold stacks p (run_blocks setting 0 start ls)) (sym shuts) ∙ r.fits ∙ ap (λ (x : Run RunState). Some (places_of x.last.slots)) c.is in
+    ap (λ (p : List SlotLog). fold stacks p (run_blocks setting 0 start ls)) (sym shuts) ∙ r.fits
+        ∙ ap (λ (x : Run RunState). Some (places_of x.last.slots)) c.is in
     let body : blocks_text (run_blocks setting 0 start ls) ≡ e.body = r.text ∙ ap (λ (x : Run RunState). x.text) c.is in
     let closes : List Block = closing_blocks setting.players (ending_status ending) [] e.last.slots e.last.world in
-    let f : FitsOn setting.players (ending_status ending) stacks (places_of e.last.slots) closes = closings_fit setting.players (ending_status ending) stacks [] e.last.slots e.last.world in
+    let f : FitsOn setting.players (ending_status ending) stacks (places_of e.last.slots) closes =
+            closings_fit setting.players (ending_status ending) stacks [] e.last.slots e.last.world in
     let printed : blocks_text (run_blocks setting 0 start ls ++ closes) ≡ e.body ++ closings_text (closings setting.players (ending_status ending) e.last) =
     flat_map-append block_text (run_blocks setting 0 start ls) closes ∙ ap (λ (t : List ℕ). t ++ blocks_text closes) body
     ∙ ap (λ (t : List ℕ). e.body ++ t) (closings_print_all setting.players (ending_status ending) stacks by [] e.last.slots e.last.world) in
-    let sixteen : length e.last.slots ≡ 16 = sym (length-map e.last.slots place_of) ∙ fold_length stacks all_shut (run_blocks setting 0 start ls) (places_of e.last.slots) first in
-    let whole : fold stacks all_shut (run_blocks setting 0 start ls ++ closes) ≡ Some f.behind = fold-append stacks all_shut (run_blocks setting 0 start ls) closes (places_of e.last.slots) first ∙ f.fits in
+    let sixteen : length e.last.slots ≡ 16 = sym (length-map e.last.slots place_of)
+            ∙ fold_length stacks all_shut (run_blocks setting 0 start ls) (places_of e.last.slots) first in
+    let whole : fold stacks all_shut (run_blocks setting 0 start ls ++ closes) ≡ Some f.behind =
+            fold-append stacks all_shut (run_blocks setting 0 start ls) closes (places_of e.last.slots) first ∙ f.fits in
     let all_formed : AreBlocks (run_blocks setting 0 start ls ++ closes) =
-    blocks_whole (run_blocks setting 0 start ls ++ closes) (both_formed (run_blocks setting 0 start ls) closes (run_formed setting 0 start ls) (closings_formed setting.players (ending_status ending) [] e.last.slots e.last.world 16 sixteen (omega arith))) (fits_seen stacks all_shut (run_blocks setting 0 start ls ++ closes) f.behind printable whole) in
+    blocks_whole (run_blocks setting 0 start ls ++ closes) (both_formed (run_blocks setting 0 start ls) closes (run_formed setting 0 start ls)
+        (closings_formed setting.players (ending_status ending) [] e.last.slots e.last.world 16 sixteen (omega arith)))
+        (fits_seen stacks all_shut (run_blocks setting 0 start ls ++ closes) f.behind printable whole) in
     record {
       blocks = run_blocks setting 0 start ls ++ closes;
       last = last_of ending e.lines;
       printed = e.whole ∙ sym (append_assoc e.body (closings_text (closings setting.players (ending_status ending) e.last)) (last_line ending e.lines))
-          ∙ ap (λ (t : List ℕ). t ++ last_line ending e.lines) (sym printed) ∙ ap (λ (t : List ℕ). blocks_text (run_blocks setting 0 start ls ++ closes) ++ t) (last_prints by ending e.lines);
+          ∙ ap (λ (t : List ℕ). t ++ last_line ending e.lines) (sym printed)
+              ∙ ap (λ (t : List ℕ). blocks_text (run_blocks setting 0 start ls ++ closes) ++ t) (last_prints by ending e.lines);
       formed = all_formed;
       ended = last_ends ending e.lines;
       places = f.behind;

@@ -12,7 +12,9 @@ use Rattle.mod_env.specs.declared.expand.Expansion.TheVariants.{TooLong, Puts}
 use Rattle.mod_env.specs.Conf.{conf_of}
 use Rattle.mod_env.specs.EnvFile.{assignments_of}
 use Rattle.mod_env.specs.Expand.{Sources, asks_account, expansion_of}
-use Rattle.mod_env.specs.Env.{at_once, sets_if_well_formed, puts_expansion, after_conf, puts_if_all_fit, sets_by_texts, finds_entry, entry_in, env_act, env_limit, is_zero, looks_if, put_in, puts_all, puts_env, reads_first, reads_second, sees_env, sees_sources, sets_all, sets_by, sets_variable, text_in}
+use Rattle.mod_env.specs.Env.{at_once, sets_if_well_formed, puts_expansion, after_conf, puts_if_all_fit, sets_by_texts, finds_entry}
+use Rattle.mod_env.specs.Env.{entry_in, env_act, env_limit, is_zero, looks_if, put_in, puts_all, puts_env, reads_first, reads_second}
+use Rattle.mod_env.specs.Env.{sees_env, sees_sources, sets_all, sets_by, sets_variable, text_in}
 use Rattle.laws_audit.proofs.Steps.{Leaves, answering, finding, reading, seeing_items, unless}
 
 module _ (path : List ℕ) where
@@ -80,7 +82,8 @@ module _ (path : List ℕ) where
   second_read : (none : Bool) (args : List (List ℕ)) (conf : List ℕ) → Still (reads_second none args conf)
   second_read true args conf = texts_set conf (Some [])
   second_read false args conf =
-      reading path (unwrap_or (value_among (codes "envfile=") args) (codes "/etc/environment")) env_limit (λ content. sets_by_texts conf (text_in content)) (λ content. texts_set conf (text_in content))
+      reading path (unwrap_or (value_among (codes "envfile=") args) (codes "/etc/environment")) env_limit (λ content. sets_by_texts conf (text_in content))
+          (λ content. texts_set conf (text_in content))
 
   first_read : (args : List (List ℕ)) (conf : Option (List ℕ)) → Still (after_conf args conf)
   first_read args (Some conf) = second_read (is_zero (value_among (codes "readenv=") args)) args conf
@@ -88,4 +91,5 @@ module _ (path : List ℕ) where
 
   pub env_leaves : (call : PlainCall) → Still (env_act call)
   env_leaves call = unless path (at_once call.func) (reads_first call.args)
-      (reading path (unwrap_or (value_among (codes "conffile=") call.args) (codes "/etc/security/pam_env.conf")) env_limit (λ content. after_conf call.args (text_in content)) (λ content. first_read call.args (text_in content)))
+      (reading path (unwrap_or (value_among (codes "conffile=") call.args) (codes "/etc/security/pam_env.conf")) env_limit
+          (λ content. after_conf call.args (text_in content)) (λ content. first_read call.args (text_in content)))

@@ -1,5 +1,7 @@
 -- The blocks of a run are in the ranges of what is printed.
-use Rattle.std.proofs.Common.{◌≡◌, ℕ, zero, suc, ◌+◌, ◌<◌, ◌^◌, Bool, true, false, nat_le, nat_lt, ◌&&◌, if◌then◌else◌, List, [], ◌∷◌, ◌++◌, map, length, drop, slice_get, unwrap_or, Option, Some, None, Result, Ok, Err, refl, sym, ◌∙◌, ap, subst, arith, append_assoc, length-append, length-set}
+use Rattle.std.proofs.Common.{◌≡◌, ℕ, zero, suc, ◌+◌, ◌<◌, ◌^◌, Bool, true, false, nat_le, nat_lt, ◌&&◌, if◌then◌else◌, List, [], ◌∷◌, ◌++◌}
+use Rattle.std.proofs.Common.{map, length, drop, slice_get, unwrap_or, Option, Some, None, Result, Ok, Err, refl, sym, ◌∙◌, ap, subst}
+use Rattle.std.proofs.Common.{arith, append_assoc, length-append, length-set}
 use Rattle.std.specs.List.{flat_map, AllByRecursion}
 use Rattle.std.proofs.lemmas.Nat.{mod_below}
 use Rattle.std.proofs.lemmas.List.{map-append}
@@ -27,7 +29,8 @@ use Rattle.pam_library.specs.declared.outcome.Answer.{Answer}
 use Rattle.pam_library.specs.declared.outcome.Answer.TheVariants as answers
 use Rattle.pam_library.specs.Outcome.{PlainOutcome}
 use Rattle.pam_library.specs.Slots.{PlainSlot, closed, opened, slot_at}
-use Rattle.pam_library.specs.SlotStep.{SlotStepped, filed_in, is_refused_for_flags, other_pending, unless_pending, stack_step, open_step, closed_step, slot_step, opened_by}
+use Rattle.pam_library.specs.SlotStep.{SlotStepped, filed_in, is_refused_for_flags, other_pending, unless_pending, stack_step, open_step}
+use Rattle.pam_library.specs.SlotStep.{closed_step, slot_step, opened_by}
 use Rattle.pam_library.specs.Step.{stepped_at, stepped}
 use Rattle.pam_handle.specs.Handle.{PlainHandle}
 use Rattle.conv_port.specs.Conv.{ConvState}
@@ -40,10 +43,13 @@ use Rattle.pam_base.specs.declared.call.AppCall.TheVariants as calls
 use Rattle.cmd_run.specs.State.{Setting, RunState}
 use Rattle.cmd_run.specs.Step.{line_step}
 use Rattle.cmd_run.specs.Closings.{world_behind}
-use Rattle.report_lines.specs.Line.{Told, told_visit, Shown, Command, Block, AreBytes, IsLong, byte_of, bytes_of, long_of, IsSeen, IsTold, IsShown, IsResult, AreBlocks}
+use Rattle.report_lines.specs.Line.{Told, told_visit, Shown, Command, Block, AreBytes, IsLong, byte_of, bytes_of, long_of, IsSeen, IsTold}
+use Rattle.report_lines.specs.Line.{IsShown, IsResult, AreBlocks}
 use Rattle.session_audit.specs.Laws.{AreSeen}
-use Rattle.session_audit.specs.Fits.{SlotLog, place_at, with_place, visits_told, is_none, behind_result, is_bad_number, with_behind, behind_at, behind_block, fold_on, fold}
-use Rattle.laws_audit.specs.Report.{message_told, visit_told, missing_told, variable_told, receipt_told, filed_told, cleanups_told, waited_told, variables_told, all_told, command_of, shown_of, blocks_by, reported}
+use Rattle.session_audit.specs.Fits.{SlotLog, place_at, with_place, visits_told, is_none, behind_result, is_bad_number, with_behind}
+use Rattle.session_audit.specs.Fits.{behind_at, behind_block, fold_on, fold}
+use Rattle.laws_audit.specs.Report.{message_told, visit_told, missing_told, variable_told, receipt_told, filed_told, cleanups_told}
+use Rattle.laws_audit.specs.Report.{waited_told, variables_told, all_told, command_of, shown_of, blocks_by, reported}
 use Rattle.laws_audit.specs.Run.{blocks_asked, line_blocks, blocks_on, run_blocks, closing_blocks}
 use Rattle.script_lang.proofs.Numbering.{reads_numbers}
 
@@ -67,7 +73,8 @@ told_whole (t ∷ told) all seen = (all.0, told_whole told all.1 seen)
 
 pub blocks_whole : (blocks : List Block) → AreBlocksBut blocks → AreSeen blocks → AreBlocks blocks
 blocks_whole [] all seen = tt
-blocks_whole (b ∷ blocks) all seen = (record { number = all.0.number; told = told_whole b.told all.0.told seen.0; result = all.0.result }, blocks_whole blocks all.1 seen.1)
+blocks_whole (b ∷ blocks) all seen = (record { number = all.0.number; told = told_whole b.told all.0.told seen.0; result = all.0.result },
+    blocks_whole blocks all.1 seen.1)
 
 are_long : (n : ℕ) → IsLong (long_of n)
 are_long n = mod_below n (2 ^ 64) (omega arith)
@@ -91,12 +98,14 @@ visits_formed [] = tt
 visits_formed (v ∷ trail) = (tt, visits_formed trail)
 
 receipt_formed : (names : List (List ℕ)) (receipt : Receipt) (birth : Option Birth) → AllByRecursion IsToldBut (receipt_told names receipt birth)
-receipt_formed names receipt (Some birth) = ((are_long receipt.id, mod_below receipt.status (2 ^ 32) (omega arith), are_long receipt.note, are_bytes (unwrap_or (slice_get names birth.owner) []), are_bytes birth.name), tt)
+receipt_formed names receipt (Some birth) = ((are_long receipt.id, mod_below receipt.status (2 ^ 32) (omega arith), are_long receipt.note,
+    are_bytes (unwrap_or (slice_get names birth.owner) []), are_bytes birth.name), tt)
 receipt_formed names receipt None = tt
 
 filed_formed : (names : List (List ℕ)) (births : List Birth) (filed : List Filed) → AllByRecursion IsToldBut (flat_map (filed_told names births) filed)
 filed_formed names births [] = tt
-filed_formed names births (f ∷ fs) = all_both IsToldBut (filed_told names births f) _ (receipt_formed names f.receipt (slice_get births f.receipt.id)) (filed_formed names births fs)
+filed_formed names births (f ∷ fs) = all_both IsToldBut (filed_told names births f) _ (receipt_formed names f.receipt (slice_get births f.receipt.id))
+    (filed_formed names births fs)
 
 waited_formed : (wait : Option Wait) → AllByRecursion IsToldBut (waited_told wait)
 waited_formed (Some wait) = ((are_long wait.asked, are_long wait.wait), tt)
@@ -120,7 +129,8 @@ variables_formed : (variables : List (List ℕ)) → AllByRecursion IsOne variab
 variables_formed [] all = tt
 variables_formed (text ∷ variables) all =
     let v : Variable = all.0.0 in
-    (record { name = bytes_of v.name; value = bytes_of v.value; is = ap bytes_of all.0.1 ∙ map-append byte_of v.name (61 ∷ v.value); bytes = are_bytes text }, variables_formed variables all.1)
+    (record { name = bytes_of v.name; value = bytes_of v.value; is = ap bytes_of all.0.1 ∙ map-append byte_of v.name (61 ∷ v.value); bytes = are_bytes text },
+        variables_formed variables all.1)
 
 answer_formed : (answer : Answer) → AreVariables answer → AllByRecursion IsToldBut (variables_told answer)
 answer_formed (answers.List variables) all = variables_formed variables all
@@ -137,7 +147,8 @@ shown_formed (answers.Value (Some text)) = are_bytes text
 shown_formed (answers.Value None) = tt
 shown_formed answer = tt
 
-told_formed : (names : List (List ℕ)) (outcome : PlainOutcome) (ledger : PlainLedger) → AreVariables outcome.answer → AllByRecursion IsToldBut (all_told names outcome ledger)
+told_formed : (names : List (List ℕ)) (outcome : PlainOutcome) (ledger : PlainLedger) → AreVariables outcome.answer
+    → AllByRecursion IsToldBut (all_told names outcome ledger)
 told_formed names outcome ledger all =
     all_both IsToldBut (map message_told outcome.said) _ (messages_formed outcome.said)
     (all_both IsToldBut (map visit_told outcome.trail) _ (visits_formed outcome.trail)
@@ -145,12 +156,15 @@ told_formed names outcome ledger all =
     (all_both IsToldBut (waited_told outcome.wait) _ (waited_formed outcome.wait)
     (all_both IsToldBut (map missing_told outcome.missing) _ (missing_formed outcome.missing) (answer_formed outcome.answer all)))))
 
-by_formed : (number : ℕ) (command : Command) (told : List Told) (shown : Option Shown) → number < 2 ^ 32 → AllByRecursion IsToldBut told → ShownFormed shown → AreBlocksBut (blocks_by number command told shown)
+by_formed : (number : ℕ) (command : Command) (told : List Told) (shown : Option Shown) → number < 2 ^ 32 → AllByRecursion IsToldBut told → ShownFormed shown
+    → AreBlocksBut (blocks_by number command told shown)
 by_formed number command told None fits all is = tt
 by_formed number command told (Some shown) fits all is = (record { number = fits; told = all; result = is }, tt)
 
-reported_formed : (names : List (List ℕ)) (step : Asked) (outcome : PlainOutcome) (ledger : PlainLedger) → step.number < 2 ^ 32 → AreVariables outcome.answer → AreBlocksBut (reported names step outcome ledger)
-reported_formed names step outcome ledger fits all = by_formed step.number (command_of step.call) _ (shown_of outcome.answer) fits (told_formed names outcome ledger all) (shown_formed outcome.answer)
+reported_formed : (names : List (List ℕ)) (step : Asked) (outcome : PlainOutcome) (ledger : PlainLedger) → step.number < 2 ^ 32 → AreVariables outcome.answer
+    → AreBlocksBut (reported names step outcome ledger)
+reported_formed names step outcome ledger fits all = by_formed step.number (command_of step.call) _ (shown_of outcome.answer) fits
+    (told_formed names outcome ledger all) (shown_formed outcome.answer)
 
 -- ---- the results of steps
 
@@ -186,7 +200,8 @@ module _ (players : List Player) (number_of : Code → ℕ → ℕ) where
   open_lists calls.EnvList h w = env_lists h.room.transaction.env
   open_lists call h w = tt
 
-  opened_lists : (names : List (List ℕ)) (conv : ConvState) (filed : ℕ) (w : PlainWorld) (answer : Result PlainHandle LoadFault) → Lists (opened_by names conv filed w answer)
+  opened_lists : (names : List (List ℕ)) (conv : ConvState) (filed : ℕ) (w : PlainWorld) (answer : Result PlainHandle LoadFault)
+      → Lists (opened_by names conv filed w answer)
   opened_lists names conv filed w (Ok h) = tt
   opened_lists names conv filed w (Err fault) = tt
 
@@ -198,7 +213,8 @@ module _ (players : List Player) (number_of : Code → ℕ → ℕ) where
   slot_lists call place (closed conv) w = closed_lists call place conv w
   slot_lists call place (opened h) w = open_lists call _ w
 
-  found_lists : (slots : List PlainSlot) (w : PlainWorld) (step : Asked) (found : Option PlainSlot) → AreVariables (stepped_at players number_of slots w step.number step.call found).outcome.answer
+  found_lists : (slots : List PlainSlot) (w : PlainWorld) (step : Asked) (found : Option PlainSlot)
+      → AreVariables (stepped_at players number_of slots w step.number step.call found).outcome.answer
   found_lists slots w step None = tt
   found_lists slots w step (Some slot) = slot_lists step.call step.number slot w
 
@@ -214,7 +230,9 @@ both_formed one two first second = all_both IsBlockBut one two first second
 module _ (setting : Setting) where
   asked_formed : (s : RunState) (line : List ℕ) (read : Result Line ScriptKind) → parsed line ≡ read → AreBlocksBut (blocks_asked setting s read)
   asked_formed s line (Ok (lines.Step step)) is =
-      reported_formed (names_of setting.players) step (stepped setting.players setting.delay s.slots s.world step).outcome (stepped setting.players setting.delay s.slots s.world step).world.process.ledger (reads_numbers line step is) (step_lists setting.players setting.delay s.slots s.world step)
+      reported_formed (names_of setting.players) step (stepped setting.players setting.delay s.slots s.world step).outcome
+          (stepped setting.players setting.delay s.slots s.world step).world.process.ledger (reads_numbers line step is)
+          (step_lists setting.players setting.delay s.slots s.world step)
   asked_formed s line (Ok lines.Blank) is = tt
   asked_formed s line (Ok (lines.At moment)) is = tt
   asked_formed s line (Ok (lines.Random word)) is = tt
@@ -228,24 +246,29 @@ module _ (setting : Setting) where
   line_formed : (n : ℕ) (s : RunState) (line : List ℕ) → AreBlocksBut (line_blocks setting n s line)
   line_formed n s line = formed_if (nat_le 65536 n) _ (formed_if (nat_lt 513 (length line)) _ (asked_formed s line (parsed line) refl))
 
-  on_formed : (x : Result (RunState × List ℕ) ScriptKind) (rest : RunState → List Block) → ((t : RunState) → AreBlocksBut (rest t)) → AreBlocksBut (blocks_on setting x rest)
+  on_formed : (x : Result (RunState × List ℕ) ScriptKind) (rest : RunState → List Block) → ((t : RunState) → AreBlocksBut (rest t))
+      → AreBlocksBut (blocks_on setting x rest)
   on_formed (Ok x) rest each = each x.0
   on_formed (Err kind) rest each = tt
 
   pub run_formed : (n : ℕ) (s : RunState) (ls : List (List ℕ)) → AreBlocksBut (run_blocks setting n s ls)
   run_formed n s [] = tt
-  run_formed n s (l ∷ ls) = both_formed (line_blocks setting n s l) _ (line_formed n s l) (on_formed (step_at (line_step setting) n s l) _ (λ t. run_formed (n + 1) t ls))
+  run_formed n s (l ∷ ls) = both_formed (line_blocks setting n s l) _ (line_formed n s l)
+      (on_formed (step_at (line_step setting) n s l) _ (λ t. run_formed (n + 1) t ls))
 
 -- at most n places
-pub closings_formed : (players : List Player) (status : Code) (front slots : List PlainSlot) (w : PlainWorld) (n : ℕ) → length (front ++ slots) ≡ n → n < 2 ^ 32 → AreBlocksBut (closing_blocks players status front slots w)
+pub closings_formed : (players : List Player) (status : Code) (front slots : List PlainSlot) (w : PlainWorld) (n : ℕ) → length (front ++ slots) ≡ n → n < 2 ^ 32
+    → AreBlocksBut (closing_blocks players status front slots w)
 closings_formed players status front [] w n is small = tt
 closings_formed players status front (closed conv ∷ slots) w n is small =
     closings_formed players status (front ++ closed conv ∷ []) slots w n (ap length (append_assoc front (closed conv ∷ []) slots) ∙ is) small
 closings_formed players status front (opened h ∷ slots) w n is small =
     let within : length front + 1 < 2 ^ 32 = omega (arith, is, length-append front (opened h ∷ slots)) in (
-      record { number = within; told = filed_formed (names_of players) (world_behind players status h w).process.ledger.births (drop (length w.process.ledger.filed) (world_behind players status h w).process.ledger.filed); result = tt },
+      record { number = within; told = filed_formed (names_of players) (world_behind players status h w).process.ledger.births
+          (drop (length w.process.ledger.filed) (world_behind players status h w).process.ledger.filed); result = tt },
       closings_formed players status (front ++ closed h.room.conv ∷ []) slots (world_behind players status h w) n
-          (ap length (append_assoc front (closed h.room.conv ∷ []) slots) ∙ length-append front (closed h.room.conv ∷ slots) ∙ sym (length-append front (opened h ∷ slots)) ∙ is) small,
+          (ap length (append_assoc front (closed h.room.conv ∷ []) slots) ∙ length-append front (closed h.room.conv ∷ slots)
+              ∙ sym (length-append front (opened h ∷ slots)) ∙ is) small,
     )
 
 -- ---- how many places
@@ -271,14 +294,16 @@ module _ (stacks : Stacks) where
   at_many places b None = many_if (is_bad_number stacks b.result && is_none (visits_told b.told)) places
   at_many places b (Some place) = behind_many places b.number (behind_result stacks place (visits_told b.told) b.result)
 
-  on_many : (n : ℕ) (next : Option (List SlotLog)) (f : List SlotLog → Option (List SlotLog)) → SoMany n next → ((places : List SlotLog) → length places ≡ n → SoMany n (f places)) → SoMany n (fold_on stacks next f)
+  on_many : (n : ℕ) (next : Option (List SlotLog)) (f : List SlotLog → Option (List SlotLog)) → SoMany n next
+      → ((places : List SlotLog) → length places ≡ n → SoMany n (f places)) → SoMany n (fold_on stacks next f)
   on_many n None f many each = tt
   on_many n (Some places) f many each = each places many
 
   fold_many : (places : List SlotLog) (blocks : List Block) (n : ℕ) → length places ≡ n → SoMany n (fold stacks places blocks)
   fold_many places [] n is = is
   fold_many places (b ∷ blocks) n is =
-      on_many n (behind_block stacks places b) _ (subst (λ (m : ℕ). SoMany m (behind_block stacks places b)) is (at_many places b (place_at places b.number))) (λ next is'. fold_many next blocks n is')
+      on_many n (behind_block stacks places b) _ (subst (λ (m : ℕ). SoMany m (behind_block stacks places b)) is (at_many places b (place_at places b.number)))
+          (λ next is'. fold_many next blocks n is')
 
   pub fold_length : (places : List SlotLog) (blocks : List Block) (next : List SlotLog) → fold stacks places blocks ≡ Some next → length next ≡ length places
   fold_length places blocks next is = subst (SoMany (length places)) is (fold_many places blocks (length places) refl)

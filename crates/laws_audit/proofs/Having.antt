@@ -1,5 +1,6 @@
 -- The stacks of open transactions along a run.
-use Rattle.std.proofs.Common.{◌≡◌, ℕ, zero, suc, ◌+◌, Bool, true, false, nat_le, nat_lt, if◌then◌else◌, List, [], ◌∷◌, length, Option, Some, None, Result, Ok, Err, slice_set, refl, ◌∙◌}
+use Rattle.std.proofs.Common.{◌≡◌, ℕ, zero, suc, ◌+◌, Bool, true, false, nat_le, nat_lt, if◌then◌else◌, List, [], ◌∷◌, length, Option, Some}
+use Rattle.std.proofs.Common.{None, Result, Ok, Err, slice_set, refl, ◌∙◌}
 use Rattle.pam_base.specs.declared.call.Func.{Func}
 use Rattle.pam_base.specs.declared.call.Func.TheVariants as funcs
 use Rattle.pam_base.specs.declared.call.AppCall.{AppCall}
@@ -24,7 +25,8 @@ use Rattle.pam_handle.specs.Items.{all_told}
 use Rattle.pam_handle.specs.Start.{started_by, new_handle, stacks_under}
 use Rattle.pam_handle.specs.StackCalls.{stack_call}
 use Rattle.pam_library.specs.Slots.{PlainSlot, closed, opened, slot_at, with_slot}
-use Rattle.pam_library.specs.SlotStep.{SlotStepped, filed_in, is_refused_for_flags, other_pending, unless_pending, stack_step, open_step, closed_step, slot_step, opened_by}
+use Rattle.pam_library.specs.SlotStep.{SlotStepped, filed_in, is_refused_for_flags, other_pending, unless_pending, stack_step, open_step}
+use Rattle.pam_library.specs.SlotStep.{closed_step, slot_step, opened_by}
 use Rattle.pam_library.specs.Step.{stepped_at, stepped}
 use Rattle.cmd_run.specs.State.{Setting, RunState}
 use Rattle.cmd_run.specs.Step.{applied_or_refused, line_step}
@@ -42,7 +44,8 @@ module _ (setting : Setting) (stacks : Stacks) where
   has_if true s t first second = first refl
   has_if false s t first second = second refl
 
-  has_unless : (found : Option Func) (h : PlainHandle) (w : PlainWorld) (s : SlotStepped) → h.stacks ≡ stacks → (found ≡ None → Has s) → Has (unless_pending found (opened h) w s)
+  has_unless : (found : Option Func) (h : PlainHandle) (w : PlainWorld) (s : SlotStepped) → h.stacks ≡ stacks → (found ≡ None → Has s)
+      → Has (unless_pending found (opened h) w s)
   has_unless None h w s have there = there refl
   has_unless (Some func) h w s have there = have
 
@@ -82,7 +85,8 @@ module _ (setting : Setting) (stacks : Stacks) where
   start_has number service user conv w (Ok counts) finds = finds
   start_has number service user conv w (Err stop) finds = tt
 
-  closed_has : (call : AppCall) (place : ℕ) (conv : ConvState) (w : PlainWorld) → StartFinds setting stacks w call (closed_step setting.players setting.delay place conv w call).outcome.answer
+  closed_has : (call : AppCall) (place : ℕ) (conv : ConvState) (w : PlainWorld)
+      → StartFinds setting stacks w call (closed_step setting.players setting.delay place conv w call).outcome.answer
       → Has (closed_step setting.players setting.delay place conv w call)
   closed_has (calls.Start service user) place conv w finds = start_has place service user conv w (loaded w.vault w.process.root service) finds
   closed_has (calls.End status) place conv w finds = tt
@@ -101,7 +105,8 @@ module _ (setting : Setting) (stacks : Stacks) where
   closed_has (calls.DelayFn on) place conv w finds = tt
   closed_has (calls.Reply text) place conv w finds = tt
 
-  slot_has : (call : AppCall) (place : ℕ) (slot : PlainSlot) (w : PlainWorld) → HasStacks stacks slot → StartFinds setting stacks w call (slot_step setting.players setting.delay place slot w call).outcome.answer
+  slot_has : (call : AppCall) (place : ℕ) (slot : PlainSlot) (w : PlainWorld) → HasStacks stacks slot
+      → StartFinds setting stacks w call (slot_step setting.players setting.delay place slot w call).outcome.answer
       → Has (slot_step setting.players setting.delay place slot w call)
   slot_has call place (closed conv) w have finds = closed_has call place conv w finds
   slot_has call place (opened h) w have finds = open_has call (all_told h) w have
@@ -111,7 +116,8 @@ module _ (setting : Setting) (stacks : Stacks) where
   have_set (x ∷ slots) zero slot all has = (has, all.1)
   have_set (x ∷ slots) (suc i) slot all has = (all.0, have_set slots i slot all.1 has)
 
-  have_with : (slots : List PlainSlot) (number : ℕ) (slot : PlainSlot) → HaveStacks stacks slots → HasStacks stacks slot → HaveStacks stacks (with_slot slots number slot)
+  have_with : (slots : List PlainSlot) (number : ℕ) (slot : PlainSlot) → HaveStacks stacks slots → HasStacks stacks slot
+      → HaveStacks stacks (with_slot slots number slot)
   have_with slots zero slot all has = all
   have_with slots (suc i) slot all has = have_set slots i slot all has
 
@@ -120,9 +126,11 @@ module _ (setting : Setting) (stacks : Stacks) where
       → HaveStacks stacks (stepped_at setting.players setting.delay slots w step.number step.call found).slots
   found_have slots w step None there have finds = have
   found_have slots w step (Some slot) there have finds =
-      have_with slots step.number _ have (slot_has step.call step.number slot w (have_in setting.players setting.delay stacks slots step.number slot have there) finds)
+      have_with slots step.number _ have (slot_has step.call step.number slot w
+          (have_in setting.players setting.delay stacks slots step.number slot have there) finds)
 
-  step_has : (slots : List PlainSlot) (w : PlainWorld) (step : Asked) → HaveStacks stacks slots → StartFinds setting stacks w step.call (stepped setting.players setting.delay slots w step).outcome.answer
+  step_has : (slots : List PlainSlot) (w : PlainWorld) (step : Asked) → HaveStacks stacks slots
+      → StartFinds setting stacks w step.call (stepped setting.players setting.delay slots w step).outcome.answer
       → HaveStacks stacks (stepped setting.players setting.delay slots w step).slots
   unfolding stepped
   step_has slots w step have finds = found_have slots w step (slot_at slots step.number) refl have finds
@@ -132,7 +140,8 @@ module _ (setting : Setting) (stacks : Stacks) where
   abbrev OnHave : Result (RunState × List ℕ) ScriptKind → Type 0
   OnHave x = OnState setting x (λ t. HaveStacks stacks t.slots)
 
-  asked_has : (s : RunState) (read : Result Line ScriptKind) → HaveStacks stacks s.slots → AskedFinds setting stacks s read → OnHave (applied_or_refused setting s read)
+  asked_has : (s : RunState) (read : Result Line ScriptKind) → HaveStacks stacks s.slots → AskedFinds setting stacks s read
+      → OnHave (applied_or_refused setting s read)
   asked_has s (Ok lines.Blank) have finds = have
   asked_has s (Ok (lines.Step step)) have finds = step_has s.slots s.world step have finds
   asked_has s (Ok (lines.At moment)) have finds = have
@@ -144,11 +153,13 @@ module _ (setting : Setting) (stacks : Stacks) where
   on_if true kind r there = tt
   on_if false kind r there = there
 
-  line_has : (n : ℕ) (s : RunState) (line : List ℕ) → HaveStacks stacks s.slots → AskedFinds setting stacks s (parsed line) → OnHave (step_at (line_step setting) n s line)
+  line_has : (n : ℕ) (s : RunState) (line : List ℕ) → HaveStacks stacks s.slots → AskedFinds setting stacks s (parsed line)
+      → OnHave (step_at (line_step setting) n s line)
   unfolding step_at line_step
   line_has n s line have finds = on_if (nat_le 65536 n) _ _ (on_if (nat_lt 513 (length line)) _ _ (asked_has s (parsed line) have finds))
 
-  on_each : (x : Result (RunState × List ℕ) ScriptKind) (Find : Type 0) (Starts Along : RunState → Type 0) → (Find → OnHave x) → ((t : RunState) → HaveStacks stacks t.slots → Starts t → Along t)
+  on_each : (x : Result (RunState × List ℕ) ScriptKind) (Find : Type 0) (Starts Along : RunState → Type 0) → (Find → OnHave x)
+      → ((t : RunState) → HaveStacks stacks t.slots → Starts t → Along t)
       → OnState setting x (λ t. Find × Starts t) → OnState setting x (λ t. HaveStacks stacks t.slots × Along t)
   on_each (Ok x) Find Starts Along here each finds = let have : HaveStacks stacks x.0.slots = here finds.0 in (have, each x.0 have finds.1)
   on_each (Err kind) Find Starts Along here each finds = tt
@@ -156,4 +167,5 @@ module _ (setting : Setting) (stacks : Stacks) where
   pub starts_have : (n : ℕ) (s : RunState) (ls : List (List ℕ)) → HaveStacks stacks s.slots → StartsFind setting stacks n s ls → HaveAlong setting stacks n s ls
   starts_have n s [] have finds = tt
   starts_have n s (l ∷ ls) have finds =
-      on_each (step_at (line_step setting) n s l) (AskedFinds setting stacks s (parsed l)) _ (λ t. HaveAlong setting stacks (n + 1) t ls) (line_has n s l have) (λ t have' finds'. starts_have (n + 1) t ls have' finds') finds
+      on_each (step_at (line_step setting) n s l) (AskedFinds setting stacks s (parsed l)) _ (λ t. HaveAlong setting stacks (n + 1) t ls) (line_has n s l have)
+          (λ t have' finds'. starts_have (n + 1) t ls have' finds') finds

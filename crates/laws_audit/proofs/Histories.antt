@@ -23,8 +23,12 @@ use Rattle.mod_history.specs.History.{history_text}
 use Rattle.mod_history.specs.Renewal.{hashes_of, renewed}
 use Rattle.mod_history.specs.Wheel.{checks_wheel, code_by_groups, code_by_passwds, wheel_act}
 use Rattle.mod_history.specs.Securetty.{terminal_for_account, terminal_code, checks_if_root, looks_up_terminal, checks_terminal, securetty_act, terminal_name}
-use Rattle.mod_history.specs.Pwhistory.{at_once, stores_if_fits, unless_remember_zero, remembers_if_taken, stores_unless_used, checks_token, compares_token, history_in, history_limit, history_name, if_locked, is_refused, locks_history, pwhistory_act, refuses_token, remember_in_history, remember_locked, remember_of, remembers, renew_if_known, renews, stores_text, unless_refused, unless_used, unsets_item}
-use Rattle.laws_audit.proofs.Steps.{Leaves, answering, asking, finding, holding, letting_go, reading, reading_groups, reading_passwds, replacing, seeing_caller, seeing_items, showing, unless}
+use Rattle.mod_history.specs.Pwhistory.{at_once, stores_if_fits, unless_remember_zero, remembers_if_taken, stores_unless_used, checks_token}
+use Rattle.mod_history.specs.Pwhistory.{compares_token, history_in, history_limit, history_name, if_locked, is_refused, locks_history}
+use Rattle.mod_history.specs.Pwhistory.{pwhistory_act, refuses_token, remember_in_history, remember_locked, remember_of, remembers}
+use Rattle.mod_history.specs.Pwhistory.{renew_if_known, renews, stores_text, unless_refused, unless_used, unsets_item}
+use Rattle.laws_audit.proofs.Steps.{Leaves, answering, asking, finding, holding, letting_go, reading, reading_groups, reading_passwds}
+use Rattle.laws_audit.proofs.Steps.{replacing, seeing_caller, seeing_items, showing, unless}
 use Rattle.laws_audit.proofs.Unixes.{looking, taking}
 
 module _ (path : List ℕ) where
@@ -39,16 +43,19 @@ module _ (path : List ℕ) where
       asking path (λ user. reads_passwds (λ passwds. unless_answered (code_by_passwds args caller user passwds) (groups_read user passwds)))
       (λ user. reading_passwds path (λ passwds. unless_answered (code_by_passwds args caller user passwds) (groups_read user passwds))
       (λ passwds. unless path (code_by_passwds args caller user passwds) (groups_read user passwds)
-      (reading_groups path (λ groups. answers (code_by_groups args caller passwds groups)) (λ groups. answering path (code_by_groups args caller passwds groups)))))
+      (reading_groups path (λ groups. answers (code_by_groups args caller passwds groups))
+          (λ groups. answering path (code_by_groups args caller passwds groups)))))
 
   pub wheel_leaves : (call : PlainCall) → Still (wheel_act call)
-  wheel_leaves call = unless path (code_unchecked call.func returns.Success) (sees_caller (checks_wheel call.args)) (seeing_caller path (checks_wheel call.args) (wheel_checked call.args))
+  wheel_leaves call = unless path (code_unchecked call.func returns.Success) (sees_caller (checks_wheel call.args))
+      (seeing_caller path (checks_wheel call.args) (wheel_checked call.args))
 
   -- ---- pam_securetty
 
   terminal_checked : (tty : Option (List ℕ)) → Still (looks_up_terminal tty)
   terminal_checked None = answering path returns.ServiceErr
-  terminal_checked (Some tty) = reading path (codes "/etc/securetty") account_limit (λ content. answers (terminal_code (terminal_name tty) content)) (λ content. answering path (terminal_code (terminal_name tty) content))
+  terminal_checked (Some tty) = reading path (codes "/etc/securetty") account_limit (λ content. answers (terminal_code (terminal_name tty) content))
+      (λ content. answering path (terminal_code (terminal_name tty) content))
 
   root_checked : (root : Bool) → Still (checks_if_root root)
   root_checked true = seeing_items path (λ items. looks_up_terminal items.tty) (λ items. terminal_checked items.tty)
@@ -108,7 +115,8 @@ module _ (path : List ℕ) where
 
       read_again : Still (remember_locked call remember user hash token ends)
       unfolding remember_locked
-      read_again = reading path history_name history_limit (λ content. remember_in_history call remember user hash token (history_in content) ends) (λ content. history_read (history_in content))
+      read_again = reading path history_name history_limit (λ content. remember_in_history call remember user hash token (history_in content) ends)
+          (λ content. history_read (history_in content))
 
       by_held : (held : Bool) → Still (if_locked call remember user hash token act held)
       by_held true = read_again
@@ -130,7 +138,8 @@ module _ (path : List ℕ) where
 
       unless_zero : (zero : Bool) → Still (unless_remember_zero zero call remember user hash token act)
       unless_zero true = next returns.Success
-      unless_zero false = reading path history_name history_limit (λ content. compares_token call remember user hash token (history_in content) act) (λ content. compared (history_in content))
+      unless_zero false = reading path history_name history_limit (λ content. compares_token call remember user hash token (history_in content) act)
+          (λ content. compared (history_in content))
 
     module _ (call : PlainCall) (user : List ℕ) where
       with_token : (hash : List ℕ) (token : Option (List ℕ)) → Still (remembers_if_taken call user hash token act)
@@ -154,7 +163,8 @@ module _ (path : List ℕ) where
 
     checking : (call : PlainCall) → Still (checks_token call act)
     unfolding checks_token
-    checking call = asking path (λ user. looks user (λ look. renew_if_known call user look act)) (λ user. looking path user (λ look. renew_if_known call user look act) (by_known call user))
+    checking call = asking path (λ user. looks user (λ look. renew_if_known call user look act))
+        (λ user. looking path user (λ look. renew_if_known call user look act) (by_known call user))
 
   pub pwhistory_leaves : ((root : List ℕ) → path_of root history_name ≡ path → ⊥) → (call : PlainCall) → Still (pwhistory_act call)
   pwhistory_leaves apart call = unless path (at_once call.func call.flags) (checks_token call answers) (checking apart answers (answering path) call)

@@ -1,5 +1,6 @@
 -- A stack that is loaded without a fault has at most 4,096 lines.
-use Rattle.std.proofs.Common.{◌≡◌, ℕ, zero, suc, ◌+◌, ◌-◌, ◌<◌, ◌≤◌, Bool, true, false, ◌==◌, ◌&&◌, cond, nat_le, nat_lt, List, [], ◌∷◌, ◌++◌, map, codes, Option, Some, None, Result, Ok, Err, refl, sym, ◌∙◌, subst, arith}
+use Rattle.std.proofs.Common.{◌≡◌, ℕ, zero, suc, ◌+◌, ◌-◌, ◌<◌, ◌≤◌, Bool, true, false, ◌==◌, ◌&&◌, cond, nat_le, nat_lt, List, [], ◌∷◌}
+use Rattle.std.proofs.Common.{◌++◌, map, codes, Option, Some, None, Result, Ok, Err, refl, sym, ◌∙◌, subst, arith}
 use Rattle.std.proofs.lemmas.Bool.Decides.{nat_tests}
 use Rattle.std.specs.List.{AllByRecursion, cons_option, filter_map, flat_map, list_all}
 use Rattle.std.specs.Result.{is_ok, result_ok}
@@ -17,7 +18,8 @@ use Rattle.control_words.specs.conf_lex.specs.declared.token.Token.{Token}
 use Rattle.laws_audit.proofs.Naming.{OnGood, good_if, kept_good}
 use Rattle.service_load.specs.Files.{Held, absent, faulty, holds, all_fine, entries_of, held, is_absent, is_in_folder, plain_file, rules_held}
 use Rattle.service_load.specs.FirstFault.{Counts, Stop, absent_file, asked, behind, checked_rule, going_on, held_file, look, opened, stop}
-use Rattle.service_load.specs.Order.{Item, Opener, as_last, as_other, as_service, begin, by_rule, checked, content_items, entry_items, file_items, items, items_of, made, opening, other_opener, tree_items, trees_items}
+use Rattle.service_load.specs.Order.{Item, Opener, as_last, as_other, as_service, begin, by_rule, checked, content_items, entry_items}
+use Rattle.service_load.specs.Order.{file_items, items, items_of, made, opening, other_opener, tree_items, trees_items}
 use Rattle.service_load.specs.Tree.{content_nodes, entry_nodes, nodes, nodes_of, serves, tree_from, tree_of}
 use Rattle.service_load.specs.RuleType.{is_word, type_field_of}
 use Rattle.service_load.specs.declared.rule_type.RuleType.{RuleType}
@@ -75,7 +77,8 @@ module _ (texts : List ℕ → Option (List ℕ)) (fails : List ℕ) where
   unfolding look
   item_adds i is m n one rest c = both_add (behind texts fails c i) c.lines m n (λ d. look texts fails d is) (one c) rest
 
-  going_along : (first : Result Counts Stop) (xs ys : List Item) → ((c : Counts) → look texts fails c (xs ++ ys) ≡ going_on (look texts fails c xs) (λ d. look texts fails d ys))
+  going_along : (first : Result Counts Stop) (xs ys : List Item) → ((c : Counts)
+      → look texts fails c (xs ++ ys) ≡ going_on (look texts fails c xs) (λ d. look texts fails d ys))
       → going_on first (λ c. look texts fails c (xs ++ ys)) ≡ going_on (going_on first (λ c. look texts fails c xs)) (λ d. look texts fails d ys)
   going_along (Ok c) xs ys rest = rest c
   going_along (Err s) xs ys rest = refl
@@ -140,10 +143,12 @@ module _ (texts : List ℕ → Option (List ℕ)) (fails : List ℕ) (type : Rul
   as_substack is s a = same_number texts fails is (lines_in s) (lines_in s + 0) (omega arith) a
 
   as_line : (name : List ℕ) (n : ℕ) → AddsAll texts fails (made name n ∷ []) 1
-  as_line name n = same_number texts fails (made name n ∷ []) (1 + 0) 1 refl (item_adds texts fails (made name n) [] 1 0 (made_adds texts fails name n) (nothing_added texts fails))
+  as_line name n = same_number texts fails (made name n ∷ []) (1 + 0) 1 refl
+      (item_adds texts fails (made name n) [] 1 0 (made_adds texts fails name n) (nothing_added texts fails))
 
   control_adds : (silent : Bool) (control : Result (List Action) ControlFault) (ts : List Token)
-      → OnGood (λ c. (name : List ℕ) (n : ℕ) → AddsAll texts fails (content_items deeper name n c) (lines_in (content_nodes stacks c))) (with_control silent control ts)
+      → OnGood (λ c. (name : List ℕ) (n : ℕ) → AddsAll texts fails (content_items deeper name n c) (lines_in (content_nodes stacks c)))
+          (with_control silent control ts)
   control_adds silent (Ok control) [] = tt
   control_adds silent (Ok control) (t ∷ ts) = λ name n. as_line name n
   control_adds silent (Err fault) ts = tt
@@ -152,14 +157,19 @@ module _ (texts : List ℕ → Option (List ℕ)) (fails : List ℕ) (type : Rul
       → OnGood (λ c. (name : List ℕ) (n : ℕ) → AddsAll texts fails (content_items deeper name n c) (lines_in (content_nodes stacks c))) (after_type silent ts)
   behind_adds silent [] = tt
   behind_adds silent (t ∷ []) =
-      good_if (λ c. (name : List ℕ) (n : ℕ) → AddsAll texts fails (content_items deeper name n c) (lines_in (content_nodes stacks c))) (is_word (codes "include") t) _ _ tt
-      (good_if (λ c. (name : List ℕ) (n : ℕ) → AddsAll texts fails (content_items deeper name n c) (lines_in (content_nodes stacks c))) (is_word (codes "substack") t) _ _ tt
+      good_if (λ c. (name : List ℕ) (n : ℕ) → AddsAll texts fails (content_items deeper name n c) (lines_in (content_nodes stacks c)))
+          (is_word (codes "include") t) _ _ tt
+      (good_if (λ c. (name : List ℕ) (n : ℕ) → AddsAll texts fails (content_items deeper name n c) (lines_in (content_nodes stacks c)))
+          (is_word (codes "substack") t) _ _ tt
       (control_adds silent (control_of t.bracketed t.text) []))
   behind_adds silent (t ∷ u ∷ us) =
-      good_if (λ c. (name : List ℕ) (n : ℕ) → AddsAll texts fails (content_items deeper name n c) (lines_in (content_nodes stacks c))) (is_word (codes "include") t) _ _
+      good_if (λ c. (name : List ℕ) (n : ℕ) → AddsAll texts fails (content_items deeper name n c) (lines_in (content_nodes stacks c)))
+          (is_word (codes "include") t) _ _
       (λ name n. adds (by_rule name n) (named_file u.text))
-      (good_if (λ c. (name : List ℕ) (n : ℕ) → AddsAll texts fails (content_items deeper name n c) (lines_in (content_nodes stacks c))) (is_word (codes "substack") t) _ _
-      (λ name n. as_substack (deeper (by_rule name n) (plain_file (named_file u.text))) (stacks (named_file u.text)) (adds (by_rule name n) (named_file u.text)))
+      (good_if (λ c. (name : List ℕ) (n : ℕ) → AddsAll texts fails (content_items deeper name n c) (lines_in (content_nodes stacks c)))
+          (is_word (codes "substack") t) _ _
+      (λ name n. as_substack (deeper (by_rule name n) (plain_file (named_file u.text))) (stacks (named_file u.text))
+          (adds (by_rule name n) (named_file u.text)))
       (control_adds silent (control_of t.bracketed t.text) (u ∷ us)))
 
   entry_adds : (n : ℕ) (own : Option RuleType) (content : _)
@@ -174,13 +184,16 @@ module _ (texts : List ℕ → Option (List ℕ)) (fails : List ℕ) (type : Rul
   typed_adds n (Some field) ts = entry_adds n (Some field.rule_type) (after_type field.silent ts) (behind_adds field.silent ts)
 
   tokens_add : (n : ℕ) (in_folder : Bool) (ts : List Token)
-      → OnGood (λ e. (name : List ℕ) → AddsAll texts fails (entry_items deeper type name e) (lines_in (entry_nodes stacks type e))) (entry_of_tokens n in_folder ts)
+      → OnGood (λ e. (name : List ℕ) → AddsAll texts fails (entry_items deeper type name e) (lines_in (entry_nodes stacks type e)))
+          (entry_of_tokens n in_folder ts)
   tokens_add n in_folder [] = tt
   tokens_add n true (t ∷ []) =
-      good_if (λ e. (name : List ℕ) → AddsAll texts fails (entry_items deeper type name e) (lines_in (entry_nodes stacks type e))) (is_word (codes "@include") t) _ _ tt
+      good_if (λ e. (name : List ℕ) → AddsAll texts fails (entry_items deeper type name e) (lines_in (entry_nodes stacks type e)))
+          (is_word (codes "@include") t) _ _ tt
       (typed_adds n (type_field_of t) [])
   tokens_add n true (t ∷ u ∷ us) =
-      good_if (λ e. (name : List ℕ) → AddsAll texts fails (entry_items deeper type name e) (lines_in (entry_nodes stacks type e))) (is_word (codes "@include") t) _ _
+      good_if (λ e. (name : List ℕ) → AddsAll texts fails (entry_items deeper type name e) (lines_in (entry_nodes stacks type e)))
+          (is_word (codes "@include") t) _ _
       (λ name. adds (by_rule name n) (named_file u.text)) (typed_adds n (type_field_of t) (u ∷ us))
   tokens_add n false (t ∷ ts) = typed_adds n (type_field_of t) ts
 
@@ -190,17 +203,21 @@ module _ (texts : List ℕ → Option (List ℕ)) (fails : List ℕ) (type : Rul
   rule_is_counted in_folder r = tokens_add r.line in_folder r.tokens
 
   rules_are_counted : (in_folder : Bool) (rules : List RawRule)
-      → AllByRecursion (λ e. (name : List ℕ) → AddsAll texts fails (entry_items deeper type name e) (lines_in (entry_nodes stacks type e))) (entries_of in_folder rules)
+      → AllByRecursion (λ e. (name : List ℕ) → AddsAll texts fails (entry_items deeper type name e) (lines_in (entry_nodes stacks type e)))
+          (entries_of in_folder rules)
   rules_are_counted in_folder [] = tt
   rules_are_counted in_folder (r ∷ rs) =
-      kept_good (λ e. (name : List ℕ) → AddsAll texts fails (entry_items deeper type name e) (lines_in (entry_nodes stacks type e))) (entry_of in_folder r) (entries_of in_folder rs)
+      kept_good (λ e. (name : List ℕ) → AddsAll texts fails (entry_items deeper type name e) (lines_in (entry_nodes stacks type e))) (entry_of in_folder r)
+          (entries_of in_folder rs)
       (rule_is_counted in_folder r) (rules_are_counted in_folder rs)
 
-  entries_add : (name : List ℕ) (es : _) → AllByRecursion (λ e. (name : List ℕ) → AddsAll texts fails (entry_items deeper type name e) (lines_in (entry_nodes stacks type e))) es
+  entries_add : (name : List ℕ) (es : _) → AllByRecursion (λ e. (name : List ℕ)
+      → AddsAll texts fails (entry_items deeper type name e) (lines_in (entry_nodes stacks type e))) es
       → AddsAll texts fails (items_of deeper type name es) (lines_in (nodes_of stacks type es))
   entries_add name [] a = nothing_added texts fails
   entries_add name (e ∷ es) a =
-      same_number texts fails (entry_items deeper type name e ++ items_of deeper type name es) _ _ (sym (lines_joined (entry_nodes stacks type e) (nodes_of stacks type es)))
+      same_number texts fails (entry_items deeper type name e ++ items_of deeper type name es) _ _
+          (sym (lines_joined (entry_nodes stacks type e) (nodes_of stacks type es)))
       (all_add texts fails (entry_items deeper type name e) (items_of deeper type name es) _ _ (a.0 name) (entries_add name es a.1))
 
   file_adds : (file : _) (rules : List RawRule)
@@ -210,7 +227,8 @@ module _ (texts : List ℕ → Option (List ℕ)) (fails : List ℕ) (type : Rul
       (entries_add file.name (entries_of (is_in_folder file) rules) (rules_are_counted (is_in_folder file) rules)) rules
 
 module _ (texts : List ℕ → Option (List ℕ)) (fails : List ℕ) where
-  items_add : (levels : ℕ) (type : RuleType) (opener : Opener) (file : _) → AddsAll texts fails (items texts levels type opener file) (lines_in (nodes texts levels type file))
+  items_add : (levels : ℕ) (type : RuleType) (opener : Opener) (file : _)
+      → AddsAll texts fails (items texts levels type opener file) (lines_in (nodes texts levels type file))
   unfolding items nodes
   items_add zero type opener file =
       same_number texts fails (opening file 17 opener ∷ []) (0 + 0) 0 refl
@@ -218,14 +236,17 @@ module _ (texts : List ℕ → Option (List ℕ)) (fails : List ℕ) where
   items_add (suc levels) type opener file =
       let stacks : List ℕ → Stack = λ name. nodes texts levels type (plain_file name) in
       let n : ℕ = lines_in (nodes_of stacks type (entries_of (is_in_folder file) (rules_held (held texts file)))) in
-      same_number texts fails (opening file (16 - levels) opener ∷ file_items (items texts levels type) type file (rules_held (held texts file))) (0 + n) n (omega arith)
+      same_number texts fails (opening file (16 - levels) opener ∷ file_items (items texts levels type) type file (rules_held (held texts file))) (0 + n) n
+          (omega arith)
       (item_adds texts fails (opening file (16 - levels) opener) (file_items (items texts levels type) type file (rules_held (held texts file))) 0 n
       (opening_adds texts fails file (16 - levels) opener)
-      (file_adds texts fails type (items texts levels type) stacks (λ why name. items_add levels type why (plain_file name)) file (rules_held (held texts file))))
+      (file_adds texts fails type (items texts levels type) stacks (λ why name. items_add levels type why (plain_file name)) file
+          (rules_held (held texts file))))
 
   -- ---- a tree
 
-  tree_body : (empty : Bool) (own other : Stack) (front more : List Item) → (count own == 0) ≡ empty → AddsAll texts fails front (lines_in own) → AddsAll texts fails more (lines_in other)
+  tree_body : (empty : Bool) (own other : Stack) (front more : List Item) → (count own == 0) ≡ empty → AddsAll texts fails front (lines_in own)
+      → AddsAll texts fails more (lines_in other)
       → AddsAll texts fails (front ++ cond empty more []) (lines_in (cond empty other own))
   tree_body true own other front more e a b =
       let none_own = no_lines own e in

@@ -27,12 +27,18 @@ use Rattle.mod_lists.specs.declared.list_values.Values.{Values}
 use Rattle.mod_lists.specs.declared.list_values.Values.TheVariants as values
 use Rattle.mod_lists.specs.declared.truth.Truth.{Truth}
 use Rattle.mod_lists.specs.declared.truth.Truth.TheVariants as truths
-use Rattle.mod_lists.specs.Nologin.{notice_for_account as notice_account, after_notice, admits_root_only, checks_notice, nologin_act, notice_limit, or_etc, plain_answer, reads_notice, reads_usual}
+use Rattle.mod_lists.specs.Nologin.{notice_for_account as notice_account, after_notice, admits_root_only, checks_notice, nologin_act}
+use Rattle.mod_lists.specs.Nologin.{notice_limit, or_etc, plain_answer, reads_notice, reads_usual}
 use Rattle.mod_lists.specs.ListSettings.{PlainApply, PlainSettings, apply_of, everyone, members, one, settings_of}
-use Rattle.mod_lists.specs.Listfile.{applies, at_once as listfile_at_once, reads_group_values as values_account, if_applies, file_verdict, applies_in_groups as applies_groups, applies_after_passwds as applies_passwds, checks_list, code_for_values, error_answer, group_values, listfile_act, reads_values, shell_values, text_values, verdict, yes_or_no}
+use Rattle.mod_lists.specs.Listfile.{applies, at_once as listfile_at_once, reads_group_values as values_account, if_applies, file_verdict}
+use Rattle.mod_lists.specs.Listfile.{applies_in_groups as applies_groups, applies_after_passwds as applies_passwds, checks_list}
+use Rattle.mod_lists.specs.Listfile.{code_for_values, error_answer, group_values, listfile_act, reads_values, shell_values, text_values}
+use Rattle.mod_lists.specs.Listfile.{verdict, yes_or_no}
 use Rattle.mod_lists.specs.Shells.{checks_login_shell as shell_account, checks_shell, list_code, login_shell, shells_act}
 use Rattle.mod_lists.specs.Condition.{PlainCondition, PlainTest, condition_of, grouped, on, on_text}
-use Rattle.mod_lists.specs.SucceedIf.{at_once as succeed_at_once, tried_in_groups as groups_truth, tries_after_passwds as truth_passwds, rest_if_holds, unless_use_uid, checks_conditions, conditions_in, item_text, meets_all, on_account, succeed_if_act, tests_field, tries, tries_words, uses_uid}
+use Rattle.mod_lists.specs.SucceedIf.{at_once as succeed_at_once, tried_in_groups as groups_truth, tries_after_passwds as truth_passwds}
+use Rattle.mod_lists.specs.SucceedIf.{rest_if_holds, unless_use_uid, checks_conditions, conditions_in, item_text, meets_all, on_account}
+use Rattle.mod_lists.specs.SucceedIf.{succeed_if_act, tests_field, tries, tries_words, uses_uid}
 use Rattle.laws_audit.proofs.Steps.{Leaves, answering, asking, finding, reading, reading_groups, reading_passwds, reading_shells, seeing_items, showing, unless}
 
 module _ (path : List ℕ) where
@@ -79,19 +85,25 @@ module _ (path : List ℕ) where
     values_by : (v : Values) → Still (code_for_values error s v)
     values_by values.Unset = answering path (verdict s.sense false)
     values_by values.Unknown = answering path error
-    values_by (values.These wanted) = reading path s.file account_limit (λ content. answers (file_verdict error s.sense wanted content)) (λ content. answering path (file_verdict error s.sense wanted content))
+    values_by (values.These wanted) = reading path s.file account_limit (λ content. answers (file_verdict error s.sense wanted content))
+        (λ content. answering path (file_verdict error s.sense wanted content))
 
     module _ (user : List ℕ) where
       values_of_account : (a : Account) → Still (values_account user (code_for_values error s) a)
-      values_of_account (found entry) = reading_groups path (λ groups. code_for_values error s (group_values user (found entry) groups)) (λ groups. values_by (group_values user (found entry) groups))
+      values_of_account (found entry) = reading_groups path (λ groups. code_for_values error s (group_values user (found entry) groups))
+          (λ groups. values_by (group_values user (found entry) groups))
       values_of_account missing = values_by values.Unknown
       values_of_account unreadable = values_by values.Unknown
 
       values_read : (item : ListItem) → Still (reads_values item user (code_for_values error s))
-      values_read Tty = seeing_items path (λ texts. code_for_values error s (text_values Tty (text_of texts names.Tty))) (λ texts. values_by (text_values Tty (text_of texts names.Tty)))
-      values_read User = seeing_items path (λ texts. code_for_values error s (text_values User (text_of texts names.User))) (λ texts. values_by (text_values User (text_of texts names.User)))
-      values_read Rhost = seeing_items path (λ texts. code_for_values error s (text_values Rhost (text_of texts names.Rhost))) (λ texts. values_by (text_values Rhost (text_of texts names.Rhost)))
-      values_read Ruser = seeing_items path (λ texts. code_for_values error s (text_values Ruser (text_of texts names.Ruser))) (λ texts. values_by (text_values Ruser (text_of texts names.Ruser)))
+      values_read Tty = seeing_items path (λ texts. code_for_values error s (text_values Tty (text_of texts names.Tty)))
+          (λ texts. values_by (text_values Tty (text_of texts names.Tty)))
+      values_read User = seeing_items path (λ texts. code_for_values error s (text_values User (text_of texts names.User)))
+          (λ texts. values_by (text_values User (text_of texts names.User)))
+      values_read Rhost = seeing_items path (λ texts. code_for_values error s (text_values Rhost (text_of texts names.Rhost)))
+          (λ texts. values_by (text_values Rhost (text_of texts names.Rhost)))
+      values_read Ruser = seeing_items path (λ texts. code_for_values error s (text_values Ruser (text_of texts names.Ruser)))
+          (λ texts. values_by (text_values Ruser (text_of texts names.Ruser)))
       values_read Shell = finding path user (λ account. code_for_values error s (shell_values account)) (λ account. values_by (shell_values account))
       values_read Group = finding path user (values_account user (code_for_values error s)) values_of_account
 
@@ -103,7 +115,8 @@ module _ (path : List ℕ) where
       members_read : (name : List ℕ) (entries : Option (List Passwd)) → Still (applies_passwds name user (if_applies error s user) entries)
       members_read name None = applied Unknown
       members_read name (Some entries) =
-          reading_groups path (λ groups. if_applies error s user (applies_groups name user (entry_of user entries) groups)) (λ groups. applied (applies_groups name user (entry_of user entries) groups))
+          reading_groups path (λ groups. if_applies error s user (applies_groups name user (entry_of user entries) groups))
+              (λ groups. applied (applies_groups name user (entry_of user entries) groups))
 
       list_applies : (a : PlainApply) → Still (applies a user (if_applies error s user))
       list_applies everyone = applied Yes
@@ -112,7 +125,8 @@ module _ (path : List ℕ) where
 
   list_by_settings : (error : Code) (args : List (List ℕ)) (s : Option PlainSettings) → Still (checks_list error args s)
   list_by_settings error args None = answering path error
-  list_by_settings error args (Some s) = asking path (λ user. applies (apply_of s.item args) user (if_applies error s user)) (λ user. list_applies error s user (apply_of s.item args))
+  list_by_settings error args (Some s) = asking path (λ user. applies (apply_of s.item args) user (if_applies error s user))
+      (λ user. list_applies error s user (apply_of s.item args))
 
   pub listfile_leaves : (call : PlainCall) → Still (listfile_act call)
   listfile_leaves call = unless path (listfile_at_once call.func) (checks_list (error_answer call.args) call.args (settings_of call.args))
@@ -123,7 +137,8 @@ module _ (path : List ℕ) where
   shell_by_account : (a : Account) → Still (shell_account a)
   shell_by_account unreadable = answering path returns.AuthErr
   shell_by_account missing = answering path returns.AuthErr
-  shell_by_account (found entry) = reading_shells path (λ shells. answers (list_code (login_shell entry.shell) shells)) (λ shells. answering path (list_code (login_shell entry.shell) shells))
+  shell_by_account (found entry) = reading_shells path (λ shells. answers (list_code (login_shell entry.shell) shells))
+      (λ shells. answering path (list_code (login_shell entry.shell) shells))
 
   pub shells_leaves : (call : PlainCall) → Still (shells_act call)
   shells_leaves call = unless path (code_unchecked call.func returns.Success) checks_shell
@@ -133,12 +148,15 @@ module _ (path : List ℕ) where
 
   module _ (user : List ℕ) (act : Truth → Act) (next : (t : Truth) → Still (act t)) where
     field_tested : (field : Field) (test : PlainTest) → Still (tests_field field test user act)
-    field_tested (fields.Item item) test = seeing_items path (λ items. act (on_text test (item_text item items))) (λ items. next (on_text test (item_text item items)))
-    field_tested (fields.Account field) test = finding path user (λ account. act (on_account test field account)) (λ account. next (on_account test field account))
+    field_tested (fields.Item item) test = seeing_items path (λ items. act (on_text test (item_text item items)))
+        (λ items. next (on_text test (item_text item items)))
+    field_tested (fields.Account field) test = finding path user (λ account. act (on_account test field account))
+        (λ account. next (on_account test field account))
 
     groups_tested : (sense : Bool) (names : List (List ℕ)) (entries : Option (List Passwd)) → Still (truth_passwds sense names user act entries)
     groups_tested sense names None = next truths.Faulty
-    groups_tested sense names (Some entries) = reading_groups path (λ groups. act (groups_truth sense names user (entry_of user entries) groups)) (λ groups. next (groups_truth sense names user (entry_of user entries) groups))
+    groups_tested sense names (Some entries) = reading_groups path (λ groups. act (groups_truth sense names user (entry_of user entries) groups))
+        (λ groups. next (groups_truth sense names user (entry_of user entries) groups))
 
     tried : (condition : PlainCondition) → Still (tries condition user act)
     tried (on field test) = field_tested field test

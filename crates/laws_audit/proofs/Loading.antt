@@ -30,7 +30,8 @@ printable_by : (stack : Stack) → AreNamed stack → lines_in stack ≤ 4096 �
 printable_by stack named few = record { named = named; placed = omega arith }
 
 module _ (reading : (text : List ℕ) → IsReading text (pieces_of text)) where
-  under_printable : (vault : VaultState) (root service : List ℕ) (counts : Counts) (of_bytes : AllByRecursion (λ (f : File). AllByRecursion (λ (b : ℕ). b < 256) f.bytes) vault.files)
+  under_printable : (vault : VaultState) (root service : List ℕ) (counts : Counts)
+      (of_bytes : AllByRecursion (λ (f : File). AllByRecursion (λ (b : ℕ). b < 256) f.bytes) vault.files)
       → loaded vault root service ≡ Ok counts → ArePrintable (stacks_under vault root service)
   under_printable vault root service counts of_bytes e =
       let own = service_file (has_folder vault root) service in

@@ -1,5 +1,6 @@
 -- The names of the modules of a stack that is loaded from files of bytes are of bytes.
-use Rattle.std.proofs.Common.{◌≡◌, ℕ, zero, suc, ◌+◌, ◌-◌, ◌<◌, Bool, true, false, cond, List, [], ◌∷◌, ◌++◌, length, take, map, nat_eq, nat_lt, Option, Some, None, Result, Ok, Err, refl, codes, subst, arith, ◌==◌}
+use Rattle.std.proofs.Common.{◌≡◌, ℕ, zero, suc, ◌+◌, ◌-◌, ◌<◌, Bool, true, false, cond, List, [], ◌∷◌, ◌++◌, length, take, map, nat_eq}
+use Rattle.std.proofs.Common.{nat_lt, Option, Some, None, Result, Ok, Err, refl, codes, subst, arith, ◌==◌}
 use Rattle.std.specs.List.{AllByRecursion, cons_option, ends_with, flat_map, filter_map}
 use Rattle.std.specs.Result.{result_ok}
 use Rattle.pam_base.specs.Bytes.{has_byte}
@@ -9,7 +10,9 @@ use Rattle.pam_outside.specs.Paths.{path_of}
 use Rattle.std.specs.Str.{bytes_eq}
 use Rattle.control_words.specs.conf_lex.specs.Answer.{answer_to, answer_unless_nul}
 use Rattle.control_words.specs.conf_lex.specs.Lexing.{answer_at, answer_of, given, nul_line}
-use Rattle.control_words.specs.conf_lex.specs.Piece.{BracketUnit, escaped, joined, single, units_bytes, units_text, Piece, newline, white, join, plain, bracket, open_bracket, comment, IsReading, is_newline, piece_bytes, piece_tokens, spelling, tokens_of}
+use Rattle.control_words.specs.conf_lex.specs.Piece.{BracketUnit, escaped, joined, single, units_bytes, units_text, Piece, newline, white}
+use Rattle.control_words.specs.conf_lex.specs.Piece.{join, plain, bracket, open_bracket, comment, IsReading, is_newline, piece_bytes}
+use Rattle.control_words.specs.conf_lex.specs.Piece.{piece_tokens, spelling, tokens_of}
 use Rattle.control_words.specs.conf_lex.specs.Piece as pieces
 use Rattle.control_words.specs.conf_lex.specs.Reading.{pieces_of}
 use Rattle.control_words.specs.conf_lex.specs.Rules.{JoinedLine, first_fault, in_front, line_rules, lines_of_pieces, newlines, numbered, rule_at}
@@ -23,7 +26,8 @@ use Rattle.control_words.specs.Stack.{Stack, count, none, line, sub}
 use Rattle.control_words.specs.declared.bracket.ControlFault.{ControlFault}
 use Rattle.control_words.specs.declared.control.Action.{Action}
 use Rattle.service_load.specs.Entry.{after_type, entry_at, entry_of, entry_of_tokens, named_file, with_control, with_type}
-use Rattle.service_load.specs.Files.{Held, absent, faulty, holds, entries_of, held, held_answer, held_for, held_in_conf, held_text, is_in_folder, own_rule, own_rules, plain_file, rule_without, rules_held}
+use Rattle.service_load.specs.Files.{Held, absent, faulty, holds, entries_of, held, held_answer, held_for, held_in_conf, held_text}
+use Rattle.service_load.specs.Files.{is_in_folder, own_rule, own_rules, plain_file, rule_without, rules_held}
 use Rattle.service_load.specs.RuleType.{is_word, type_field_of}
 use Rattle.service_load.specs.Tree.{content_nodes, entry_nodes, nodes, nodes_of, serves, tree_from, tree_of}
 use Rattle.service_load.specs.declared.rule_type.RuleType.{RuleType}
@@ -86,12 +90,14 @@ piece_of_bytes (comment text) a = tt
 pieces_of_bytes : (ps : List Piece) → AreBytes (spelling ps) → AllByRecursion IsPiece ps
 pieces_of_bytes [] a = tt
 pieces_of_bytes (p ∷ ps) a =
-    (piece_of_bytes p (left_all (λ (b : ℕ). b < 256) (piece_bytes p) (spelling ps) a), pieces_of_bytes ps (right_all (λ (b : ℕ). b < 256) (piece_bytes p) (spelling ps) a))
+    (piece_of_bytes p (left_all (λ (b : ℕ). b < 256) (piece_bytes p) (spelling ps) a),
+        pieces_of_bytes ps (right_all (λ (b : ℕ). b < 256) (piece_bytes p) (spelling ps) a))
 
 abbrev pub IsLine : JoinedLine → Type 0
 IsLine l = AllByRecursion IsPiece l.pieces
 
-front_of_bytes : (p : Piece) (ls : List (List Piece)) → IsPiece p → AllByRecursion (AllByRecursion IsPiece) ls → AllByRecursion (AllByRecursion IsPiece) (in_front p ls)
+front_of_bytes : (p : Piece) (ls : List (List Piece)) → IsPiece p → AllByRecursion (AllByRecursion IsPiece) ls
+    → AllByRecursion (AllByRecursion IsPiece) (in_front p ls)
 front_of_bytes p [] a b = ((a, tt), tt)
 front_of_bytes p (l ∷ ls) a b = ((a, b.0), b.1)
 
@@ -151,7 +157,8 @@ module _ (reading : (text : List ℕ) → IsReading text (pieces_of text)) where
 
   -- ---- the rules of a file
 
-  without_service : (is : Bool) (n : ℕ) (ts : List Token) → AllByRecursion IsToken ts → AllByRecursion IsRule (cond is (record { line = n; tokens = ts } ∷ []) [])
+  without_service : (is : Bool) (n : ℕ) (ts : List Token) → AllByRecursion IsToken ts
+      → AllByRecursion IsRule (cond is (record { line = n; tokens = ts } ∷ []) [])
   without_service true n ts a = (a, tt)
   without_service false n ts a = tt
 
@@ -174,7 +181,8 @@ module _ (reading : (text : List ℕ) → IsReading text (pieces_of text)) where
   held_rules None rules a = all_own None rules a
   held_rules (Some service) rules a = in_conf (own_rules (Some service) rules) (all_own (Some service) rules a)
 
-  held_by : (service : Option (List ℕ)) (answer : Result (List RawRule) LexFault) → AreRules answer → AllByRecursion IsRule (rules_held (held_answer service answer))
+  held_by : (service : Option (List ℕ)) (answer : Result (List RawRule) LexFault) → AreRules answer
+      → AllByRecursion IsRule (rules_held (held_answer service answer))
   held_by service (Ok rules) a = held_rules service rules a
   held_by service (Err fault) a = tt
 
@@ -230,7 +238,8 @@ pub good_if : {A E : Type 0} (P : A → Type 0) (b : Bool) (x y : Result A E) �
 good_if P true x y a b = a
 good_if P false x y a b = b
 
-pub kept_good : {A E : Type 0} (P : A → Type 0) (found : Result A E) (more : List A) → OnGood P found → AllByRecursion P more → AllByRecursion P (cons_option (result_ok found) more)
+pub kept_good : {A E : Type 0} (P : A → Type 0) (found : Result A E) (more : List A) → OnGood P found → AllByRecursion P more
+    → AllByRecursion P (cons_option (result_ok found) more)
 kept_good P (Ok x) more a b = (a, b)
 kept_good P (Err e) more a b = b
 
@@ -258,31 +267,38 @@ module _ (deeper : List ℕ → Stack) (named : (name : List ℕ) → AreNamed (
   entry_named n own (Ok c) a = named_if (serves type own) _ _ a tt
   entry_named n own (Err kind) a = tt
 
-  typed_named : (n : ℕ) (field : Option _) (ts : List Token) → AllByRecursion IsToken ts → OnGood (λ e. AreNamed (entry_nodes deeper type e)) (with_type n field ts)
+  typed_named : (n : ℕ) (field : Option _) (ts : List Token) → AllByRecursion IsToken ts
+      → OnGood (λ e. AreNamed (entry_nodes deeper type e)) (with_type n field ts)
   typed_named n None ts a = tt
   typed_named n (Some field) ts a = entry_named n (Some field.rule_type) (after_type field.silent ts) (behind_named field.silent ts a)
 
-  tokens_named : (n : ℕ) (in_folder : Bool) (ts : List Token) → AllByRecursion IsToken ts → OnGood (λ e. AreNamed (entry_nodes deeper type e)) (entry_of_tokens n in_folder ts)
+  tokens_named : (n : ℕ) (in_folder : Bool) (ts : List Token) → AllByRecursion IsToken ts
+      → OnGood (λ e. AreNamed (entry_nodes deeper type e)) (entry_of_tokens n in_folder ts)
   tokens_named n in_folder [] a = tt
-  tokens_named n true (t ∷ []) a = good_if (λ e. AreNamed (entry_nodes deeper type e)) (is_word (codes "@include") t) _ _ tt (typed_named n (type_field_of t) [] tt)
+  tokens_named n true (t ∷ []) a = good_if (λ e. AreNamed (entry_nodes deeper type e)) (is_word (codes "@include") t) _ _ tt
+      (typed_named n (type_field_of t) [] tt)
   tokens_named n true (t ∷ u ∷ us) a =
-      good_if (λ e. AreNamed (entry_nodes deeper type e)) (is_word (codes "@include") t) _ _ (named (named_file u.text)) (typed_named n (type_field_of t) (u ∷ us) a.1)
+      good_if (λ e. AreNamed (entry_nodes deeper type e)) (is_word (codes "@include") t) _ _ (named (named_file u.text))
+          (typed_named n (type_field_of t) (u ∷ us) a.1)
   tokens_named n false (t ∷ ts) a = typed_named n (type_field_of t) ts a.1
 
   rule_named : (in_folder : Bool) (r : RawRule) → IsRule r → OnGood (λ e. AreNamed (entry_nodes deeper type e)) (entry_of in_folder r)
   unfolding entry_of
   rule_named in_folder r a = tokens_named r.line in_folder r.tokens a
 
-  rules_named : (in_folder : Bool) (rules : List RawRule) → AllByRecursion IsRule rules → AllByRecursion (λ e. AreNamed (entry_nodes deeper type e)) (entries_of in_folder rules)
+  rules_named : (in_folder : Bool) (rules : List RawRule) → AllByRecursion IsRule rules
+      → AllByRecursion (λ e. AreNamed (entry_nodes deeper type e)) (entries_of in_folder rules)
   rules_named in_folder [] a = tt
   rules_named in_folder (r ∷ rs) a =
-      kept_good (λ e. AreNamed (entry_nodes deeper type e)) (entry_of in_folder r) (entries_of in_folder rs) (rule_named in_folder r a.0) (rules_named in_folder rs a.1)
+      kept_good (λ e. AreNamed (entry_nodes deeper type e)) (entry_of in_folder r) (entries_of in_folder rs) (rule_named in_folder r a.0)
+          (rules_named in_folder rs a.1)
 
   entries_named : (es : _) → AllByRecursion (λ e. AreNamed (entry_nodes deeper type e)) es → AreNamed (nodes_of deeper type es)
   entries_named [] a = tt
   entries_named (e ∷ es) a = joined_named (entry_nodes deeper type e) (nodes_of deeper type es) a.0 (entries_named es a.1)
 
-module _ (reading : (text : List ℕ) → IsReading text (pieces_of text)) (texts : List ℕ → Option (List ℕ)) (of_bytes : (name : List ℕ) → IsText (texts name)) where
+module _ (reading : (text : List ℕ) → IsReading text (pieces_of text)) (texts : List ℕ → Option (List ℕ))
+    (of_bytes : (name : List ℕ) → IsText (texts name)) where
   nodes_named : (levels : ℕ) (type : RuleType) (file : _) → AreNamed (nodes texts levels type file)
   unfolding nodes
   nodes_named zero type file = tt

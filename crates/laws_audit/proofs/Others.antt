@@ -81,5 +81,6 @@ module _ (root folder user : List ℕ) (apart : IsApart folder) (named : is_no_f
 
   pub alone : (players : List Player) → AreKnown players → FaillockAloneWrites path players
   alone [] known n p e = absurd cc
-  alone (q ∷ qs) known zero p e = subst (λ (x : Player). (x.plays ≡ faillock_plays) ⊎ LeavesFile path x.plays) (let same : q ≡ p = cc in same) (by_kind q.plays known.0)
+  alone (q ∷ qs) known zero p e = subst (λ (x : Player). (x.plays ≡ faillock_plays) ⊎ LeavesFile path x.plays) (let same : q ≡ p = cc in same)
+      (by_kind q.plays known.0)
   alone (q ∷ qs) known (suc n) p e = alone qs known.1 n p e

@@ -1,5 +1,6 @@
 -- The report of a run fits.
-use Rattle.std.proofs.Common.{◌≡◌, ℕ, ◌+◌, Bool, true, false, nat_le, nat_lt, if◌then◌else◌, List, [], ◌∷◌, ◌++◌, length, Option, Some, None, Result, Ok, Err, refl, sym, ◌∙◌, ap, append-nil}
+use Rattle.std.proofs.Common.{◌≡◌, ℕ, ◌+◌, Bool, true, false, nat_le, nat_lt, if◌then◌else◌, List, [], ◌∷◌, ◌++◌, length, Option, Some}
+use Rattle.std.proofs.Common.{None, Result, Ok, Err, refl, sym, ◌∙◌, ap, append-nil}
 use Rattle.std.specs.List.{flat_map}
 use Rattle.std.proofs.Math.Seq.{drop-length}
 use Rattle.std.proofs.lemmas.Grind.{flat_map-append}
@@ -28,7 +29,8 @@ use Rattle.pam_handle.specs.Handle.{PlainHandle}
 use Rattle.pam_library.specs.declared.outcome.Answer.TheVariants as answers
 use Rattle.pam_library.specs.Outcome.{PlainOutcome, answers_only}
 use Rattle.pam_library.specs.Slots.{PlainSlot, closed, opened, slot_at}
-use Rattle.pam_library.specs.SlotStep.{SlotStepped, filed_in, other_pending, unless_pending, is_refused_for_flags, stack_step, open_step, closed_step, slot_step, opened_by}
+use Rattle.pam_library.specs.SlotStep.{SlotStepped, filed_in, other_pending, unless_pending, is_refused_for_flags, stack_step, open_step}
+use Rattle.pam_library.specs.SlotStep.{closed_step, slot_step, opened_by}
 use Rattle.pam_library.specs.Step.{Stepped, stepped_at, stepped}
 use Rattle.report_step.specs.Cleaned.{filed_text}
 use Rattle.report_step.specs.Step.{step_text}
@@ -60,14 +62,17 @@ module _ (players : List Player) (number_of : Code → ℕ → ℕ) where
   shown_isnt x is = absurd (cc)
 
   nothing_text : (step : Asked) (w : PlainWorld) → step_text (names_of players) step (answers_only (filed_in w) answers.Nothing) w.process.ledger ≡ []
-  nothing_text step w = ap (λ (xs : List _). flat_map (filed_text step.number (names_of players) w.process.ledger.births) xs ++ []) (drop-length w.process.ledger.filed)
+  nothing_text step w = ap (λ (xs : List _). flat_map (filed_text step.number (names_of players) w.process.ledger.births) xs ++ [])
+      (drop-length w.process.ledger.filed)
 
-  unless_silent : (found : Option Func) (step : Asked) (slot : PlainSlot) (w : PlainWorld) (s : SlotStepped) → Silent step s → Silent step (unless_pending found slot w s)
+  unless_silent : (found : Option Func) (step : Asked) (slot : PlainSlot) (w : PlainWorld) (s : SlotStepped) → Silent step s
+      → Silent step (unless_pending found slot w s)
   unless_silent None step slot w s silent = silent
   unless_silent (Some func) step slot w s silent = λ e. absurd (cc)
 
   stack_silent : (func : Func) (flags : ℕ) (step : Asked) (h : PlainHandle) (w : PlainWorld) → Silent step (stack_step players number_of func flags h w)
-  stack_silent func flags step h w = silent_if (is_refused_for_flags func flags) step _ _ (λ e. absurd (cc)) (unless_silent (other_pending h.pending func) step (opened h) w _ (λ e. absurd (cc)))
+  stack_silent func flags step h w = silent_if (is_refused_for_flags func flags) step _ _ (λ e. absurd (cc))
+      (unless_silent (other_pending h.pending func) step (opened h) w _ (λ e. absurd (cc)))
 
   open_silent : (call : AppCall) (step : Asked) (h : PlainHandle) (w : PlainWorld) → Silent step (open_step players number_of h w call)
   open_silent (calls.Start service user) step h w = λ e. absurd (cc)
@@ -87,11 +92,13 @@ module _ (players : List Player) (number_of : Code → ℕ → ℕ) where
   open_silent (calls.DelayFn on) step h w = λ e. absurd (cc)
   open_silent (calls.Reply text) step h w = λ e. nothing_text step w
 
-  start_silent : (step : Asked) (names : List (List ℕ)) (conv : ConvState) (filed : ℕ) (w : PlainWorld) (answer : Result PlainHandle LoadFault) → Silent step (opened_by names conv filed w answer)
+  start_silent : (step : Asked) (names : List (List ℕ)) (conv : ConvState) (filed : ℕ) (w : PlainWorld) (answer : Result PlainHandle LoadFault)
+      → Silent step (opened_by names conv filed w answer)
   start_silent step names conv filed w (Ok h) = λ e. absurd (cc)
   start_silent step names conv filed w (Err fault) = λ e. absurd (cc)
 
-  closed_silent : (call : AppCall) (step : Asked) (place : ℕ) (conv : ConvState) (w : PlainWorld) → Silent step (closed_step players number_of place conv w call)
+  closed_silent : (call : AppCall) (step : Asked) (place : ℕ) (conv : ConvState) (w : PlainWorld)
+      → Silent step (closed_step players number_of place conv w call)
   closed_silent (calls.Start service user) step place conv w = start_silent step (names_of players) conv (filed_in w) _ _
   closed_silent (calls.End status) step place conv w = λ e. absurd (cc)
   closed_silent (calls.Authenticate flags) step place conv w = λ e. absurd (cc)
@@ -118,12 +125,14 @@ module _ (players : List Player) (number_of : Code → ℕ → ℕ) where
       → (shown_of outcome.answer ≡ None → step_text (names_of players) step outcome w.process.ledger ≡ [])
       → blocks_text (reported (names_of players) step outcome w.process.ledger) ≡ step_text (names_of players) step outcome w.process.ledger
   prints_by by step outcome w (Some x) is silent = reports_print by (names_of players) step outcome w.process.ledger x is
-  prints_by by step outcome w None is silent = ap (λ (x : Option Shown). blocks_text (blocks_by step.number (command_of step.call) (all_told (names_of players) outcome w.process.ledger) x)) is ∙ sym (silent is)
+  prints_by by step outcome w None is silent = ap (λ (x : Option Shown). blocks_text
+      (blocks_by step.number (command_of step.call) (all_told (names_of players) outcome w.process.ledger) x)) is ∙ sym (silent is)
 
   found_prints : (by : ByRemainders) (slots : List PlainSlot) (w : PlainWorld) (step : Asked) (found : Option PlainSlot)
       → (let s = stepped_at players number_of slots w step.number step.call found in
       blocks_text (reported (names_of players) step s.outcome s.world.process.ledger) ≡ step_text (names_of players) step s.outcome s.world.process.ledger)
-  found_prints by slots w step None = let s : Stepped = stepped_at players number_of slots w step.number step.call None in prints_by by step s.outcome s.world _ refl (λ e. absurd (cc))
+  found_prints by slots w step None = let s : Stepped = stepped_at players number_of slots w step.number step.call None in
+      prints_by by step s.outcome s.world _ refl (λ e. absurd (cc))
   found_prints by slots w step (Some slot) =
       let s : SlotStepped = slot_step players number_of step.number slot w step.call in prints_by by step s.outcome s.world _ refl (slot_silent step slot w)
 
@@ -141,9 +150,11 @@ by_first : (stacks : Stacks) (first : Option (List SlotLog)) (one two : List Blo
 by_first stacks None one two next each is = absurd (cc)
 by_first stacks (Some places) one two next each is = each places is
 
-pub fold-append : (stacks : Stacks) (places : List SlotLog) (one two : List Block) (next : List SlotLog) → fold stacks places one ≡ Some next → fold stacks places (one ++ two) ≡ fold stacks next two
+pub fold-append : (stacks : Stacks) (places : List SlotLog) (one two : List Block) (next : List SlotLog) → fold stacks places one ≡ Some next
+    → fold stacks places (one ++ two) ≡ fold stacks next two
 fold-append stacks places [] two next is = let e : places ≡ next = cc in ap (λ (x : List SlotLog). fold stacks x two) e
-fold-append stacks places (b ∷ one) two next is = by_first stacks (behind_block stacks places b) one two next (λ first is'. fold-append stacks first one two next is') is
+fold-append stacks places (b ∷ one) two next is = by_first stacks (behind_block stacks places b) one two next
+    (λ first is'. fold-append stacks first one two next is') is
 
 module _ (by : ByRemainders) (setting : Setting) (stacks : Stacks) where
   -- the result of a line, and its blocks: they fit, and their text is its report
@@ -161,11 +172,13 @@ module _ (by : ByRemainders) (setting : Setting) (stacks : Stacks) where
   asked_fits s (Ok (lines.Caller caller)) have sound = (refl, refl)
   asked_fits s (Err kind) have sound = refl
 
-  line_if : (b : Bool) (s : RunState) (kind : ScriptKind) (r : Result (RunState × List ℕ) ScriptKind) (blocks : List Block) → LineFits s r blocks → LineFits s (if b then Err kind else r) (if b then [] else blocks)
+  line_if : (b : Bool) (s : RunState) (kind : ScriptKind) (r : Result (RunState × List ℕ) ScriptKind) (blocks : List Block) → LineFits s r blocks
+      → LineFits s (if b then Err kind else r) (if b then [] else blocks)
   line_if true s kind r blocks fits = refl
   line_if false s kind r blocks fits = fits
 
-  line_fits : (n : ℕ) (s : RunState) (line : List ℕ) → HaveStacks stacks s.slots → AreSound stacks (places_of s.slots) → LineFits s (step_at (line_step setting) n s line) (line_blocks setting n s line)
+  line_fits : (n : ℕ) (s : RunState) (line : List ℕ) → HaveStacks stacks s.slots → AreSound stacks (places_of s.slots)
+      → LineFits s (step_at (line_step setting) n s line) (line_blocks setting n s line)
   unfolding step_at line_step
   line_fits n s line have sound = line_if (nat_le 65536 n) s _ _ _ (line_if (nat_lt 513 (length line)) s _ _ _ (asked_fits s (parsed line) have sound))
 
@@ -174,7 +187,8 @@ module _ (by : ByRemainders) (setting : Setting) (stacks : Stacks) where
     pub fits : fold stacks (places_of s.slots) blocks ≡ Some (places_of r.last.slots)
     pub text : blocks_text blocks ≡ r.text
 
-  lines_on : (n : ℕ) (s : RunState) (x : Result (RunState × List ℕ) ScriptKind) (blocks : List Block) (next : RunState → Run RunState) (rest : RunState → List Block) (Along : RunState → Type 0)
+  lines_on : (n : ℕ) (s : RunState) (x : Result (RunState × List ℕ) ScriptKind) (blocks : List Block) (next : RunState → Run RunState)
+      (rest : RunState → List Block) (Along : RunState → Type 0)
       → LineFits s x blocks → AreSound stacks (places_of s.slots) → OnState setting x (λ t. HaveStacks stacks t.slots × Along t)
       → ((t : RunState) → HaveStacks stacks t.slots → AreSound stacks (places_of t.slots) → Along t → LinesFit t (next t) (rest t))
       → LinesFit s (after n s x next) (blocks ++ blocks_on setting x rest)
@@ -182,16 +196,21 @@ module _ (by : ByRemainders) (setting : Setting) (stacks : Stacks) where
       let none : blocks ++ [] ≡ [] = append-nil blocks ∙ fits in
       record { fits = ap (λ (bs : List Block). fold stacks (places_of s.slots) bs) none; text = ap blocks_text none }
   lines_on n s (Ok x) blocks next rest Along fits sound have each =
-      let behind : LinesFit x.0 (next x.0) (rest x.0) = each x.0 have.0 (folds_sound stacks (places_of s.slots) blocks (places_of x.0.slots) sound fits.0) have.1 in
+      let behind : LinesFit x.0 (next x.0) (rest x.0) = each x.0 have.0
+              (folds_sound stacks (places_of s.slots) blocks (places_of x.0.slots) sound fits.0) have.1 in
       record {
         fits = fold-append stacks (places_of s.slots) blocks (rest x.0) (places_of x.0.slots) fits.0 ∙ behind.fits;
-        text = flat_map-append block_text blocks (rest x.0) ∙ ap (λ (t : List ℕ). t ++ blocks_text (rest x.0)) fits.1 ∙ ap (λ (t : List ℕ). x.1 ++ t) behind.text;
+        text = flat_map-append block_text blocks (rest x.0) ∙ ap (λ (t : List ℕ). t ++ blocks_text (rest x.0)) fits.1
+            ∙ ap (λ (t : List ℕ). x.1 ++ t) behind.text;
       }
 
-  pub lines_fit : (n : ℕ) (s : RunState) (ls : List (List ℕ)) → HaveStacks stacks s.slots → AreSound stacks (places_of s.slots) → HaveAlong setting stacks n s ls
+  pub lines_fit : (n : ℕ) (s : RunState) (ls : List (List ℕ)) → HaveStacks stacks s.slots → AreSound stacks (places_of s.slots)
+      → HaveAlong setting stacks n s ls
       → LinesFit s (run_lines (line_step setting) n s ls) (run_blocks setting n s ls)
   unfolding run_items
   lines_fit n s [] have sound along = record { fits = refl; text = refl }
   lines_fit n s (l ∷ ls) have sound along =
-      lines_on n s (step_at (line_step setting) n s l) (line_blocks setting n s l) (λ t. run_lines (line_step setting) (n + 1) t ls) (λ t. run_blocks setting (n + 1) t ls)
-      (λ t. HaveAlong setting stacks (n + 1) t ls) (line_fits n s l have sound) sound along (λ t have' sound' along'. lines_fit (n + 1) t ls have' sound' along')
+      lines_on n s (step_at (line_step setting) n s l) (line_blocks setting n s l) (λ t. run_lines (line_step setting) (n + 1) t ls)
+          (λ t. run_blocks setting (n + 1) t ls)
+      (λ t. HaveAlong setting stacks (n + 1) t ls) (line_fits n s l have sound) sound along
+          (λ t have' sound' along'. lines_fit (n + 1) t ls have' sound' along')

@@ -1,5 +1,6 @@
 -- A step of a library fits.
-use Rattle.std.proofs.Common.{◌≡◌, ℕ, zero, suc, Bool, true, false, ◌&&◌, not, true≢false, eq-eqb, if◌then◌else◌, List, [], ◌∷◌, ◌++◌, map, drop, slice_get, slice_set, Option, Some, None, Result, Ok, Err, refl, sym, ◌∙◌, ap, subst, append-nil}
+use Rattle.std.proofs.Common.{◌≡◌, ℕ, zero, suc, Bool, true, false, ◌&&◌, not, true≢false, eq-eqb, if◌then◌else◌, List, [], ◌∷◌, ◌++◌, map}
+use Rattle.std.proofs.Common.{drop, slice_get, slice_set, Option, Some, None, Result, Ok, Err, refl, sym, ◌∙◌, ap, subst, append-nil}
 use Rattle.std.specs.Option.{option_map}
 use Rattle.std.specs.List.{flat_map}
 use Rattle.std.proofs.lemmas.Option.{slice_get-map}
@@ -39,19 +40,24 @@ use Rattle.pam_library.specs.declared.outcome.Answer.{Answer}
 use Rattle.pam_library.specs.declared.outcome.Answer.TheVariants as answers
 use Rattle.pam_library.specs.Outcome.{PlainOutcome}
 use Rattle.pam_library.specs.Slots.{PlainSlot, closed, opened, slot_at, with_slot}
-use Rattle.pam_library.specs.SlotStep.{SlotStepped, filed_in, told_by, is_refused_for_flags, other_pending, unless_pending, stack_step, open_step, closed_step, slot_step, opened_by}
+use Rattle.pam_library.specs.SlotStep.{SlotStepped, filed_in, told_by, is_refused_for_flags, other_pending, unless_pending, stack_step}
+use Rattle.pam_library.specs.SlotStep.{open_step, closed_step, slot_step, opened_by}
 use Rattle.pam_library.specs.Step.{Stepped, stepped_at, stepped}
 use Rattle.handler_chain.specs.Retell.{Seen, Telling, telling}
-use Rattle.report_lines.specs.Line.{Told, told_visit, Shown, shows_bad_number, Command, starts, runs, sets_item, gets_item, puts_env, Block, block_of, answered as answers_with}
+use Rattle.report_lines.specs.Line.{Told, told_visit, Shown, shows_bad_number, Command, starts, runs, sets_item, gets_item, puts_env, Block}
+use Rattle.report_lines.specs.Line.{block_of, answered as answers_with}
 use Rattle.dispatch_core.specs.Calls.{Held, nothing_held, Went, went, goes}
 use Rattle.pass_replay.specs.Replay.{as_told}
-use Rattle.session_audit.specs.Fits.{SlotLog, shut, running, place_at, with_place, visits_told, is_none, same_code, only_if, is_refused_change, behind_call, at_call, behind_result, with_behind, behind_at, behind_block, fold_on, fold, aborted_by}
+use Rattle.session_audit.specs.Fits.{SlotLog, shut, running, place_at, with_place, visits_told, is_none, same_code, only_if}
+use Rattle.session_audit.specs.Fits.{is_refused_change, behind_call, at_call, behind_result, with_behind, behind_at, behind_block, fold_on}
+use Rattle.session_audit.specs.Fits.{fold, aborted_by}
 use Rattle.session_audit.specs.Sound.{Asks, IsSound, AreSound}
 use Rattle.session_audit.specs.Laws.{Retold}
 use Rattle.session_audit.proofs.Calling.{calls_are_retold}
 use Rattle.session_audit.proofs.Quiet.{nothing_is_retold}
 use Rattle.laws_audit.specs.Calls.{seen_of, trail_in, GoesAs}
-use Rattle.laws_audit.specs.Report.{message_told, visit_told, missing_told, variable_told, receipt_told, filed_told, cleanups_told, waited_told, variables_told, all_told, command_of, shown_of, blocks_by, reported}
+use Rattle.laws_audit.specs.Report.{message_told, visit_told, missing_told, variable_told, receipt_told, filed_told, cleanups_told}
+use Rattle.laws_audit.specs.Report.{waited_told, variables_told, all_told, command_of, shown_of, blocks_by, reported}
 use Rattle.laws_audit.specs.Step.{place_of, places_of, HasStacks, HaveStacks, StepsFit}
 use Rattle.laws_audit.proofs.Calling.{library_calls_go}
 use Rattle.laws_audit.proofs.Trailing.{trails}
@@ -71,13 +77,15 @@ visits_visits : (trail : List Visit) → visits_told (map visit_told trail) ≡ 
 visits_visits [] = refl
 visits_visits (v ∷ trail) = ap (λ (vs : List Seen). seen_of v ∷ vs) (visits_visits trail)
 
-receipt_visits : (names : List (List ℕ)) (receipt : Receipt) (birth : Option Birth) (rest : List Told) → visits_told (receipt_told names receipt birth ++ rest) ≡ visits_told rest
+receipt_visits : (names : List (List ℕ)) (receipt : Receipt) (birth : Option Birth) (rest : List Told)
+    → visits_told (receipt_told names receipt birth ++ rest) ≡ visits_told rest
 receipt_visits names receipt (Some birth) rest = refl
 receipt_visits names receipt None rest = refl
 
 pub filed_visits : (names : List (List ℕ)) (births : List Birth) (filed : List Filed) → visits_told (flat_map (filed_told names births) filed) ≡ []
 filed_visits names births [] = refl
-filed_visits names births (f ∷ fs) = receipt_visits names f.receipt (slice_get births f.receipt.id) (flat_map (filed_told names births) fs) ∙ filed_visits names births fs
+filed_visits names births (f ∷ fs) = receipt_visits names f.receipt (slice_get births f.receipt.id) (flat_map (filed_told names births) fs)
+    ∙ filed_visits names births fs
 
 waited_visits : (wait : Option Wait) → visits_told (waited_told wait) ≡ []
 waited_visits (Some wait) = refl
@@ -98,14 +106,17 @@ answer_visits answer = refl
 none_before : (one two : List Told) (vs : List Seen) → visits_told one ≡ [] → visits_told two ≡ vs → visits_told (one ++ two) ≡ vs
 none_before one two vs is there = visits_of-append one two ∙ ap (λ (xs : List Seen). xs ++ visits_told two) is ∙ there
 
-pub block_visits : (names : List (List ℕ)) (outcome : PlainOutcome) (ledger : PlainLedger) → visits_told (all_told names outcome ledger) ≡ map seen_of outcome.trail
+pub block_visits : (names : List (List ℕ)) (outcome : PlainOutcome) (ledger : PlainLedger)
+    → visits_told (all_told names outcome ledger) ≡ map seen_of outcome.trail
 block_visits names outcome ledger =
     none_before (map message_told outcome.said) _ _ (messages_visits outcome.said)
     (visits_of-append (map visit_told outcome.trail) _
-    ∙ ap (λ (xs : List Seen). xs ++ visits_told (cleanups_told names ledger outcome.filed_from ++ (waited_told outcome.wait ++ (map missing_told outcome.missing ++ variables_told outcome.answer)))) (visits_visits outcome.trail)
+    ∙ ap (λ (xs : List Seen). xs ++ visits_told (cleanups_told names ledger outcome.filed_from
+        ++ (waited_told outcome.wait ++ (map missing_told outcome.missing ++ variables_told outcome.answer)))) (visits_visits outcome.trail)
     ∙ ap (λ (xs : List Seen). map seen_of outcome.trail ++ xs)
     (none_before (cleanups_told names ledger outcome.filed_from) _ [] (filed_visits names ledger.births (drop outcome.filed_from ledger.filed))
-    (none_before (waited_told outcome.wait) _ [] (waited_visits outcome.wait) (none_before (map missing_told outcome.missing) _ [] (missing_visits outcome.missing) (answer_visits outcome.answer))))
+    (none_before (waited_told outcome.wait) _ [] (waited_visits outcome.wait)
+        (none_before (map missing_told outcome.missing) _ [] (missing_visits outcome.missing) (answer_visits outcome.answer))))
     ∙ append-nil (map seen_of outcome.trail))
 
 -- ---- places
@@ -114,7 +125,8 @@ pub place_at-of : (slots : List PlainSlot) (number : ℕ) → place_at (places_o
 place_at-of slots zero = refl
 place_at-of slots (suc i) = slice_get-map place_of slots i
 
-pub with_place-of : (slots : List PlainSlot) (number : ℕ) (slot : PlainSlot) → with_place (places_of slots) number (place_of slot) ≡ places_of (with_slot slots number slot)
+pub with_place-of : (slots : List PlainSlot) (number : ℕ) (slot : PlainSlot)
+    → with_place (places_of slots) number (place_of slot) ≡ places_of (with_slot slots number slot)
 with_place-of slots zero slot = refl
 with_place-of slots (suc i) slot = sym (map-set place_of slots i slot)
 
@@ -149,7 +161,8 @@ module _ (stacks : Stacks) where
   abbrev SlotFits : SlotLog → Command → SlotStepped → Type 0
   SlotFits place command s = FitsBy place (map seen_of s.outcome.trail) command (shown_of s.outcome.answer) (place_of s.slot)
 
-  fits_if : (b : Bool) (place : SlotLog) (command : Command) (s t : SlotStepped) → (b ≡ true → SlotFits place command s) → (b ≡ false → SlotFits place command t) → SlotFits place command (if b then s else t)
+  fits_if : (b : Bool) (place : SlotLog) (command : Command) (s t : SlotStepped) → (b ≡ true → SlotFits place command s)
+      → (b ≡ false → SlotFits place command t) → SlotFits place command (if b then s else t)
   fits_if true place command s t first second = first refl
   fits_if false place command s t first second = second refl
 
@@ -192,10 +205,12 @@ module _ (stacks : Stacks) where
   not_true true isnt = absurd (isnt refl)
   not_true false isnt = refl
 
-  isnt_refused : (func : Func) (code : Code) (vs : List Seen) (h : Held) (w : Went Telling) → goes as_told stacks func h (telling vs) ≡ w → code ≡ w.code → w.state.astray ≡ false
+  isnt_refused : (func : Func) (code : Code) (vs : List Seen) (h : Held) (w : Went Telling) → goes as_told stacks func h (telling vs) ≡ w → code ≡ w.code
+      → w.state.astray ≡ false
       → Asks stacks h h.pending → is_other_pending h.pending func ≡ false → is_refused_change func code vs ≡ false
   isnt_refused funcs.ChAuthTok code [] h w is same straight asks own = not_true (same_code code codes.SystemErr) (λ system.
-      nothing_is_retold stacks h asks own (ap (λ (x : Went Telling). x.state.astray) is ∙ straight) (ap (λ (x : Went Telling). x.code) is ∙ sym same ∙ same_system code system))
+      nothing_is_retold stacks h asks own (ap (λ (x : Went Telling). x.state.astray) is ∙ straight)
+          (ap (λ (x : Went Telling). x.code) is ∙ sym same ∙ same_system code system))
   isnt_refused func code vs h w is same straight asks own = refl
 
   at_call_if : (a b : Bool) (x y : Option SlotLog) → a ≡ false → b ≡ false → (if a then x else if b then None else y) ≡ y
@@ -209,27 +224,32 @@ module _ (stacks : Stacks) where
   call_fits : (func : Func) (code : Code) (vs : List Seen) (h next : Held) → goes as_told stacks func h (telling vs) ≡ went code next (telling [])
       → Asks stacks h h.pending → is_other_pending h.pending func ≡ false → at_call stacks func code vs h ≡ Some (running next)
   call_fits func code vs h next is asks own =
-      at_call_if (is_refused_change func code vs) (is_other_pending h.pending func) (Some (running h)) (behind_call code (goes as_told stacks func h (telling vs)))
+      at_call_if (is_refused_change func code vs) (is_other_pending h.pending func) (Some (running h))
+          (behind_call code (goes as_told stacks func h (telling vs)))
       (isnt_refused func code vs h (went code next (telling [])) is refl refl asks own) own
       ∙ ap (behind_call code) is ∙ retold_is code next
 
 module _ (players : List Player) (number_of : Code → ℕ → ℕ) (stacks : Stacks) where
   ran_fits : (func : Func) (flags : ℕ) (h : PlainHandle) (w : PlainWorld) → h.stacks ≡ stacks → h.room.transaction.trail ≡ []
       → is_refused_for_flags func flags ≡ false → Asks stacks (held_in h) h.pending → is_other_pending h.pending func ≡ false
-      → (let c = stack_call players number_of func flags h w in SlotFits stacks (running (held_in h)) (runs func) (told_by (filed_in w) (answers.Code c.code) c))
+      → (let c = stack_call players number_of func flags h w in SlotFits stacks (running (held_in h)) (runs func)
+          (told_by (filed_in w) (answers.Code c.code) c))
   ran_fits func flags h w have none flagged asks own =
       let c : Called = stack_call players number_of func flags h w in
       let g : GoesAs players func flags (past_in h.pending) (first_in h.pending) h c = library_calls_go players number_of func flags h w flagged own in
-      let r : Retold trail_in (asking_by players flags) h.stacks func (held_in h) g.begun = calls_are_retold State trail_in (asking_by players flags) (trails players flags) h.stacks func (held_in h) g.begun in
+      let r : Retold trail_in (asking_by players flags) h.stacks func (held_in h) g.begun =
+              calls_are_retold State trail_in (asking_by players flags) (trails players flags) h.stacks func (held_in h) g.begun in
       let empty : trail_in g.begun ≡ [] = ap (map seen_of) (g.trail ∙ none) in
       let vs : map seen_of c.handle.room.transaction.trail ≡ r.news =
       ap (map seen_of) g.told ∙ r.adds ∙ ap (λ (xs : List Seen). xs ++ r.news) empty in
-      let replayed : goes as_told h.stacks func (held_in h) (telling (map seen_of c.handle.room.transaction.trail)) ≡ went c.code (held_in c.handle) (telling []) =
+      let replayed : goes as_told h.stacks func (held_in h) (telling (map seen_of c.handle.room.transaction.trail))
+              ≡ went c.code (held_in c.handle) (telling []) =
       ap (λ (xs : List Seen). goes as_told h.stacks func (held_in h) (telling xs)) (vs ∙ sym (append-nil r.news)) ∙ r.same []
       ∙ ap (λ (code : Code). went code (goes (asking_by players flags) h.stacks func (held_in h) g.begun).held (telling [])) (sym g.code)
       ∙ ap (λ (x : Held). went c.code x (telling [])) (sym g.held) in
       call_fits stacks func c.code (map seen_of c.handle.room.transaction.trail) (held_in h) (held_in c.handle)
-      (subst (λ (x : Stacks). goes as_told x func (held_in h) (telling (map seen_of c.handle.room.transaction.trail)) ≡ went c.code (held_in c.handle) (telling [])) have replayed) asks own
+      (subst (λ (x : Stacks). goes as_told x func (held_in h) (telling (map seen_of c.handle.room.transaction.trail))
+          ≡ went c.code (held_in c.handle) (telling [])) have replayed) asks own
 
   unless_fits : (found : Option Func) (func : Func) (flags : ℕ) (h : PlainHandle) (w : PlainWorld) (s : SlotStepped) → other_pending h.pending func ≡ found
       → (other_pending h.pending func ≡ None → SlotFits stacks (running (held_in h)) (runs func) s)
@@ -237,7 +257,8 @@ module _ (players : List Player) (number_of : Code → ℕ → ℕ) (stacks : St
   unless_fits None func flags h w s is there = there is
   unless_fits (Some other) func flags h w s is there = ap (λ (b : Bool). only_if b (running (held_in h))) (aborted_is stacks h.pending func other is)
 
-  stack_fits : (func : Func) (flags : ℕ) (h : PlainHandle) (w : PlainWorld) → h.stacks ≡ stacks → h.room.transaction.trail ≡ [] → Asks stacks (held_in h) h.pending
+  stack_fits : (func : Func) (flags : ℕ) (h : PlainHandle) (w : PlainWorld) → h.stacks ≡ stacks → h.room.transaction.trail ≡ []
+      → Asks stacks (held_in h) h.pending
       → SlotFits stacks (running (held_in h)) (runs func) (stack_step players number_of func flags h w)
   stack_fits func flags h w have none asks =
       fits_if stacks (is_refused_for_flags func flags) (running (held_in h)) (runs func) _ _
@@ -257,9 +278,12 @@ module _ (players : List Player) (number_of : Code → ℕ → ℕ) (stacks : St
   open_fits (calls.OpenSession flags) h w have none asks = stack_fits funcs.OpenSession flags h w have none asks
   open_fits (calls.CloseSession flags) h w have none asks = stack_fits funcs.CloseSession flags h w have none asks
   open_fits (calls.ChAuthTok flags) h w have none asks = stack_fits funcs.ChAuthTok flags h w have none asks
-  open_fits (calls.SetItem item value) h w have none asks = fits_if stacks (is_refused_item ApplicationSets item) (running (held_in h)) sets_item _ _ (λ e. refl) (λ e. refl)
-  open_fits (calls.GetItem item) h w have none asks = fits_if stacks (is_refused_item ApplicationGets item) (running (held_in h)) gets_item _ _ (λ e. refl) (λ e. refl)
-  open_fits (calls.PutEnv text) h w have none asks = fits_if stacks (is_refused_text text h.room.transaction.env) (running (held_in h)) puts_env _ _ (λ e. refl) (λ e. refl)
+  open_fits (calls.SetItem item value) h w have none asks = fits_if stacks (is_refused_item ApplicationSets item) (running (held_in h)) sets_item _ _
+      (λ e. refl) (λ e. refl)
+  open_fits (calls.GetItem item) h w have none asks = fits_if stacks (is_refused_item ApplicationGets item) (running (held_in h)) gets_item _ _
+      (λ e. refl) (λ e. refl)
+  open_fits (calls.PutEnv text) h w have none asks = fits_if stacks (is_refused_text text h.room.transaction.env) (running (held_in h)) puts_env _ _
+      (λ e. refl) (λ e. refl)
   open_fits (calls.GetEnv name) h w have none asks = refl
   open_fits calls.EnvList h w have none asks = refl
   open_fits (calls.FailDelay micros) h w have none asks = refl
@@ -268,15 +292,18 @@ module _ (players : List Player) (number_of : Code → ℕ → ℕ) (stacks : St
 
   -- ---- the calls on a closed place
 
-  start_fits : (names : List (List ℕ)) (conv : ConvState) (filed : ℕ) (opens : Stacks → PlainHandle) (found : Result Counts Stop) (under : Stacks) (w : PlainWorld)
+  start_fits : (names : List (List ℕ)) (conv : ConvState) (filed : ℕ) (opens : Stacks → PlainHandle) (found : Result Counts Stop) (under : Stacks)
+      (w : PlainWorld)
       → ((x : Stacks) → held_in (opens x) ≡ held_in (opens under)) → held_in (opens under) ≡ nothing_held
       → SlotFits stacks shut starts (opened_by names conv filed (started_by opens found under w).world (started_by opens found under w).answer)
   start_fits names conv filed opens (Ok counts) under w same nothing = ap (λ (h : Held). Some (running h)) (sym nothing)
   start_fits names conv filed opens (Err stop) under w same nothing = refl
 
-  closed_fits : (call : AppCall) (place : ℕ) (conv : ConvState) (w : PlainWorld) → SlotFits stacks shut (command_of call) (closed_step players number_of place conv w call)
+  closed_fits : (call : AppCall) (place : ℕ) (conv : ConvState) (w : PlainWorld)
+      → SlotFits stacks shut (command_of call) (closed_step players number_of place conv w call)
   closed_fits (calls.Start service user) place conv w =
-      start_fits (names_of players) conv (filed_in w) (new_handle place service user conv (names_of players)) (loaded w.vault w.process.root service) (stacks_under w.vault w.process.root service) w (λ x. refl) refl
+      start_fits (names_of players) conv (filed_in w) (new_handle place service user conv (names_of players)) (loaded w.vault w.process.root service)
+          (stacks_under w.vault w.process.root service) w (λ x. refl) refl
   closed_fits (calls.End status) place conv w = refl
   closed_fits (calls.Authenticate flags) place conv w = refl
   closed_fits (calls.SetCred flags) place conv w = refl
@@ -305,7 +332,8 @@ module _ (players : List Player) (number_of : Code → ℕ → ℕ) (stacks : St
 
   -- what is shown of a step on a place that is there
   shown_fits : (slots : List PlainSlot) (number : ℕ) (call : AppCall) (slot : PlainSlot) (s : SlotStepped) (told : List Told) (shown : Option Shown)
-      → slot_at slots number ≡ Some slot → visits_told told ≡ map seen_of s.outcome.trail → FitsBy stacks (place_of slot) (map seen_of s.outcome.trail) (command_of call) shown (place_of s.slot)
+      → slot_at slots number ≡ Some slot → visits_told told ≡ map seen_of s.outcome.trail
+          → FitsBy stacks (place_of slot) (map seen_of s.outcome.trail) (command_of call) shown (place_of s.slot)
       → fold stacks (places_of slots) (blocks_by number (command_of call) told shown) ≡ Some (places_of (with_slot slots number s.slot))
   shown_fits slots number call slot s told None there vs is =
       ap (λ (x : List SlotLog). Some x) (sym (with_same (places_of slots) number (place_of slot) (place_at-of slots number ∙ ap (option_map place_of) there))
@@ -314,7 +342,8 @@ module _ (players : List Player) (number_of : Code → ℕ → ℕ) (stacks : St
       let b : Block = block_of number told (answers_with (command_of call) shown) in
       on_behind (places_of slots) (places_of (with_slot slots number s.slot)) b
       (ap (behind_at stacks (places_of slots) b) (place_at-of slots number ∙ ap (option_map place_of) there)
-      ∙ ap (with_behind stacks (places_of slots) number) (ap (λ (xs : List Seen). behind_result stacks (place_of slot) xs (answers_with (command_of call) shown)) vs ∙ is)
+      ∙ ap (with_behind stacks (places_of slots) number) (ap (λ (xs : List Seen). behind_result stacks (place_of slot) xs
+          (answers_with (command_of call) shown)) vs ∙ is)
       ∙ ap (λ (x : List SlotLog). Some x) (with_place-of slots number s.slot))
 
   have_at : (slots : List PlainSlot) (i : ℕ) (slot : PlainSlot) → HaveStacks stacks slots → slice_get slots i ≡ Some slot → HasStacks stacks slot
@@ -322,7 +351,8 @@ module _ (players : List Player) (number_of : Code → ℕ → ℕ) (stacks : St
   have_at (x ∷ slots) zero slot have is = subst (HasStacks stacks) (let e : x ≡ slot = cc in e) have.0
   have_at (x ∷ slots) (suc i) slot have is = have_at slots i slot have.1 is
 
-  sound_at : (slots : List PlainSlot) (i : ℕ) (slot : PlainSlot) → AreSound stacks (places_of slots) → slice_get slots i ≡ Some slot → IsSound stacks (place_of slot)
+  sound_at : (slots : List PlainSlot) (i : ℕ) (slot : PlainSlot) → AreSound stacks (places_of slots) → slice_get slots i ≡ Some slot
+      → IsSound stacks (place_of slot)
   sound_at [] i slot sound is = absurd (cc)
   sound_at (x ∷ slots) zero slot sound is = subst (λ (y : PlainSlot). IsSound stacks (place_of y)) (let e : x ≡ slot = cc in e) sound.0
   sound_at (x ∷ slots) (suc i) slot sound is = sound_at slots i slot sound.1 is
@@ -331,11 +361,13 @@ module _ (players : List Player) (number_of : Code → ℕ → ℕ) (stacks : St
   have_in slots zero slot have is = absurd (cc)
   have_in slots (suc i) slot have is = have_at slots i slot have is
 
-  sound_in : (slots : List PlainSlot) (number : ℕ) (slot : PlainSlot) → AreSound stacks (places_of slots) → slot_at slots number ≡ Some slot → IsSound stacks (place_of slot)
+  sound_in : (slots : List PlainSlot) (number : ℕ) (slot : PlainSlot) → AreSound stacks (places_of slots) → slot_at slots number ≡ Some slot
+      → IsSound stacks (place_of slot)
   sound_in slots zero slot sound is = absurd (cc)
   sound_in slots (suc i) slot sound is = sound_at slots i slot sound is
 
-  found_fits : (slots : List PlainSlot) (w : PlainWorld) (step : Step) (found : Option PlainSlot) → slot_at slots step.number ≡ found → HaveStacks stacks slots → AreSound stacks (places_of slots)
+  found_fits : (slots : List PlainSlot) (w : PlainWorld) (step : Step) (found : Option PlainSlot) → slot_at slots step.number ≡ found → HaveStacks stacks slots
+      → AreSound stacks (places_of slots)
       → (let s = stepped_at players number_of slots w step.number step.call found in
       fold stacks (places_of slots) (reported (names_of players) step s.outcome s.world.process.ledger) ≡ Some (places_of s.slots))
   found_fits slots w step None there have sound =
@@ -348,7 +380,8 @@ module _ (players : List Player) (number_of : Code → ℕ → ℕ) (stacks : St
   found_fits slots w step (Some slot) there have sound =
       let s : SlotStepped = slot_step players number_of step.number slot w step.call in
       shown_fits slots step.number step.call slot s (all_told (names_of players) s.outcome s.world.process.ledger) (shown_of s.outcome.answer) there
-      (block_visits (names_of players) s.outcome s.world.process.ledger) (slot_fits step.call step.number slot w (have_in slots step.number slot have there) (sound_in slots step.number slot sound there))
+      (block_visits (names_of players) s.outcome s.world.process.ledger)
+          (slot_fits step.call step.number slot w (have_in slots step.number slot have there) (sound_in slots step.number slot sound there))
 
 pub steps_fit : StepsFit
 unfolding stepped

@@ -1,5 +1,6 @@
 -- Which steps of a module leave a file as it was.
-use Rattle.std.proofs.Common.{◌≡◌, ℕ, Bool, true, false, not, cond, ◌||◌, nat_lt, length, List, [], ◌∷◌, Option, Some, None, Result, Ok, Err, codes, refl, ap, ◌∙◌}
+use Rattle.std.proofs.Common.{◌≡◌, ℕ, Bool, true, false, not, cond, ◌||◌, nat_lt, length, List, [], ◌∷◌, Option, Some, None, Result, Ok}
+use Rattle.std.proofs.Common.{Err, codes, refl, ap, ◌∙◌}
 use Rattle.std.specs.Str.{bytes_eq}
 use Rattle.std.specs.Bool.{Decides}
 use Rattle.std.proofs.lemmas.Slice.Eq.{bytes_eq-Decides}
@@ -24,8 +25,12 @@ use Rattle.mod_unix.specs.module_acts.specs.declared.content.Content.{Content}
 use Rattle.mod_unix.specs.module_acts.specs.declared.content.Content.TheVariants.{Absent}
 use Rattle.mod_unix.specs.module_acts.specs.Content.{is_rooted}
 use Rattle.mod_unix.specs.module_acts.specs.Accounts.{Account, account_in, account_limit, nothing_known, shells_in}
-use Rattle.mod_unix.specs.module_acts.specs.Act.{Act, Stage, answers, asks_user, called, draws_word, finds_account, groups_by, holds_if, holds_lock, holds_unless, in_room, later, lets_go, passwds_by, plays_by, reads_file, reads_groups, reads_if, reads_passwds, reads_shells, replaced, replaces_file, sees_items, sees_moment, shown, shows, unless_answered}
-use Rattle.mod_unix.specs.module_acts.specs.Steps.{answers_keeping, asks_token, exchanges, requests_delay, sees_caller, sees_clock, sees_data, sets_item, with_replies}
+use Rattle.mod_unix.specs.module_acts.specs.Act.{Act, Stage, answers, asks_user, called, draws_word, finds_account, groups_by, holds_if}
+use Rattle.mod_unix.specs.module_acts.specs.Act.{holds_lock, holds_unless, in_room, later, lets_go, passwds_by, plays_by, reads_file}
+use Rattle.mod_unix.specs.module_acts.specs.Act.{reads_groups, reads_if, reads_passwds, reads_shells, replaced, replaces_file, sees_items}
+use Rattle.mod_unix.specs.module_acts.specs.Act.{sees_moment, shown, shows, unless_answered}
+use Rattle.mod_unix.specs.module_acts.specs.Steps.{answers_keeping, asks_token, exchanges, requests_delay, sees_caller, sees_clock}
+use Rattle.mod_unix.specs.module_acts.specs.Steps.{sees_data, sets_item, with_replies}
 use Rattle.laws_audit.specs.Tallied.{LeavesFile}
 
 -- ---- a file that is set
@@ -90,7 +95,8 @@ module _ (path : List ℕ) where
       let asked = token_asked old prompt stage.room in
       picked stage.sight asked.refused _ _ refl (next _ (in_room asked.room stage))
 
-  replied : (r : Result (List Reply) ConvFault) (room : SeenRoom) (act : List Reply → Act) → ((replies : List Reply) → Leaves (act replies)) → Leaves (with_replies r room act)
+  replied : (r : Result (List Reply) ConvFault) (room : SeenRoom) (act : List Reply → Act) → ((replies : List Reply) → Leaves (act replies))
+      → Leaves (with_replies r room act)
   replied (Ok replies) room act next stage = next replies (in_room room stage)
   replied (Err fault) room act next stage = refl
 
@@ -136,7 +142,8 @@ module _ (path : List ℕ) where
 
   -- ---- files
 
-  read_by : (rooted : Bool) (name : List ℕ) (limit : ℕ) (act : Content → Act) → ((content : Content) → Leaves (act content)) → Leaves (reads_if rooted name limit act)
+  read_by : (rooted : Bool) (name : List ℕ) (limit : ℕ) (act : Content → Act) → ((content : Content) → Leaves (act content))
+      → Leaves (reads_if rooted name limit act)
   read_by true name limit act next stage = next _ (record stage { sight = later stage.sight })
   read_by false name limit act next stage = next Absent stage
 
@@ -144,7 +151,8 @@ module _ (path : List ℕ) where
   unfolding reads_file
   reading name limit act next stage = read_by (is_rooted name) name limit act next stage
 
-  by_passwds : (known : Option (Option (List Passwd))) (act : Option (List Passwd) → Act) → ((e : Option (List Passwd)) → Leaves (act e)) → Leaves (passwds_by known act)
+  by_passwds : (known : Option (Option (List Passwd))) (act : Option (List Passwd) → Act) → ((e : Option (List Passwd)) → Leaves (act e))
+      → Leaves (passwds_by known act)
   by_passwds (Some e) act next stage = next e stage
   by_passwds None act next stage = next _ _
 
@@ -152,7 +160,8 @@ module _ (path : List ℕ) where
   unfolding reads_passwds
   reading_passwds act next stage = by_passwds stage.known.passwds act next stage
 
-  by_groups : (known : Option (Option (List Group))) (act : Option (List Group) → Act) → ((e : Option (List Group)) → Leaves (act e)) → Leaves (groups_by known act)
+  by_groups : (known : Option (Option (List Group))) (act : Option (List Group) → Act) → ((e : Option (List Group)) → Leaves (act e))
+      → Leaves (groups_by known act)
   by_groups (Some e) act next stage = next e stage
   by_groups None act next stage = next _ _
 
@@ -169,19 +178,22 @@ module _ (path : List ℕ) where
 
   -- another file is set, if the call doesn't fail
   put_by : (fails : Bool) (name bytes : List ℕ) (act : Bool → Act) → ((root : List ℕ) → path_of root name ≡ path → ⊥) → ((done : Bool) → Leaves (act done))
-      → (stage : Stage) → Left stage.sight (called (act (not fails) (record stage { sight = replaced fails (path_of stage.sight.root name) bytes stage.sight })))
+      → (stage : Stage) → Left stage.sight (called (act (not fails) (record stage
+          { sight = replaced fails (path_of stage.sight.root name) bytes stage.sight })))
   put_by true name bytes act apart next stage = next false (record stage { sight = replaced true (path_of stage.sight.root name) bytes stage.sight })
   put_by false name bytes act apart next stage =
       next true (record stage { sight = replaced false (path_of stage.sight.root name) bytes stage.sight })
       ∙ put_past (path_of stage.sight.root name) bytes path (apart stage.sight.root) stage.sight.files
 
-  pub replacing : (name bytes : List ℕ) (act : Bool → Act) → ((root : List ℕ) → path_of root name ≡ path → ⊥) → ((done : Bool) → Leaves (act done)) → Leaves (replaces_file name bytes act)
+  pub replacing : (name bytes : List ℕ) (act : Bool → Act) → ((root : List ℕ) → path_of root name ≡ path → ⊥) → ((done : Bool) → Leaves (act done))
+      → Leaves (replaces_file name bytes act)
   unfolding replaces_file
   replacing name bytes act apart next stage = put_by (stage.sight.failing 0 || nat_lt MAX_FILE (length bytes)) name bytes act apart next stage
 
   -- ---- locks
 
-  held_unless : (fails : Bool) (place : List ℕ) (kind : LockKind) (act : Bool → Act) → ((held : Bool) → Leaves (act held)) → Leaves (holds_unless fails place kind act)
+  held_unless : (fails : Bool) (place : List ℕ) (kind : LockKind) (act : Bool → Act) → ((held : Bool) → Leaves (act held))
+      → Leaves (holds_unless fails place kind act)
   held_unless true place kind act next stage = next false (record stage { sight = later stage.sight })
   held_unless false place kind act next stage = next true (record stage { sight = later stage.sight })
 

@@ -13,11 +13,14 @@ use Rattle.mod_tally.specs.Faillock.{faillock_plays, new_failure}
 use Rattle.mod_tally.specs.declared.tally.Failure.{Failure}
 use Rattle.mod_tally.specs.Tally.{IsFailure}
 use Rattle.mod_tally.specs.Recorded.{Deed, Does, Follow, IsWith, Served, cleared, deeds_of, left, recorded, failures_on_file, stands_by}
-use Rattle.laws_audit.specs.Tallied.{CanRecord, CanRecordIf, FaillockAloneWrites, IsTallied, IsText, LeavesFile, LeavesFileIf, TalliedLine, Tallies, calls_in, counted, line_in, passed_by}
+use Rattle.laws_audit.specs.Tallied.{CanRecord, CanRecordIf, FaillockAloneWrites, IsTallied, IsText, LeavesFile, LeavesFileIf, TalliedLine}
+use Rattle.laws_audit.specs.Tallied.{Tallies, calls_in, counted, line_in, passed_by}
 
 module _ (path : List ℕ) (players : List Player) (alone : FaillockAloneWrites path players)
-    (one : (path : List ℕ) (call : PlainCall) (room : SeenRoom) (held : List NamedData) (sight : Sight) → (deed : Deed) × Does path call sight (faillock_plays call room held sight) deed)
-    (writable : (moment : ℕ) (items : ItemTexts) → moment < 10 ^ 13 → IsText items.rhost → IsText items.tty → IsText items.service → unwrap_or items.service [] ≢ [] → IsFailure (new_failure moment items)) where
+    (one : (path : List ℕ) (call : PlainCall) (room : SeenRoom) (held : List NamedData) (sight : Sight) → (deed : Deed)
+        × Does path call sight (faillock_plays call room held sight) deed)
+    (writable : (moment : ℕ) (items : ItemTexts) → moment < 10 ^ 13 → IsText items.rhost → IsText items.tty → IsText items.service
+        → unwrap_or items.service [] ≢ [] → IsFailure (new_failure moment items)) where
   -- lines run, each with what it did, that lead the file from one state to another
   pub record Led (before : Option (List ℕ)) (asked : List AskedLine) (after : Option (List ℕ)) : Type 0 where
     pub lines : List TalliedLine
@@ -32,11 +35,13 @@ module _ (path : List ℕ) (players : List Player) (alone : FaillockAloneWrites 
   by_number (Some n) p e = alone n p e
 
   -- what a call records can be written, with its interval
-  recorded_with : (interval : ℕ) (a : Asked) (deed : Deed) → Does path a.call a.sight (faillock_plays a.call a.room a.held a.sight) deed → CanRecord interval a → IsWith interval deed
+  recorded_with : (interval : ℕ) (a : Asked) (deed : Deed) → Does path a.call a.sight (faillock_plays a.call a.room a.held a.sight) deed → CanRecord interval a
+      → IsWith interval deed
   recorded_with interval a left d can = tt
   recorded_with interval a (recorded i failure) d can =
       let items : ItemTexts = (faillock_plays a.call a.room a.held a.sight).room.items in
-      (d.interval_is ∙ can.interval_is, subst IsFailure (sym d.failure_is) (writable a.sight.clock.moment items can.moment can.rhost can.tty can.service can.named))
+      (d.interval_is ∙ can.interval_is, subst IsFailure (sym d.failure_is)
+          (writable a.sight.clock.moment items can.moment can.rhost can.tty can.service can.named))
   recorded_with interval a cleared d can = tt
 
   -- a line that leaves the file, and what follows
@@ -71,7 +76,8 @@ module _ (path : List ℕ) (players : List Player) (alone : FaillockAloneWrites 
 
   by_plays : (p : Player) (a : AskedLine) (rest : List AskedLine) (before last : List File) → module_of_path players a.visit.path ≡ Some p
       → (p.plays ≡ faillock_plays) ⊎ LeavesFile path p.plays
-      → LineLeads (Some p) a before (λ files. LinesLead players files rest last) → ((files : List File) → LinesLead players files rest last → Led (file_at path files) rest (file_at path last))
+      → LineLeads (Some p) a before (λ files. LinesLead players files rest last)
+          → ((files : List File) → LinesLead players files rest last → Led (file_at path files) rest (file_at path last))
       → Led (file_at path before) (a ∷ rest) (file_at path last)
   by_plays p a rest before last e (inl same) v more =
       let got : Asked = a.asked in
@@ -84,17 +90,21 @@ module _ (path : List ℕ) (players : List Player) (alone : FaillockAloneWrites 
       (subst (λ (o : Option Player). LeavesFileIf path o) (sym e) leaves) (leaves got.call got.room got.held got.sight ∙ ap (file_at path) v.0) (more _ v.2)
 
   by_module : (o : Option Player) (a : AskedLine) (rest : List AskedLine) (before last : List File) → module_of_path players a.visit.path ≡ o
-      → LineLeads o a before (λ files. LinesLead players files rest last) → ((files : List File) → LinesLead players files rest last → Led (file_at path files) rest (file_at path last))
+      → LineLeads o a before (λ files. LinesLead players files rest last)
+          → ((files : List File) → LinesLead players files rest last → Led (file_at path files) rest (file_at path last))
       → Led (file_at path before) (a ∷ rest) (file_at path last)
   by_module None a rest before last e v more = passes a rest _ _ _ (subst (λ (o : Option Player). LeavesFileIf path o) (sym e) tt) refl (more before v.1)
-  by_module (Some p) a rest before last e v more = by_plays p a rest before last e (by_number (number_of_name (name_of_module a.visit.path) 0 (names_of players)) p e) v more
+  by_module (Some p) a rest before last e v more = by_plays p a rest before last e
+      (by_number (number_of_name (name_of_module a.visit.path) 0 (names_of players)) p e) v more
 
   pub lines_led : (asked : List AskedLine) (before last : List File) → LinesLead players before asked last
       → Led (file_at path before) asked (file_at path last)
   lines_led [] before last leads = record { lines = []; lines_are = refl; each = tt; follow = ap (file_at path) leads; with_one = λ interval can. tt }
-  lines_led (a ∷ rest) before last leads = by_module (module_of_path players a.visit.path) a rest before last refl leads (λ files more. lines_led rest files last more)
+  lines_led (a ∷ rest) before last leads = by_module (module_of_path players a.visit.path) a rest before last refl leads
+      (λ files more. lines_led rest files last more)
 
-  pub tallies : ((path : List ℕ) (interval : ℕ) (calls : List Served) (before after : Option (List ℕ)) (failures : List Failure) → Follow path before calls after → AllByRecursion (IsWith interval) (deeds_of calls)
+  pub tallies : ((path : List ℕ) (interval : ℕ) (calls : List Served) (before after : Option (List ℕ)) (failures : List Failure)
+      → Follow path before calls after → AllByRecursion (IsWith interval) (deeds_of calls)
       → failures_on_file before ≡ Some failures → failures_on_file after ≡ Some (stands_by interval (deeds_of calls) failures))
       → (before : List File) (asked : List AskedLine) (last : List File) → LinesLead players before asked last → Tallies path players before asked last
   tallies all before asked last leads =

@@ -27,10 +27,16 @@ use Rattle.mod_unix.specs.Look.{after_passwd, shadow_if_x, field_among, field_in
 use Rattle.mod_unix.specs.Verify.{hash_verified, verified}
 use Rattle.mod_unix.specs.NewHash.{hashed_token}
 use Rattle.mod_unix.specs.Account.{account_by, checks_account}
-use Rattle.mod_unix.specs.Authenticate.{asks_password, authenticates, judge_account, unless_open, first_pass_or_asks as verified_by, delays, is_empty, is_open, is_success, keeps_for_setcred, setcred_return, try_first, unless_success, verifies_token, with_first}
-use Rattle.mod_unix.specs.Change.{asks_old, authtok_or_asks, write_result, unless_too_early, asks_old_unless_empty, unless_token_is_kept, checks_or_changes, unless_caller_is_root, replaces_shadow, stores_if_taken, change_by, changed_shadow, changes_entry, changes_locked, changes_shadow, changes_token, if_locked, is_kept, is_too_early, new_prompts, same_reply, sets_new, stores_token, takes_token, tries_change, usable}
+use Rattle.mod_unix.specs.Authenticate.{asks_password, authenticates, judge_account, unless_open, first_pass_or_asks as verified_by, delays}
+use Rattle.mod_unix.specs.Authenticate.{is_empty, is_open, is_success, keeps_for_setcred, setcred_return, try_first, unless_success}
+use Rattle.mod_unix.specs.Authenticate.{verifies_token, with_first}
+use Rattle.mod_unix.specs.Change.{asks_old, authtok_or_asks, write_result, unless_too_early, asks_old_unless_empty, unless_token_is_kept}
+use Rattle.mod_unix.specs.Change.{checks_or_changes, unless_caller_is_root, replaces_shadow, stores_if_taken, change_by, changed_shadow}
+use Rattle.mod_unix.specs.Change.{changes_entry, changes_locked, changes_shadow, changes_token, if_locked, is_kept, is_too_early}
+use Rattle.mod_unix.specs.Change.{new_prompts, same_reply, sets_new, stores_token, takes_token, tries_change, usable}
 use Rattle.mod_unix.specs.Unix.{act_of_func, kept_code, unix_act}
-use Rattle.laws_audit.proofs.Steps.{Leaves, answering, asking, asking_token, delaying, drawing, exchanging, holding, keeping, letting_go, reading, replacing, seeing_caller, seeing_clock, seeing_data, seeing_items, setting_item}
+use Rattle.laws_audit.proofs.Steps.{Leaves, answering, asking, asking_token, delaying, drawing, exchanging, holding, keeping, letting_go}
+use Rattle.laws_audit.proofs.Steps.{reading, replacing, seeing_caller, seeing_clock, seeing_data, seeing_items, setting_item}
 
 module _ (path : List ℕ) where
   abbrev Still : Act → Type 0
@@ -113,7 +119,8 @@ module _ (path : List ℕ) where
 
   authenticating : (call : PlainCall) → Still (authenticates call keeps_for_setcred)
   unfolding authenticates
-  authenticating call = asking path (λ user. looks user (λ look. judge_account call look keeps_for_setcred)) (λ user. looking user (λ look. judge_account call look keeps_for_setcred) (λ look. by_known look call))
+  authenticating call = asking path (λ user. looks user (λ look. judge_account call look keeps_for_setcred))
+      (λ user. looking user (λ look. judge_account call look keeps_for_setcred) (λ look. by_known look call))
 
   -- ---- acct_mgmt
 
@@ -133,7 +140,8 @@ module _ (path : List ℕ) where
 
     old_asked : (entry : Shadow) → Still (asks_old entry act)
     unfolding asks_old
-    old_asked entry = asking_token path true (codes "Password: ") (λ token. act (hash_verified entry.hash token)) (λ token. next (hash_verified entry.hash token))
+    old_asked entry = asking_token path true (codes "Password: ") (λ token. act (hash_verified entry.hash token))
+        (λ token. next (hash_verified entry.hash token))
 
     unless_empty : (none : Bool) (entry : Shadow) → Still (asks_old_unless_empty none entry act)
     unless_empty true entry = next returns.Success
@@ -180,7 +188,8 @@ module _ (path : List ℕ) where
     locked : (user hash : List ℕ) (today : ℕ) → Still (changes_locked user hash today (λ code. lets_go true (act code)))
     unfolding changes_locked
     locked user hash today =
-        reading path (codes "/etc/shadow") account_limit (λ c. replaces_shadow (changed_shadow user hash today c) (λ code. lets_go true (act code))) (λ c. text_set (changed_shadow user hash today c))
+        reading path (codes "/etc/shadow") account_limit (λ c. replaces_shadow (changed_shadow user hash today c) (λ code. lets_go true (act code)))
+            (λ c. text_set (changed_shadow user hash today c))
 
     by_held : (user hash : List ℕ) (today : ℕ) (held : Bool) → Still (if_locked user hash today act held)
     by_held user hash today true = locked user hash today
@@ -225,7 +234,8 @@ module _ (path : List ℕ) where
 
     token_changed : (call : PlainCall) → Still (changes_token call act)
     unfolding changes_token
-    token_changed call = asking path (λ user. looks user (λ look. change_by call user look act)) (λ user. looking user (λ look. change_by call user look act) (changed_by_look call user))
+    token_changed call = asking path (λ user. looks user (λ look. change_by call user look act))
+        (λ user. looking user (λ look. change_by call user look act) (changed_by_look call user))
 
   -- ---- the module
 

@@ -15,7 +15,8 @@ use Rattle.module_acts.specs.Accounts.{account_limit, nothing_known}
 use Rattle.module_acts.specs.Act.{Stage, answers, content_seen, reads_file, reads_if, sees_items, unless_answered}
 use Rattle.module_acts.specs.Content.{is_rooted}
 use Rattle.mod_lists.specs.ListSettings.{PlainSettings, list_item_of, sense_of, settings_of, with_settings}
-use Rattle.mod_lists.specs.Listfile.{at_once, file_verdict, checks_list, checks_listed_user, code_for_values, error_answer, is_listed, is_succeed, text_value, text_values, verdict}
+use Rattle.mod_lists.specs.Listfile.{at_once, file_verdict, checks_list, checks_listed_user, code_for_values, error_answer, is_listed}
+use Rattle.mod_lists.specs.Listfile.{is_succeed, text_value, text_values, verdict}
 use Rattle.laws_check.specs.Listfile.{AllowedAreNamed, IsNamed}
 use Rattle.laws_check.proofs.Looking.{holds, user_given}
 
@@ -30,7 +31,8 @@ listed_by : (b : Bool) → (if b then returns.Success else returns.AuthErr) ≡ 
 listed_by true e = refl
 listed_by false e = absurd cc
 
-module _ (args : List (List ℕ)) (strict : is_succeed (value_among (codes "onerr=") args) ≡ false) (file : List ℕ) (room : SeenRoom) (held : List NamedData) (sight : Sight) where
+module _ (args : List (List ℕ)) (strict : is_succeed (value_among (codes "onerr=") args) ≡ false) (file : List ℕ) (room : SeenRoom) (held : List NamedData)
+    (sight : Sight) where
   abbrev start : Stage
   start = record { room = room; held = held; known = nothing_known; sight = sight }
 
@@ -48,10 +50,12 @@ module _ (args : List (List ℕ)) (strict : is_succeed (value_among (codes "oner
     file_is : s.file ≡ file
     allows : (b : Bool) → verdict s.sense b ≡ (if b then returns.Success else returns.AuthErr)
     value : (text : List ℕ) → text_value s.item text ≡ text
-    user_only : (user : List ℕ) → (checks_listed_user (error_answer args) args user (Some s) asked_stage).code ≡ (code_for_values (error_answer args) s (text_values s.item asked_stage.room.items.user) asked_stage).code
+    user_only : (user : List ℕ) → (checks_listed_user (error_answer args) args user (Some s) asked_stage).code
+        ≡ (code_for_values (error_answer args) s (text_values s.item asked_stage.room.items.user) asked_stage).code
 
   module _ (s : PlainSettings) (set : Set s) where
-    by_file : (user : List ℕ) (c : Content) → (user_asked room).room.items.user ≡ Some user → ((text : List ℕ) → c ≡ content.Holds text → file_at (path_of sight.root s.file) sight.files ≡ Some text)
+    by_file : (user : List ℕ) (c : Content) → (user_asked room).room.items.user ≡ Some user
+        → ((text : List ℕ) → c ≡ content.Holds text → file_at (path_of sight.root s.file) sight.files ≡ Some text)
         → file_verdict (error_answer args) s.sense (text_value s.item user ∷ []) c ≡ returns.Success → Done
     by_file user content.Absent u is e = absurd (no_error e)
     by_file user content.Unreadable u is e = absurd (no_error e)
@@ -67,13 +71,16 @@ module _ (args : List (List ℕ)) (strict : is_succeed (value_among (codes "oner
         }
 
     by_root : (b : Bool) (user : List ℕ) → (user_asked room).room.items.user ≡ Some user
-        → (reads_if b s.file account_limit (λ c. answers (file_verdict (error_answer args) s.sense (text_value s.item user ∷ []) c)) asked_stage).code ≡ returns.Success → Done
+        → (reads_if b s.file account_limit (λ c. answers (file_verdict (error_answer args) s.sense (text_value s.item user ∷ []) c)) asked_stage).code
+            ≡ returns.Success → Done
     unfolding answers
     by_root true user u e =
-        by_file user (content_seen s.file account_limit sight) u (λ text k. holds (sight.failing 0) account_limit (file_at (path_of sight.root s.file) sight.files) text k) e
+        by_file user (content_seen s.file account_limit sight) u (λ text k. holds (sight.failing 0) account_limit
+            (file_at (path_of sight.root s.file) sight.files) text k) e
     by_root false user u e = absurd (no_error e)
 
-    by_text : (o : Option (List ℕ)) → (user_asked room).room.items.user ≡ o → (code_for_values (error_answer args) s (text_values s.item o) asked_stage).code ≡ returns.Success → Done
+    by_text : (o : Option (List ℕ)) → (user_asked room).room.items.user ≡ o
+        → (code_for_values (error_answer args) s (text_values s.item o) asked_stage).code ≡ returns.Success → Done
     unfolding reads_file answers
     by_text None u e = absurd (true≢false (sym (listed_by false (sym (set.allows false) ∙ e))))
     by_text (Some []) u e = absurd (true≢false (sym (listed_by false (sym (set.allows false) ∙ e))))
@@ -97,16 +104,22 @@ module _ (args : List (List ℕ)) (strict : is_succeed (value_among (codes "oner
   by_set (Some s) set e = asked s set e
   by_set None set e = absurd (no_error e)
 
-  checked : value_among (codes "item=") args ≡ Some (codes "user") → value_among (codes "sense=") args ≡ Some (codes "allow") → value_among (codes "file=") args ≡ Some file
+  checked : value_among (codes "item=") args ≡ Some (codes "user") → value_among (codes "sense=") args ≡ Some (codes "allow")
+      → value_among (codes "file=") args ≡ Some file
       → (checks_list (error_answer args) args (settings_of args) start).code ≡ returns.Success → Done
   checked i n f e =
-      let is : settings_of args ≡ with_settings (option_and_then list_item_of (Some (codes "user"))) (option_and_then sense_of (Some (codes "allow"))) (Some file) =
-      ap (λ (o : Option (List ℕ)). with_settings (option_and_then list_item_of o) (option_and_then sense_of (value_among (codes "sense=") args)) (value_among (codes "file=") args)) i
-      ∙ ap (λ (o : Option (List ℕ)). with_settings (option_and_then list_item_of (Some (codes "user"))) (option_and_then sense_of o) (value_among (codes "file=") args)) n
-      ∙ ap (λ (o : Option (List ℕ)). with_settings (option_and_then list_item_of (Some (codes "user"))) (option_and_then sense_of (Some (codes "allow"))) o) f in
+      let is : settings_of args ≡ with_settings (option_and_then list_item_of (Some (codes "user"))) (option_and_then sense_of (Some (codes "allow")))
+              (Some file) =
+      ap (λ (o : Option (List ℕ)). with_settings (option_and_then list_item_of o) (option_and_then sense_of (value_among (codes "sense=") args))
+          (value_among (codes "file=") args)) i
+      ∙ ap (λ (o : Option (List ℕ)). with_settings (option_and_then list_item_of (Some (codes "user"))) (option_and_then sense_of o)
+          (value_among (codes "file=") args)) n
+      ∙ ap (λ (o : Option (List ℕ)). with_settings (option_and_then list_item_of (Some (codes "user")))
+          (option_and_then sense_of (Some (codes "allow"))) o) f in
       by_set (settings_of args) (subst AreSet (sym is) are_set) e
 
-  by_func : (f : Func) → f ≢ SetCred → value_among (codes "item=") args ≡ Some (codes "user") → value_among (codes "sense=") args ≡ Some (codes "allow") → value_among (codes "file=") args ≡ Some file
+  by_func : (f : Func) → f ≢ SetCred → value_among (codes "item=") args ≡ Some (codes "user") → value_among (codes "sense=") args ≡ Some (codes "allow")
+      → value_among (codes "file=") args ≡ Some file
       → (unless_answered (at_once f) (checks_list (error_answer args) args (settings_of args)) start).code ≡ returns.Success → Done
   by_func Authenticate not i n f e = checked i n f e
   by_func AcctMgmt not i n f e = checked i n f e

@@ -1,5 +1,6 @@
 -- A user who is asked for, and looked up in passwd.
-use Rattle.std.proofs.Common.{◌≡◌, ℕ, Bool, true, false, true≢false, ◌||◌, nat_lt, cond, if◌then◌else◌, List, [], ◌∷◌, length, Option, Some, None, Result, Ok, Err, codes, unwrap_or, refl, sym, ap, ◌∙◌}
+use Rattle.std.proofs.Common.{◌≡◌, ℕ, Bool, true, false, true≢false, ◌||◌, nat_lt, cond, if◌then◌else◌, List, [], ◌∷◌, length, Option, Some}
+use Rattle.std.proofs.Common.{None, Result, Ok, Err, codes, unwrap_or, refl, sym, ap, ◌∙◌}
 use Rattle.std.specs.Result.{result_ok}
 use Rattle.pam_base.specs.declared.code.Code.{Code}
 use Rattle.pam_base.specs.declared.code.Code.TheVariants as returns
@@ -55,12 +56,14 @@ user_by true again text room e = refl
 user_by false true text room e = absurd (true≢false e)
 user_by false false text room e = absurd (true≢false e)
 
-user_or : (found : Option (List ℕ)) (room : SeenRoom) → room.items.user ≡ found → (user_or_ask found room).refused ≡ false → (user_or_ask found room).room.items.user ≡ Some (unwrap_or (user_or_ask found room).room.items.user [])
+user_or : (found : Option (List ℕ)) (room : SeenRoom) → room.items.user ≡ found → (user_or_ask found room).refused ≡ false
+    → (user_or_ask found room).room.items.user ≡ Some (unwrap_or (user_or_ask found room).room.items.user [])
 user_or (Some user) room is e = filled room.items.user user is
 user_or None room is e =
     let messages = record { style = EchoOn; text = login_prompt room.items.user_prompt } ∷ [] in
     let text = first_text (ready_replies room.conv.offers) in
-    filled (user_or_ask None room).room.items.user text (user_by (has_replies room.conv messages) (room.conv.waits || starts_with_mark room.conv.offers) text (speak messages room).room e)
+    filled (user_or_ask None room).room.items.user text (user_by (has_replies room.conv messages) (room.conv.waits || starts_with_mark room.conv.offers) text
+        (speak messages room).room e)
 
 by_refused : (code : Code) (G : Type 0) (act : List ℕ → Act) (refused : Bool) (a : Asked) (stage : Stage) → (returns.ConvErr ≡ code → ⊥) → a.refused ≡ refused
     → (cond refused (answered returns.ConvErr a.room stage.sight) (act (unwrap_or a.room.items.user []) (in_room a.room stage))).code ≡ code
@@ -78,23 +81,28 @@ user_given code G act stage not e then_so =
 -- ---- the user's account
 
 module _ (code : Code) (G : Type 0) (user : List ℕ) (act : Account → Act) (room : SeenRoom) (held : List NamedData) (sight : Sight)
-    (yes : (account : Passwd) (known : Known) → HasAccount sight.root sight.files user account → (act (found account) (record { room = room; held = held; known = known; sight = later sight })).code ≡ code → G)
+    (yes : (account : Passwd) (known : Known) → HasAccount sight.root sight.files user account
+        → (act (found account) (record { room = room; held = held; known = known; sight = later sight })).code ≡ code → G)
     (no : (known : Known) → (act missing (record { room = room; held = held; known = known; sight = later sight })).code ≡ code → ⊥)
     (bad : (known : Known) → (act unreadable (record { room = room; held = held; known = known; sight = later sight })).code ≡ code → ⊥) where
   abbrev at : Known → Stage
   at known = record { room = room; held = held; known = known; sight = later sight }
 
-  by_entry : (o : Option Passwd) (es : List Passwd) (text : List ℕ) (known : Known) → file_at (path_of sight.root (codes "/etc/passwd")) sight.files ≡ Some text → passwds_of text ≡ Ok es → entry_of user es ≡ o
+  by_entry : (o : Option Passwd) (es : List Passwd) (text : List ℕ) (known : Known) → file_at (path_of sight.root (codes "/etc/passwd")) sight.files ≡ Some text
+      → passwds_of text ≡ Ok es → entry_of user es ≡ o
       → (act (account_or_missing o) (at known)).code ≡ code → G
   by_entry None es text known is are there e = absurd (no known e)
-  by_entry (Some account) es text known is are there e = yes account known (record { passwd = text; passwd_is = is; accounts = es; accounts_are = are; account_is = there }) e
+  by_entry (Some account) es text known is are there e = yes account known
+      (record { passwd = text; passwd_is = is; accounts = es; accounts_are = are; account_is = there }) e
 
-  by_entries : (r : Result (List Passwd) DbFault) (text : List ℕ) (known : Known) → file_at (path_of sight.root (codes "/etc/passwd")) sight.files ≡ Some text → passwds_of text ≡ r
+  by_entries : (r : Result (List Passwd) DbFault) (text : List ℕ) (known : Known) → file_at (path_of sight.root (codes "/etc/passwd")) sight.files ≡ Some text
+      → passwds_of text ≡ r
       → (act (account_in user (result_ok r)) (at known)).code ≡ code → G
   by_entries (Err fault) text known is are e = absurd (bad known e)
   by_entries (Ok es) text known is are e = by_entry (entry_of user es) es text known is are refl e
 
-  by_content : (c : Content) (known : Known) → ((text : List ℕ) → c ≡ content.Holds text → file_at (path_of sight.root (codes "/etc/passwd")) sight.files ≡ Some text)
+  by_content : (c : Content) (known : Known) → ((text : List ℕ) → c ≡ content.Holds text
+      → file_at (path_of sight.root (codes "/etc/passwd")) sight.files ≡ Some text)
       → (act (account_in user (passwds_in c)) (at known)).code ≡ code → G
   by_content content.Absent known is e = absurd (bad known e)
   by_content content.Unreadable known is e = absurd (bad known e)

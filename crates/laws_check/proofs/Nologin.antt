@@ -60,10 +60,12 @@ module_ignore : returns.ModuleUnknown ≡ returns.Ignore → ⊥
 module_ignore e = absurd cc
 
 success_goes_on : GoesOn returns.Success
-success_goes_on = record { not_service = service_success; not_auth = auth_success; not_unknown = unknown_success; not_conv = conv_success; not_module = module_success }
+success_goes_on = record { not_service = service_success; not_auth = auth_success; not_unknown = unknown_success; not_conv = conv_success;
+    not_module = module_success }
 
 ignore_goes_on : GoesOn returns.Ignore
-ignore_goes_on = record { not_service = service_ignore; not_auth = auth_ignore; not_unknown = unknown_ignore; not_conv = conv_ignore; not_module = module_ignore }
+ignore_goes_on = record { not_service = service_ignore; not_auth = auth_ignore; not_unknown = unknown_ignore; not_conv = conv_ignore;
+    not_module = module_ignore }
 
 module _ (code plain : Code) (goes : GoesOn code) (room : SeenRoom) (held : List NamedData) where
   module _ (user : List ℕ) (user_is : (user_asked room).room.items.user ≡ Some user) where
@@ -72,12 +74,14 @@ module _ (code plain : Code) (goes : GoesOn code) (room : SeenRoom) (held : List
       abbrev at : Known → Stage
       at known = record { room = (user_asked room).room; held = held; known = known; sight = later sight }
 
-      by_id : (b : Bool) (account : Passwd) (known : Known) → (account.uid == 0) ≡ b → HasAccount sight.root sight.files user account → (admits_root_only b plain notice (at known)).code ≡ code → IsRoot sight.root sight.files room
+      by_id : (b : Bool) (account : Passwd) (known : Known) → (account.uid == 0) ≡ b → HasAccount sight.root sight.files user account
+          → (admits_root_only b plain notice (at known)).code ≡ code → IsRoot sight.root sight.files room
       unfolding shows answers
       by_id true account known is h e = record { user = user; user_is = user_is; account = account; has_account = h; is_root = eqb-true account.uid 0 is }
       by_id false account known is h e = absurd (goes.not_auth e)
 
-      is_found : (account : Passwd) (known : Known) → HasAccount sight.root sight.files user account → (notice_for_account plain notice (found account) (at known)).code ≡ code → IsRoot sight.root sight.files room
+      is_found : (account : Passwd) (known : Known) → HasAccount sight.root sight.files user account
+          → (notice_for_account plain notice (found account) (at known)).code ≡ code → IsRoot sight.root sight.files room
       is_found account known h e = by_id (account.uid == 0) account known refl h e
 
       not_missing : (known : Known) → (notice_for_account plain notice missing (at known)).code ≡ code → ⊥
@@ -88,8 +92,10 @@ module _ (code plain : Code) (goes : GoesOn code) (room : SeenRoom) (held : List
       unfolding answers
       not_unreadable known e = goes.not_service e
 
-      is_root : (finds_account user (notice_for_account plain notice) (record { room = (user_asked room).room; held = held; known = nothing_known; sight = sight })).code ≡ code → IsRoot sight.root sight.files room
-      is_root e = account_found code (IsRoot sight.root sight.files room) user (notice_for_account plain notice) (user_asked room).room held sight is_found not_missing not_unreadable e
+      is_root : (finds_account user (notice_for_account plain notice) (record { room = (user_asked room).room; held = held; known = nothing_known;
+          sight = sight })).code ≡ code → IsRoot sight.root sight.files room
+      is_root e = account_found code (IsRoot sight.root sight.files room) user (notice_for_account plain notice) (user_asked room).room held sight is_found
+          not_missing not_unreadable e
 
     module _ (sight : Sight) where
       abbrev Ends : Type 0
@@ -101,13 +107,15 @@ module _ (code plain : Code) (goes : GoesOn code) (room : SeenRoom) (held : List
       abbrev IsAbsent : List ℕ → Type 0
       IsAbsent name = file_at (path_of sight.root name) sight.files ≡ None
 
-      in_etc : (c : Content) → IsAbsent (codes "/var/run/nologin") → (c ≡ content.Absent → IsAbsent (codes "/etc/nologin")) → (after_notice plain user c (stage_at (later (later sight)))).code ≡ code → Ends
+      in_etc : (c : Content) → IsAbsent (codes "/var/run/nologin") → (c ≡ content.Absent → IsAbsent (codes "/etc/nologin"))
+          → (after_notice plain user c (stage_at (later (later sight)))).code ≡ code → Ends
       unfolding answers
       in_etc content.Absent run etc e = inl (record { not_in_run = run; not_in_etc = etc refl })
       in_etc content.Unreadable run etc e = absurd (goes.not_service e)
       in_etc (content.Holds notice) run etc e = inr (is_root notice (later (later sight)) e)
 
-      in_run : (c : Content) → (c ≡ content.Absent → IsAbsent (codes "/var/run/nologin")) → (or_etc (after_notice plain user) c (stage_at (later sight))).code ≡ code → Ends
+      in_run : (c : Content) → (c ≡ content.Absent → IsAbsent (codes "/var/run/nologin"))
+          → (or_etc (after_notice plain user) c (stage_at (later sight))).code ≡ code → Ends
       unfolding reads_file answers
       in_run content.Absent run e =
           in_etc (content_seen (codes "/etc/nologin") notice_limit (later sight)) (run refl)
@@ -122,7 +130,8 @@ module _ (code plain : Code) (goes : GoesOn code) (room : SeenRoom) (held : List
           in_run (content_seen (codes "/var/run/nologin") notice_limit sight)
           (λ k. absent (sight.failing 0) notice_limit (file_at (path_of sight.root (codes "/var/run/nologin")) sight.files) k) e
 
-module _ (code : Code) (goes : GoesOn code) (args : List (List ℕ)) (none : value_among (codes "file=") args ≡ None) (room : SeenRoom) (held : List NamedData) (sight : Sight) where
+module _ (code : Code) (goes : GoesOn code) (args : List (List ℕ)) (none : value_among (codes "file=") args ≡ None) (room : SeenRoom) (held : List NamedData)
+    (sight : Sight) where
   abbrev start : Stage
   start = record { room = room; held = held; known = nothing_known; sight = sight }
 

@@ -1,5 +1,6 @@
 -- Where pam_securetty lets root in.
-use Rattle.std.proofs.Common.{◌≡◌, ◌≢◌, inl, inr, ℕ, Bool, true, false, true≢false, ◌==◌, ◌||◌, if◌then◌else◌, List, [], ◌∷◌, Option, Some, None, Ok, Err, codes, refl, sym, ap, ◌∙◌}
+use Rattle.std.proofs.Common.{◌≡◌, ◌≢◌, inl, inr, ℕ, Bool, true, false, true≢false, ◌==◌, ◌||◌, if◌then◌else◌, List, [], ◌∷◌, Option, Some}
+use Rattle.std.proofs.Common.{None, Ok, Err, codes, refl, sym, ap, ◌∙◌}
 use Rattle.pam_base.specs.declared.call.Func.{Func}
 use Rattle.pam_base.specs.declared.call.Func.TheVariants.{Authenticate, SetCred, AcctMgmt, OpenSession, CloseSession, ChAuthTok}
 use Rattle.pam_base.specs.declared.code.Code.TheVariants as returns
@@ -25,7 +26,8 @@ use Rattle.laws_check.proofs.Looking.{absent, account_found, holds, user_given}
 -- ---- a prompt leaves TTY as it is
 
 tty_by : (has again : Bool) (text : List ℕ) (room : SeenRoom)
-    → (asked_by User (if has then Ok (record { text = text } ∷ []) else if again then Err faults.Again else Err faults.Gone) room).room.items.tty ≡ room.items.tty
+    → (asked_by User (if has then Ok (record { text = text } ∷ []) else if again then Err faults.Again else Err faults.Gone) room).room.items.tty
+        ≡ room.items.tty
 tty_by true again text room = refl
 tty_by false true text room = refl
 tty_by false false text room = refl
@@ -34,7 +36,8 @@ tty_stays : (name : Option (List ℕ)) (room : SeenRoom) → (user_or_ask name r
 tty_stays (Some user) room = refl
 tty_stays None room =
     let messages = record { style = EchoOn; text = login_prompt room.items.user_prompt } ∷ [] in
-    tty_by (has_replies room.conv messages) (room.conv.waits || starts_with_mark room.conv.offers) (first_text (ready_replies room.conv.offers)) (speak messages room).room
+    tty_by (has_replies room.conv messages) (room.conv.waits || starts_with_mark room.conv.offers) (first_text (ready_replies room.conv.offers))
+        (speak messages room).room
 
 -- ---- the account
 
@@ -54,9 +57,11 @@ module _ (room : SeenRoom) (held : List NamedData) (sight : Sight) where
     by_content tty content.Absent is none some e = record { tty = tty; tty_is = is; secure = inl (none refl) }
     by_content tty content.Unreadable is none some e = absurd cc
     by_content tty (content.Holds text) is none some e =
-        record { tty = tty; tty_is = is; secure = inr (record { list = text; list_is = some text refl; listed = listed_by (is_secure (terminal_name tty) text) e }) }
+        record { tty = tty; tty_is = is; secure = inr (record { list = text; list_is = some text refl;
+            listed = listed_by (is_secure (terminal_name tty) text) e }) }
 
-    at_terminal : (name : Option (List ℕ)) (known : Known) → room.items.tty ≡ name → (looks_up_terminal name (at known)).code ≡ returns.Success → IsSecure sight.root sight.files room
+    at_terminal : (name : Option (List ℕ)) (known : Known) → room.items.tty ≡ name → (looks_up_terminal name (at known)).code ≡ returns.Success
+        → IsSecure sight.root sight.files room
     unfolding reads_file answers
     at_terminal None known is e = absurd cc
     at_terminal (Some tty) known is e =
@@ -64,14 +69,16 @@ module _ (room : SeenRoom) (held : List NamedData) (sight : Sight) where
         (λ k. absent (sight.failing 1) account_limit (file_at (path_of sight.root (codes "/etc/securetty")) sight.files) k)
         (λ text k. holds (sight.failing 1) account_limit (file_at (path_of sight.root (codes "/etc/securetty")) sight.files) text k) e
 
-    root_secure : (b : Bool) (account : Passwd) (known : Known) → (account.uid == 0) ≡ b → (checks_if_root b (at known)).code ≡ returns.Success → account.uid ≡ 0 → IsSecure sight.root sight.files room
+    root_secure : (b : Bool) (account : Passwd) (known : Known) → (account.uid == 0) ≡ b → (checks_if_root b (at known)).code ≡ returns.Success
+        → account.uid ≡ 0 → IsSecure sight.root sight.files room
     unfolding sees_items
     root_secure true account known is e z = at_terminal (user_asked room).room.items.tty known (sym (tty_stays room.items.user room)) e
     root_secure false account known is e z =
         let same : (account.uid == 0) ≡ true = ap (λ (n : ℕ). n == 0) z in
         absurd (true≢false (sym same ∙ is))
 
-    is_found : (account : Passwd) (known : Known) → HasAccount sight.root sight.files user account → (terminal_for_account (found account) (at known)).code ≡ returns.Success → MayLogIn sight.root sight.files room
+    is_found : (account : Passwd) (known : Known) → HasAccount sight.root sight.files user account
+        → (terminal_for_account (found account) (at known)).code ≡ returns.Success → MayLogIn sight.root sight.files room
     is_found account known h e = record {
       user = user;
       user_is = user_is;
@@ -88,8 +95,10 @@ module _ (room : SeenRoom) (held : List NamedData) (sight : Sight) where
     unfolding answers
     not_unreadable known e = absurd cc
 
-    looked : (finds_account user terminal_for_account (record { room = (user_asked room).room; held = held; known = nothing_known; sight = sight })).code ≡ returns.Success → MayLogIn sight.root sight.files room
-    looked e = account_found returns.Success (MayLogIn sight.root sight.files room) user terminal_for_account (user_asked room).room held sight is_found not_missing not_unreadable e
+    looked : (finds_account user terminal_for_account (record { room = (user_asked room).room; held = held; known = nothing_known; sight = sight })).code
+        ≡ returns.Success → MayLogIn sight.root sight.files room
+    looked e = account_found returns.Success (MayLogIn sight.root sight.files room) user terminal_for_account (user_asked room).room held sight is_found
+        not_missing not_unreadable e
 
   abbrev start : Stage
   start = record { room = room; held = held; known = nothing_known; sight = sight }
@@ -100,7 +109,8 @@ module _ (room : SeenRoom) (held : List NamedData) (sight : Sight) where
   checked : (checks_terminal start).code ≡ returns.Success → MayLogIn sight.root sight.files room
   checked e = user_given returns.Success (MayLogIn sight.root sight.files room) (λ user. finds_account user terminal_for_account) start not_conv e looked
 
-  by_func : (f : Func) → f ≢ SetCred → (unless_answered (code_unchecked f returns.Success) checks_terminal start).code ≡ returns.Success → MayLogIn sight.root sight.files room
+  by_func : (f : Func) → f ≢ SetCred → (unless_answered (code_unchecked f returns.Success) checks_terminal start).code ≡ returns.Success
+      → MayLogIn sight.root sight.files room
   unfolding answers
   by_func Authenticate n e = checked e
   by_func AcctMgmt n e = checked e

@@ -41,22 +41,27 @@ module _ (room : SeenRoom) (held : List NamedData) (sight : Sight) where
     }
 
     shells_read : (account : Passwd) (known : Known) → HasAccount sight.root sight.files user account
-        → (checks_login_shell (found account) (record { room = (user_asked room).room; held = held; known = known; sight = later sight })).code ≡ returns.Success → HasListedShell sight.root sight.files room
+        → (checks_login_shell (found account) (record { room = (user_asked room).room; held = held; known = known; sight = later sight })).code
+            ≡ returns.Success → HasListedShell sight.root sight.files room
     unfolding reads_shells reads_file answers
     shells_read account known h e =
         by_content account (content_seen (codes "/etc/shells") account_limit (later sight)) h
         (λ text k. holds (sight.failing 1) account_limit (file_at (path_of sight.root (codes "/etc/shells")) sight.files) text k) e
 
-    not_missing : (known : Known) → (checks_login_shell missing (record { room = (user_asked room).room; held = held; known = known; sight = later sight })).code ≡ returns.Success → ⊥
+    not_missing : (known : Known) → (checks_login_shell missing (record { room = (user_asked room).room; held = held; known = known;
+        sight = later sight })).code ≡ returns.Success → ⊥
     unfolding answers
     not_missing known e = absurd cc
 
-    not_unreadable : (known : Known) → (checks_login_shell unreadable (record { room = (user_asked room).room; held = held; known = known; sight = later sight })).code ≡ returns.Success → ⊥
+    not_unreadable : (known : Known) → (checks_login_shell unreadable (record { room = (user_asked room).room; held = held; known = known;
+        sight = later sight })).code ≡ returns.Success → ⊥
     unfolding answers
     not_unreadable known e = absurd cc
 
-    looked : (finds_account user checks_login_shell (record { room = (user_asked room).room; held = held; known = nothing_known; sight = sight })).code ≡ returns.Success → HasListedShell sight.root sight.files room
-    looked e = account_found returns.Success (HasListedShell sight.root sight.files room) user checks_login_shell (user_asked room).room held sight shells_read not_missing not_unreadable e
+    looked : (finds_account user checks_login_shell (record { room = (user_asked room).room; held = held; known = nothing_known; sight = sight })).code
+        ≡ returns.Success → HasListedShell sight.root sight.files room
+    looked e = account_found returns.Success (HasListedShell sight.root sight.files room) user checks_login_shell (user_asked room).room held sight shells_read
+        not_missing not_unreadable e
 
   abbrev start : Stage
   start = record { room = room; held = held; known = nothing_known; sight = sight }
@@ -67,7 +72,8 @@ module _ (room : SeenRoom) (held : List NamedData) (sight : Sight) where
   checked : (checks_shell start).code ≡ returns.Success → HasListedShell sight.root sight.files room
   checked e = user_given returns.Success (HasListedShell sight.root sight.files room) (λ user. finds_account user checks_login_shell) start not_conv e looked
 
-  by_func : (f : Func) → f ≢ SetCred → (unless_answered (code_unchecked f returns.Success) checks_shell start).code ≡ returns.Success → HasListedShell sight.root sight.files room
+  by_func : (f : Func) → f ≢ SetCred → (unless_answered (code_unchecked f returns.Success) checks_shell start).code ≡ returns.Success
+      → HasListedShell sight.root sight.files room
   unfolding answers
   by_func Authenticate n e = checked e
   by_func AcctMgmt n e = checked e

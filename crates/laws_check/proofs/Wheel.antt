@@ -1,5 +1,6 @@
 -- Whom pam_wheel lets in.
-use Rattle.std.proofs.Common.{◌≡◌, ◌≢◌, inl, inr, ℕ, Bool, true, false, true≢false, not, ◌&&◌, ◌==◌, if◌then◌else◌, List, Option, Some, None, Result, Ok, Err, codes, refl, ap}
+use Rattle.std.proofs.Common.{◌≡◌, ◌≢◌, inl, inr, ℕ, Bool, true, false, true≢false, not, ◌&&◌, ◌==◌, if◌then◌else◌, List, Option, Some}
+use Rattle.std.proofs.Common.{None, Result, Ok, Err, codes, refl, ap}
 use Rattle.std.specs.Result.{result_ok}
 use Rattle.pam_base.specs.declared.call.Func.{Func}
 use Rattle.pam_base.specs.declared.call.Func.TheVariants.{Authenticate, SetCred, AcctMgmt, OpenSession, CloseSession, ChAuthTok}
@@ -23,7 +24,8 @@ use Rattle.module_acts.specs.Act.{Act, Stage, answers, content_seen, later, read
 use Rattle.module_acts.specs.Arguments.{has_argument}
 use Rattle.module_acts.specs.Steps.{sees_caller}
 use Rattle.module_acts.specs.Uncheck.{code_unchecked}
-use Rattle.mod_history.specs.Wheel.{code_of_entry, group_code, member_code, unless_tested, checks_user, checks_wheel, code_by_groups, code_by_passwds, is_passed_over, unknown_if_none, wheel_group}
+use Rattle.mod_history.specs.Wheel.{code_of_entry, group_code, member_code, unless_tested, checks_user, checks_wheel, code_by_groups}
+use Rattle.mod_history.specs.Wheel.{code_by_passwds, is_passed_over, unknown_if_none, wheel_group}
 use Rattle.laws_check.specs.Wheel.{InWheel, OnlyMembersGoOn}
 use Rattle.laws_check.proofs.Looking.{holds, user_given}
 
@@ -66,10 +68,12 @@ module_ignore : returns.ModuleUnknown ≡ returns.Ignore → ⊥
 module_ignore e = absurd cc
 
 success_goes_on : GoesOn returns.Success
-success_goes_on = record { not_service = service_success; not_perm = perm_success; not_unknown = unknown_success; not_conv = conv_success; not_module = module_success }
+success_goes_on = record { not_service = service_success; not_perm = perm_success; not_unknown = unknown_success; not_conv = conv_success;
+    not_module = module_success }
 
 ignore_goes_on : GoesOn returns.Ignore
-ignore_goes_on = record { not_service = service_ignore; not_perm = perm_ignore; not_unknown = unknown_ignore; not_conv = conv_ignore; not_module = module_ignore }
+ignore_goes_on = record { not_service = service_ignore; not_perm = perm_ignore; not_unknown = unknown_ignore; not_conv = conv_ignore;
+    not_module = module_ignore }
 
 -- the entry is a member of this group
 record MemberOf (entry : Passwd) (chosen : Option Group) : Type 0 where
@@ -86,9 +90,11 @@ module _ (code : Code) (goes : GoesOn code) where
   group_by : (deny trust : Bool) (entry : Passwd) (chosen : Option Group) → deny ≡ false → group_code deny trust entry chosen ≡ code → MemberOf entry chosen
   group_by true trust entry None d e = absurd (true≢false d)
   group_by false trust entry None d e = absurd (goes.not_perm e)
-  group_by deny trust entry (Some group) d e = record { group = group; group_is = refl; member = member_by deny trust (is_member entry.name (Some entry) group) d e }
+  group_by deny trust entry (Some group) d e = record { group = group; group_is = refl;
+      member = member_by deny trust (is_member entry.name (Some entry) group) d e }
 
-  answered_later : (o : Option Code) (act : Act) (stage : Stage) → ((k : Code) → o ≡ Some k → k ≡ code → ⊥) → (unless_answered o act stage).code ≡ code → (act stage).code ≡ code
+  answered_later : (o : Option Code) (act : Act) (stage : Stage) → ((k : Code) → o ≡ Some k → k ≡ code → ⊥) → (unless_answered o act stage).code ≡ code
+      → (act stage).code ≡ code
   unfolding answers
   answered_later (Some k) act stage not e = absurd (not k refl e)
   answered_later None act stage not e = e
@@ -98,7 +104,8 @@ module _ (code : Code) (goes : GoesOn code) where
   not_passed false None k b is e = goes.not_unknown cc
   not_passed false (Some entry) k b is e = absurd cc
 
-  module _ (args : List (List ℕ)) (denies : has_argument (codes "deny") args ≡ false) (all : has_argument (codes "root_only") args ≡ false) (held : List NamedData) (sight : Sight) where
+  module _ (args : List (List ℕ)) (denies : has_argument (codes "deny") args ≡ false) (all : has_argument (codes "root_only") args ≡ false)
+      (held : List NamedData) (sight : Sight) where
     abbrev Done : Type 0
     Done = InWheel sight.root sight.files sight.caller args
 
@@ -109,12 +116,15 @@ module _ (code : Code) (goes : GoesOn code) where
         not_passed (is_passed_over args entry) (entry_of_uid sight.caller es) k b is e
 
     module _ (room : SeenRoom) (user : List ℕ) where
-      module _ (text : List ℕ) (is : file_at (path_of sight.root (codes "/etc/passwd")) sight.files ≡ Some text) (es : List Passwd) (are : passwds_of text ≡ Ok es) where
-        by_caller : (o : Option Passwd) (g : List ℕ) (gs : List Group) → file_at (path_of sight.root (codes "/etc/group")) sight.files ≡ Some g → groups_of g ≡ Ok gs → entry_of_uid sight.caller es ≡ o
+      module _ (text : List ℕ) (is : file_at (path_of sight.root (codes "/etc/passwd")) sight.files ≡ Some text) (es : List Passwd)
+          (are : passwds_of text ≡ Ok es) where
+        by_caller : (o : Option Passwd) (g : List ℕ) (gs : List Group) → file_at (path_of sight.root (codes "/etc/group")) sight.files ≡ Some g
+            → groups_of g ≡ Ok gs → entry_of_uid sight.caller es ≡ o
             → code_of_entry args gs o ≡ code → Done
         by_caller None g gs there gare caller e = absurd (goes.not_unknown e)
         by_caller (Some entry) g gs there gare caller e =
-            let m = group_by (has_argument (codes "deny") args) (has_argument (codes "trust") args) entry (wheel_group (value_among (codes "group=") args) gs) denies e in
+            let m = group_by (has_argument (codes "deny") args) (has_argument (codes "trust") args) entry
+                    (wheel_group (value_among (codes "group=") args) gs) denies e in
             record {
               passwd = text;
               passwd_is = is;
@@ -148,26 +158,30 @@ module _ (code : Code) (goes : GoesOn code) where
       abbrev reads : Option (List Passwd) → Act
       reads passwds = reads_groups (λ groups. answers (code_by_groups args sight.caller passwds groups))
 
-      group_read : (text : List ℕ) (es : List Passwd) (known : Option (List Passwd)) → file_at (path_of sight.root (codes "/etc/passwd")) sight.files ≡ Some text → passwds_of text ≡ Ok es
+      group_read : (text : List ℕ) (es : List Passwd) (known : Option (List Passwd))
+          → file_at (path_of sight.root (codes "/etc/passwd")) sight.files ≡ Some text → passwds_of text ≡ Ok es
           → (reads (Some es) (at known)).code ≡ code → Done
       unfolding reads_groups answers
       group_read text es known is are e =
           by_group_file text is es are (content_seen (codes "/etc/group") account_limit (later sight))
           (λ g k. holds (sight.failing 1) account_limit (file_at (path_of sight.root (codes "/etc/group")) sight.files) g k) e
 
-      service : (passwds : Option (List Passwd)) (stage : Stage) → passwds ≡ None → (unless_answered (code_by_passwds args sight.caller user passwds) (reads passwds) stage).code ≡ code → ⊥
+      service : (passwds : Option (List Passwd)) (stage : Stage) → passwds ≡ None
+          → (unless_answered (code_by_passwds args sight.caller user passwds) (reads passwds) stage).code ≡ code → ⊥
       unfolding answers
       service None stage is e = goes.not_service e
       service (Some es) stage is e = absurd cc
 
-      by_passwds : (r : Result (List Passwd) DbFault) (text : List ℕ) (known : Option (List Passwd)) → file_at (path_of sight.root (codes "/etc/passwd")) sight.files ≡ Some text → passwds_of text ≡ r
+      by_passwds : (r : Result (List Passwd) DbFault) (text : List ℕ) (known : Option (List Passwd))
+          → file_at (path_of sight.root (codes "/etc/passwd")) sight.files ≡ Some text → passwds_of text ≡ r
           → (unless_answered (code_by_passwds args sight.caller user (result_ok r)) (reads (result_ok r)) (at known)).code ≡ code → Done
       by_passwds (Err fault) text known is are e = absurd (service None (at known) refl e)
       by_passwds (Ok es) text known is are e =
           group_read text es known is are
           (answered_later (code_by_passwds args sight.caller user (Some es)) (reads (Some es)) (at known) (λ k d s. not_user (entry_of user es) es k d s) e)
 
-      by_file : (c : Content) (known : Option (List Passwd)) → ((text : List ℕ) → c ≡ content.Holds text → file_at (path_of sight.root (codes "/etc/passwd")) sight.files ≡ Some text)
+      by_file : (c : Content) (known : Option (List Passwd)) → ((text : List ℕ) → c ≡ content.Holds text
+          → file_at (path_of sight.root (codes "/etc/passwd")) sight.files ≡ Some text)
           → (unless_answered (code_by_passwds args sight.caller user (passwds_in c)) (reads (passwds_in c)) (at known)).code ≡ code → Done
       by_file content.Absent known is e = absurd (service None (at known) refl e)
       by_file content.Unreadable known is e = absurd (service None (at known) refl e)

@@ -20,10 +20,12 @@ use Rattle.mod_lists.specs.Nologin as nologin
 use Rattle.mod_lists.specs.Shells as shells
 use Rattle.mod_history.specs.Securetty as securetty
 use Rattle.mod_history.specs.Wheel as wheel
-use Rattle.laws_code.specs.Codes.{check_codes, nologin_check, nologin_codes, securetty_check, securetty_codes, shells_check, shells_codes, wheel_check, wheel_codes}
+use Rattle.laws_code.specs.Codes.{check_codes, nologin_check, nologin_codes, securetty_check, securetty_codes, shells_check, shells_codes}
+use Rattle.laws_code.specs.Codes.{wheel_check, wheel_codes}
 use Rattle.laws_code.specs.Returns.{IsOneOf, ReturnsOf}
 use Rattle.laws_code.specs.Succeeds.{NologinSucceedsIfTold, WheelSucceedsIfTrusting}
-use Rattle.laws_code.proofs.Giving.{Gives, IfSome, answering, asking, either, finding, reading, reading_groups, reading_passwds, reading_shells, seeing_caller, seeing_items, showing, unless}
+use Rattle.laws_code.proofs.Giving.{Gives, IfSome, answering, asking, either, finding, reading, reading_groups, reading_passwds}
+use Rattle.laws_code.proofs.Giving.{reading_shells, seeing_caller, seeing_items, showing, unless}
 
 -- by function, for codes that may differ between them
 checked : (f : Func) (code : Code) (act : Act) (check setcred : List Code) → IsOneOf code setcred → Gives (λ c. IsOneOf c check) act
@@ -37,7 +39,8 @@ checked ChAuthTok code act check setcred at rest = answering (λ c. IsOneOf c (r
 
 -- ---- pam_nologin
 
-module _ (P : Code → Type 0) (plain : Code) (ends : P plain) (denied : P returns.AuthErr) (failed : P returns.ServiceErr) (unknown : P returns.UserUnknown) (silent : P returns.ConvErr) where
+module _ (P : Code → Type 0) (plain : Code) (ends : P plain) (denied : P returns.AuthErr) (failed : P returns.ServiceErr) (unknown : P returns.UserUnknown)
+    (silent : P returns.ConvErr) where
   root_or_not : (b : Bool) (notice : List ℕ) → Gives P (nologin.admits_root_only b plain notice)
   root_or_not true notice = showing P _ notice (answers plain) (answering P plain ends)
   root_or_not false notice = showing P _ notice (answers returns.AuthErr) (answering P returns.AuthErr denied)
@@ -64,7 +67,8 @@ module _ (P : Code → Type 0) (plain : Code) (ends : P plain) (denied : P retur
 notice_checked : (P : Code → Type 0) (args : List (List ℕ)) → P (nologin.plain_answer args) → P returns.AuthErr → P returns.ServiceErr
     → P returns.UserUnknown → P returns.ConvErr → Gives P (nologin.checks_notice args)
 notice_checked P args ends denied failed unknown silent =
-    asking P _ silent (λ user. read_notice P (nologin.plain_answer args) ends denied failed unknown silent (value_among (codes "file=") args) _ (noticed P (nologin.plain_answer args) ends denied failed unknown silent user))
+    asking P _ silent (λ user. read_notice P (nologin.plain_answer args) ends denied failed unknown silent (value_among (codes "file=") args) _
+        (noticed P (nologin.plain_answer args) ends denied failed unknown silent user))
 
 plain_in : (b : Bool) (rest : List Code) → IsOneOf (cond b returns.Success returns.Ignore) (returns.Success ∷ returns.Ignore ∷ rest)
 plain_in true rest = inl refl
@@ -73,8 +77,10 @@ plain_in false rest = inr (inl refl)
 pub nologins : ReturnsOf nologin.nologin_plays nologin_codes
 nologins call room held sight =
     let told = has_argument (codes "successok") call.args in
-    checked call.func (nologin.plain_answer call.args) (nologin.checks_notice call.args) nologin_check (returns.Success ∷ returns.Ignore ∷ []) (plain_in told [])
-    (notice_checked (λ c. IsOneOf c nologin_check) call.args (plain_in told (returns.AuthErr ∷ returns.ConvErr ∷ returns.ServiceErr ∷ returns.UserUnknown ∷ [])) (inr (inr (inl refl))) (inr (inr (inr (inr (inl refl))))) (inr (inr (inr (inr (inr (inl refl)))))) (inr (inr (inr (inl refl))))) _
+    checked call.func (nologin.plain_answer call.args) (nologin.checks_notice call.args) nologin_check (returns.Success ∷ returns.Ignore ∷ [])
+        (plain_in told [])
+    (notice_checked (λ c. IsOneOf c nologin_check) call.args (plain_in told (returns.AuthErr ∷ returns.ConvErr ∷ returns.ServiceErr ∷ returns.UserUnknown ∷ []))
+        (inr (inr (inl refl))) (inr (inr (inr (inr (inl refl))))) (inr (inr (inr (inr (inr (inl refl)))))) (inr (inr (inr (inl refl))))) _
 
 plainly : (b : Bool) → cond b returns.Success returns.Ignore ≡ returns.Success → b ≡ true
 plainly true e = refl
@@ -118,7 +124,8 @@ shells_so call room held sight =
 
 -- ---- pam_securetty
 
-module _ (P : Code → Type 0) (ends : P returns.Success) (denied : P returns.AuthErr) (failed : P returns.ServiceErr) (unknown : P returns.UserUnknown) (silent : P returns.ConvErr) where
+module _ (P : Code → Type 0) (ends : P returns.Success) (denied : P returns.AuthErr) (failed : P returns.ServiceErr) (unknown : P returns.UserUnknown)
+    (silent : P returns.ConvErr) where
   by_lines : (name : List ℕ) (c : Content) → P (securetty.terminal_code name c)
   by_lines name content.Absent = ends
   by_lines name content.Unreadable = failed
@@ -143,11 +150,13 @@ module _ (P : Code → Type 0) (ends : P returns.Success) (denied : P returns.Au
 pub terminals : ReturnsOf securetty.securetty_plays securetty_codes
 terminals call room held sight =
     checked call.func returns.Success securetty.checks_terminal securetty_check (returns.Success ∷ []) (inl refl)
-    (terminal_checked (λ c. IsOneOf c securetty_check) (inl refl) (inr (inl refl)) (inr (inr (inr (inl refl)))) (inr (inr (inr (inr (inl refl))))) (inr (inr (inl refl)))) _
+    (terminal_checked (λ c. IsOneOf c securetty_check) (inl refl) (inr (inl refl)) (inr (inr (inr (inl refl)))) (inr (inr (inr (inr (inl refl)))))
+        (inr (inr (inl refl)))) _
 
 -- ---- pam_wheel
 
-module _ (P : Code → Type 0) (args : List (List ℕ)) (trust : P (wheel.trusted (has_argument (codes "trust") args))) (passed : P returns.Ignore) (denied : P returns.PermDenied) (failed : P returns.ServiceErr) (unknown : P returns.UserUnknown) (silent : P returns.ConvErr) where
+module _ (P : Code → Type 0) (args : List (List ℕ)) (trust : P (wheel.trusted (has_argument (codes "trust") args))) (passed : P returns.Ignore)
+    (denied : P returns.PermDenied) (failed : P returns.ServiceErr) (unknown : P returns.UserUnknown) (silent : P returns.ConvErr) where
   member_of : (deny member : Bool) → P (wheel.member_code deny (has_argument (codes "trust") args) member)
   member_of true true = denied
   member_of true false = trust
@@ -187,7 +196,8 @@ module _ (P : Code → Type 0) (args : List (List ℕ)) (trust : P (wheel.truste
   user_among caller user (Some es) = user_in caller es (entry_of user es)
 
   wheel_checked : Gives P (sees_caller (wheel.checks_wheel args))
-  wheel_checked = seeing_caller P _ (λ caller. asking P _ silent (λ user. reading_passwds P _ (λ es. unless P _ _ (user_among caller user es) (reading_groups P _ (λ gs. answering P _ (groups_in caller es gs))))))
+  wheel_checked = seeing_caller P _ (λ caller. asking P _ silent (λ user. reading_passwds P _
+      (λ es. unless P _ _ (user_among caller user es) (reading_groups P _ (λ gs. answering P _ (groups_in caller es gs))))))
 
 -- for any list that begins with these two
 trusted_in : (b : Bool) (rest : List Code) → IsOneOf (wheel.trusted b) (returns.Success ∷ returns.Ignore ∷ rest)
@@ -202,9 +212,12 @@ pub trust_alone : WheelSucceedsIfTrusting
 trust_alone call room held sight other =
     let P : Code → Type 0 = λ c. c ≡ returns.Success → has_argument (codes "trust") call.args ≡ true in
     told_by call.func P returns.Success (sees_caller (wheel.checks_wheel call.args)) (λ f. absurd (other f)) (λ e. absurd cc)
-    (wheel_checked P call.args (trusting (has_argument (codes "trust") call.args)) (λ e. absurd cc) (λ e. absurd cc) (λ e. absurd cc) (λ e. absurd cc) (λ e. absurd cc)) _
+    (wheel_checked P call.args (trusting (has_argument (codes "trust") call.args)) (λ e. absurd cc) (λ e. absurd cc) (λ e. absurd cc) (λ e. absurd cc)
+        (λ e. absurd cc)) _
 
 pub wheels : ReturnsOf wheel.wheel_plays wheel_codes
 wheels call room held sight =
     checked call.func returns.Success (sees_caller (wheel.checks_wheel call.args)) wheel_check (returns.Success ∷ []) (inl refl)
-    (wheel_checked (λ c. IsOneOf c wheel_check) call.args (trusted_in (has_argument (codes "trust") call.args) (returns.PermDenied ∷ returns.ConvErr ∷ returns.ServiceErr ∷ returns.UserUnknown ∷ [])) (inr (inl refl)) (inr (inr (inl refl))) (inr (inr (inr (inr (inl refl))))) (inr (inr (inr (inr (inr (inl refl)))))) (inr (inr (inr (inl refl))))) _
+    (wheel_checked (λ c. IsOneOf c wheel_check) call.args (trusted_in (has_argument (codes "trust") call.args)
+        (returns.PermDenied ∷ returns.ConvErr ∷ returns.ServiceErr ∷ returns.UserUnknown ∷ [])) (inr (inl refl)) (inr (inr (inl refl)))
+        (inr (inr (inr (inr (inl refl))))) (inr (inr (inr (inr (inr (inl refl)))))) (inr (inr (inr (inl refl))))) _

@@ -14,7 +14,9 @@ use Rattle.mod_env.specs.declared.expand.Expansion.TheVariants.{TooLong, Puts}
 use Rattle.mod_env.specs.Conf.{conf_of}
 use Rattle.mod_env.specs.EnvFile.{assignments_of}
 use Rattle.mod_env.specs.Expand.{asks_account, expansion_of}
-use Rattle.mod_env.specs.Env.{at_once, sets_if_well_formed, puts_expansion, after_conf, puts_if_all_fit, sets_by_texts, finds_entry, entry_in, env_plays, is_zero, looks_if, puts_all, puts_env, reads_first, reads_second, sees_env, sets_all, sets_by, sets_variable, text_in}
+use Rattle.mod_env.specs.Env.{at_once, sets_if_well_formed, puts_expansion, after_conf, puts_if_all_fit, sets_by_texts, finds_entry}
+use Rattle.mod_env.specs.Env.{entry_in, env_plays, is_zero, looks_if, puts_all, puts_env, reads_first, reads_second, sees_env, sets_all}
+use Rattle.mod_env.specs.Env.{sets_by, sets_variable, text_in}
 use Rattle.laws_code.specs.Codes.{env_codes, env_sets}
 use Rattle.laws_code.specs.Returns.{IsOneOf, ReturnsOf}
 use Rattle.laws_code.proofs.Giving.{Gives, answering, finding, reading, seeing_items}
@@ -51,7 +53,8 @@ module _ (P : Code → Type 0) where
 
     set_by : (entry : EnvLine) (account : Option Passwd) → Gives P (sets_by entry account act)
     unfolding sets_by
-    set_by entry account = seeing_items P _ (λ items. seeing_env _ (λ env. expanded (expansion_of entry (record { items = items; env = env; entry = account }))))
+    set_by entry account = seeing_items P _ (λ items. seeing_env _ (λ env. expanded
+        (expansion_of entry (record { items = items; env = env; entry = account }))))
 
     set_variable : (entry : EnvLine) → Gives P (sets_variable entry act)
     unfolding sets_variable

@@ -10,7 +10,9 @@ use Rattle.account_db.specs.declared.passwd.Passwd.{Passwd}
 use Rattle.account_db.specs.declared.group.Group.{Group}
 use Rattle.module_acts.specs.declared.content.Content.{Content}
 use Rattle.module_acts.specs.Accounts.{Account, account_in, shells_in}
-use Rattle.module_acts.specs.Act.{Act, Stage, answers, asks_user, draws_word, finds_account, groups_by, holds_if, holds_lock, holds_unless, in_room, lets_go, passwds_by, reads_file, reads_groups, reads_if, reads_passwds, reads_shells, replaces_file, sees_items, sees_moment, shows, unless_answered}
+use Rattle.module_acts.specs.Act.{Act, Stage, answers, asks_user, draws_word, finds_account, groups_by, holds_if, holds_lock, holds_unless}
+use Rattle.module_acts.specs.Act.{in_room, lets_go, passwds_by, reads_file, reads_groups, reads_if, reads_passwds, reads_shells}
+use Rattle.module_acts.specs.Act.{replaces_file, sees_items, sees_moment, shows, unless_answered}
 use Rattle.module_acts.specs.Content.{is_rooted}
 use Rattle.module_acts.specs.Steps.{answers_keeping, asks_token, exchanges, requests_delay, sees_caller, sees_clock, sees_data, sets_item, with_replies}
 use Rattle.conv_port.specs.declared.conv.ConvFault.{ConvFault}
@@ -149,7 +151,8 @@ module _ (P : Code → Type 0) where
   pub asking_token : (old : Bool) (prompt : List ℕ) (act : List ℕ → Act) → P returns.ConvErr → ((text : List ℕ) → Gives P (act text))
       → Gives P (asks_token old prompt act)
   unfolding asks_token
-  asking_token old prompt act p rest stage = token_of_asked (token_asked old prompt stage.room).refused (token_of old) (token_asked old prompt stage.room) act stage p rest
+  asking_token old prompt act p rest stage = token_of_asked (token_asked old prompt stage.room).refused (token_of old) (token_asked old prompt stage.room) act
+      stage p rest
 
   replied : (r : Result (List Reply) ConvFault) (room : SeenRoom) (act : List Reply → Act) → P returns.ConvErr → ((rs : List Reply) → Gives P (act rs))
       → Gives P (with_replies r room act)

@@ -20,7 +20,8 @@ use Rattle.mod_unix.specs.declared.look.KnownPassword.{KnownPassword}
 use Rattle.mod_unix.specs.declared.look.KnownPassword.TheVariants.{Unknown, Unavailable, Plain, Shadowed}
 use Rattle.mod_unix.specs.Account.{account_by, checks_account}
 use Rattle.mod_unix.specs.Aging.{aged, code_at_age, code_after_change, day_of, is_past, is_reached}
-use Rattle.mod_unix.specs.Authenticate.{asks_password, authenticates, unless_open, first_pass_or_asks, delays, is_open, is_success, judge_account, keeps_for_setcred, try_first, unless_success, verifies_token, with_first}
+use Rattle.mod_unix.specs.Authenticate.{asks_password, authenticates, unless_open, first_pass_or_asks, delays, is_open, is_success}
+use Rattle.mod_unix.specs.Authenticate.{judge_account, keeps_for_setcred, try_first, unless_success, verifies_token, with_first}
 use Rattle.mod_unix.specs.Look.{after_passwd, shadow_if_x, field_among, field_in, field_or_missing, is_x, looks, shadow_in}
 use Rattle.mod_unix.specs.Verify.{hash_compared, hash_verified, is_locked, verified}
 use Rattle.laws_code.specs.Returns.{IsOneOf}
@@ -120,11 +121,13 @@ module _ (P : Code → Type 0) (ends : P returns.Success) (denied : P returns.Au
 
     pub signed_in : (call : PlainCall) → Gives P (authenticates call keeps_for_setcred)
     unfolding authenticates
-    signed_in call = asking P (λ user. looks user (λ look. judge_account call look keeps_for_setcred)) silent (λ user. looking P user (λ look. judge_account call look keeps_for_setcred) (judged call))
+    signed_in call = asking P (λ user. looks user (λ look. judge_account call look keeps_for_setcred)) silent
+        (λ user. looking P user (λ look. judge_account call look keeps_for_setcred) (judged call))
 
 -- ---- acct_mgmt
 
-module _ (P : Code → Type 0) (ends : P returns.Success) (expired : P returns.AcctExpired) (old : P returns.AuthtokExpired) (renew : P returns.NewAuthtokReqd) where
+module _ (P : Code → Type 0) (ends : P returns.Success) (expired : P returns.AcctExpired) (old : P returns.AuthtokExpired)
+    (renew : P returns.NewAuthtokReqd) where
   age_so : (age : ℕ) (max inactive : Option ℕ) → P (code_at_age age max inactive)
   age_so age (Some max) inactive = either P (is_past age max inactive) _ _ old (either P (nat_lt max age) _ _ renew ends)
   age_so age None inactive = ends
@@ -143,11 +146,13 @@ module _ (P : Code → Type 0) (ends : P returns.Success) (expired : P returns.A
     account_so Unknown = answering P returns.UserUnknown unknown
     account_so Unavailable = answering P returns.AuthinfoUnavail unavailable
     account_so (Plain hash) = answering P returns.Success ends
-    account_so (Shadowed entry) = seeing_clock P (λ clock. answers (aged (day_of clock.moment) entry)) (λ clock. answering P _ (aged_so (day_of clock.moment) entry))
+    account_so (Shadowed entry) = seeing_clock P (λ clock. answers (aged (day_of clock.moment) entry))
+        (λ clock. answering P _ (aged_so (day_of clock.moment) entry))
 
     pub account_checked : Gives P (checks_account answers)
     unfolding checks_account
-    account_checked = asking P (λ user. looks user (λ look. account_by look answers)) silent (λ user. looking P user (λ look. account_by look answers) account_so)
+    account_checked = asking P (λ user. looks user (λ look. account_by look answers)) silent
+        (λ user. looking P user (λ look. account_by look answers) account_so)
 
 -- ---- setcred
 
@@ -173,14 +178,25 @@ in_all returns.CredErr = inr (inr (inr (inr (inr (inr (inr (inr (inr (inr (inr (
 in_all returns.NoModuleData = inr (inr (inr (inr (inr (inr (inr (inr (inr (inr (inr (inr (inr (inr (inr (inr (inr (inr (inl refl))))))))))))))))))
 in_all returns.ConvErr = inr (inr (inr (inr (inr (inr (inr (inr (inr (inr (inr (inr (inr (inr (inr (inr (inr (inr (inr (inl refl)))))))))))))))))))
 in_all returns.AuthtokErr = inr (inr (inr (inr (inr (inr (inr (inr (inr (inr (inr (inr (inr (inr (inr (inr (inr (inr (inr (inr (inl refl))))))))))))))))))))
-in_all returns.AuthtokRecoveryErr = inr (inr (inr (inr (inr (inr (inr (inr (inr (inr (inr (inr (inr (inr (inr (inr (inr (inr (inr (inr (inr (inl refl)))))))))))))))))))))
-in_all returns.AuthtokLockBusy = inr (inr (inr (inr (inr (inr (inr (inr (inr (inr (inr (inr (inr (inr (inr (inr (inr (inr (inr (inr (inr (inr (inl refl))))))))))))))))))))))
-in_all returns.AuthtokDisableAging = inr (inr (inr (inr (inr (inr (inr (inr (inr (inr (inr (inr (inr (inr (inr (inr (inr (inr (inr (inr (inr (inr (inr (inl refl)))))))))))))))))))))))
-in_all returns.TryAgain = inr (inr (inr (inr (inr (inr (inr (inr (inr (inr (inr (inr (inr (inr (inr (inr (inr (inr (inr (inr (inr (inr (inr (inr (inl refl))))))))))))))))))))))))
-in_all returns.Ignore = inr (inr (inr (inr (inr (inr (inr (inr (inr (inr (inr (inr (inr (inr (inr (inr (inr (inr (inr (inr (inr (inr (inr (inr (inr (inl refl)))))))))))))))))))))))))
-in_all returns.Abort = inr (inr (inr (inr (inr (inr (inr (inr (inr (inr (inr (inr (inr (inr (inr (inr (inr (inr (inr (inr (inr (inr (inr (inr (inr (inr (inl refl))))))))))))))))))))))))))
-in_all returns.AuthtokExpired = inr (inr (inr (inr (inr (inr (inr (inr (inr (inr (inr (inr (inr (inr (inr (inr (inr (inr (inr (inr (inr (inr (inr (inr (inr (inr (inr (inl refl)))))))))))))))))))))))))))
-in_all returns.ModuleUnknown = inr (inr (inr (inr (inr (inr (inr (inr (inr (inr (inr (inr (inr (inr (inr (inr (inr (inr (inr (inr (inr (inr (inr (inr (inr (inr (inr (inr (inl refl))))))))))))))))))))))))))))
-in_all returns.BadItem = inr (inr (inr (inr (inr (inr (inr (inr (inr (inr (inr (inr (inr (inr (inr (inr (inr (inr (inr (inr (inr (inr (inr (inr (inr (inr (inr (inr (inr (inl refl)))))))))))))))))))))))))))))
-in_all returns.ConvAgain = inr (inr (inr (inr (inr (inr (inr (inr (inr (inr (inr (inr (inr (inr (inr (inr (inr (inr (inr (inr (inr (inr (inr (inr (inr (inr (inr (inr (inr (inr (inl refl))))))))))))))))))))))))))))))
-in_all returns.Incomplete = inr (inr (inr (inr (inr (inr (inr (inr (inr (inr (inr (inr (inr (inr (inr (inr (inr (inr (inr (inr (inr (inr (inr (inr (inr (inr (inr (inr (inr (inr (inr (inl refl)))))))))))))))))))))))))))))))
+in_all returns.AuthtokRecoveryErr = inr (inr (inr (inr (inr (inr (inr (inr
+    (inr (inr (inr (inr (inr (inr (inr (inr (inr (inr (inr (inr (inr (inl refl)))))))))))))))))))))
+in_all returns.AuthtokLockBusy = inr (inr (inr (inr (inr (inr (inr (inr
+    (inr (inr (inr (inr (inr (inr (inr (inr (inr (inr (inr (inr (inr (inr (inl refl))))))))))))))))))))))
+in_all returns.AuthtokDisableAging = inr (inr (inr (inr (inr (inr (inr (inr
+    (inr (inr (inr (inr (inr (inr (inr (inr (inr (inr (inr (inr (inr (inr (inr (inl refl)))))))))))))))))))))))
+in_all returns.TryAgain = inr (inr (inr (inr (inr (inr (inr (inr (inr (inr
+    (inr (inr (inr (inr (inr (inr (inr (inr (inr (inr (inr (inr (inr (inr (inl refl))))))))))))))))))))))))
+in_all returns.Ignore = inr (inr (inr (inr (inr (inr (inr (inr (inr (inr
+    (inr (inr (inr (inr (inr (inr (inr (inr (inr (inr (inr (inr (inr (inr (inr (inl refl)))))))))))))))))))))))))
+in_all returns.Abort = inr (inr (inr (inr (inr (inr (inr (inr (inr (inr
+    (inr (inr (inr (inr (inr (inr (inr (inr (inr (inr (inr (inr (inr (inr (inr (inr (inl refl))))))))))))))))))))))))))
+in_all returns.AuthtokExpired = inr (inr (inr (inr (inr (inr (inr (inr (inr
+    (inr (inr (inr (inr (inr (inr (inr (inr (inr (inr (inr (inr (inr (inr (inr (inr (inr (inr (inl refl)))))))))))))))))))))))))))
+in_all returns.ModuleUnknown = inr (inr (inr (inr (inr (inr (inr (inr (inr
+    (inr (inr (inr (inr (inr (inr (inr (inr (inr (inr (inr (inr (inr (inr (inr (inr (inr (inr (inr (inl refl))))))))))))))))))))))))))))
+in_all returns.BadItem = inr (inr (inr (inr (inr (inr (inr (inr (inr (inr
+    (inr (inr (inr (inr (inr (inr (inr (inr (inr (inr (inr (inr (inr (inr (inr (inr (inr (inr (inr (inl refl)))))))))))))))))))))))))))))
+in_all returns.ConvAgain = inr (inr (inr (inr (inr (inr (inr (inr (inr (inr
+    (inr (inr (inr (inr (inr (inr (inr (inr (inr (inr (inr (inr (inr (inr (inr (inr (inr (inr (inr (inr (inl refl))))))))))))))))))))))))))))))
+in_all returns.Incomplete = inr (inr (inr (inr (inr (inr (inr (inr (inr
+    (inr (inr (inr (inr (inr (inr (inr (inr (inr (inr (inr (inr (inr (inr (inr (inr (inr (inr (inr (inr (inr (inr (inl refl)))))))))))))))))))))))))))))))

@@ -17,7 +17,10 @@ use Rattle.mod_unix.specs.Look.{looks}
 use Rattle.mod_history.specs.declared.history.Remembered.{Remembered}
 use Rattle.mod_history.specs.History.{history_text}
 use Rattle.mod_history.specs.Renewal.{hashes_of, renewed}
-use Rattle.mod_history.specs.Pwhistory.{at_once, stores_if_fits, unless_remember_zero, remembers_if_taken, stores_unless_used, checks_token, compares_token, history_in, history_limit, history_name, if_locked, is_refused, locks_history, pwhistory_plays, refuses_token, remember_in_history, remember_locked, remember_of, remembers, renew_if_known, renews, stores_text, unless_refused, unless_used, unsets_item}
+use Rattle.mod_history.specs.Pwhistory.{at_once, stores_if_fits, unless_remember_zero, remembers_if_taken, stores_unless_used, checks_token}
+use Rattle.mod_history.specs.Pwhistory.{compares_token, history_in, history_limit, history_name, if_locked, is_refused, locks_history}
+use Rattle.mod_history.specs.Pwhistory.{pwhistory_plays, refuses_token, remember_in_history, remember_locked, remember_of, remembers}
+use Rattle.mod_history.specs.Pwhistory.{renew_if_known, renews, stores_text, unless_refused, unless_used, unsets_item}
 use Rattle.laws_code.specs.Codes.{pwhistory_change, pwhistory_codes}
 use Rattle.laws_code.specs.Returns.{IsOneOf, ReturnsOf}
 use Rattle.laws_code.proofs.Giving.{Gives, answering, asking, holding, letting_go, reading, replacing, seeing_caller, showing}
@@ -32,7 +35,8 @@ module _ (P : Code → Type 0) where
 module _ (P : Code → Type 0) (ends : P returns.Success) (refused : P returns.AuthtokErr) where
   token_refused : (act : Code → Act) → Passes P act → Gives P (refuses_token act)
   unfolding refuses_token
-  token_refused act rest = unsetting P AuthTok _ (showing P ErrorMsg (codes "Password has been already used.") (act returns.AuthtokErr) (rest returns.AuthtokErr refused))
+  token_refused act rest = unsetting P AuthTok _ (showing P ErrorMsg (codes "Password has been already used.") (act returns.AuthtokErr)
+      (rest returns.AuthtokErr refused))
 
   length_so : (b : Bool) (text : List ℕ) (act : Code → Act) → Passes P act → Gives P (stores_if_fits b text act)
   length_so true text act rest = replacing P history_name text (λ done. act (write_result done)) (λ done. rest _ (wrote P ends refused done))
@@ -51,16 +55,19 @@ module _ (P : Code → Type 0) (ends : P returns.Success) (refused : P returns.A
 
       in_history : (history : Option (List Remembered)) → Gives P (remember_in_history call remember user hash token history act)
       in_history None = rest returns.AuthtokErr refused
-      in_history (Some history) = seeing_caller P (λ caller. stores_unless_used (is_refused call.args caller token hash (hashes_of user history)) remember user hash history act)
+      in_history (Some history) = seeing_caller P (λ caller. stores_unless_used (is_refused call.args caller token hash (hashes_of user history)) remember user
+          hash history act)
           (λ caller. use_so (is_refused call.args caller token hash (hashes_of user history)) history)
 
       locked_so : Gives P (remember_locked call remember user hash token act)
       unfolding remember_locked
-      locked_so = reading P history_name history_limit (λ c. remember_in_history call remember user hash token (history_in c) act) (λ c. in_history (history_in c))
+      locked_so = reading P history_name history_limit (λ c. remember_in_history call remember user hash token (history_in c) act)
+          (λ c. in_history (history_in c))
 
     module _ (act : Code → Act) (rest : Passes P act) where
       if_locked_so : (b : Bool) → Gives P (if_locked call remember user hash token act b)
-      if_locked_so true = locked_so (λ done. lets_go true (unless_refused act done)) (letting_go P true (refuses_token act) (token_refused act rest)) (λ code p. letting_go P true (act code) (rest code p))
+      if_locked_so true = locked_so (λ done. lets_go true (unless_refused act done)) (letting_go P true (refuses_token act) (token_refused act rest))
+          (λ code p. letting_go P true (act code) (rest code p))
       if_locked_so false = unsetting P AuthTok (act returns.AuthtokErr) (rest returns.AuthtokErr refused)
 
       history_so : Gives P (locks_history call remember user hash token act)
@@ -73,12 +80,14 @@ module _ (P : Code → Type 0) (ends : P returns.Success) (refused : P returns.A
 
       compared : (history : Option (List Remembered)) → Gives P (compares_token call remember user hash token history act)
       compared None = rest returns.AuthtokErr refused
-      compared (Some history) = seeing_caller P (λ caller. unless_used (is_refused call.args caller token hash (hashes_of user history)) call remember user hash token act)
+      compared (Some history) = seeing_caller P (λ caller. unless_used (is_refused call.args caller token hash (hashes_of user history)) call remember user
+          hash token act)
           (λ caller. unused (is_refused call.args caller token hash (hashes_of user history)))
 
       remembered : (b : Bool) → Gives P (unless_remember_zero b call remember user hash token act)
       remembered true = rest returns.Success ends
-      remembered false = reading P history_name history_limit (λ c. compares_token call remember user hash token (history_in c) act) (λ c. compared (history_in c))
+      remembered false = reading P history_name history_limit (λ c. compares_token call remember user hash token (history_in c) act)
+          (λ c. compared (history_in c))
 
   module _ (call : PlainCall) (act : Code → Act) (rest : Passes P act) (user : List ℕ) where
     token_so : (hash : List ℕ) (t : Option (List ℕ)) → Gives P (remembers_if_taken call user hash t act)
@@ -103,7 +112,8 @@ module _ (P : Code → Type 0) (ends : P returns.Success) (refused : P returns.A
 
   checked : (call : PlainCall) (act : Code → Act) → Passes P act → P returns.UserUnknown → P returns.ConvErr → Gives P (checks_token call act)
   unfolding checks_token
-  checked call act rest unknown silent = asking P (λ user. looks user (λ look. renew_if_known call user look act)) silent (λ user. looking P user (λ look. renew_if_known call user look act) (known_so call act rest user unknown silent))
+  checked call act rest unknown silent = asking P (λ user. looks user (λ look. renew_if_known call user look act)) silent
+      (λ user. looking P user (λ look. renew_if_known call user look act) (known_so call act rest user unknown silent))
 
 -- ---- by function
 
@@ -127,4 +137,5 @@ by_function ChAuthTok flags act rest = first_pass (has_flag flags prelim_check) 
 pub histories : ReturnsOf pwhistory_plays pwhistory_codes
 histories call room held sight =
     let P : Code → Type 0 = λ c. IsOneOf c pwhistory_change in
-    by_function call.func call.flags (checks_token call answers) (checked P (inl refl) (inr (inl refl)) call answers (answering P) (inr (inr (inr (inl refl)))) (inr (inr (inl refl)))) _
+    by_function call.func call.flags (checks_token call answers) (checked P (inl refl) (inr (inl refl)) call answers (answering P) (inr (inr (inr (inl refl))))
+        (inr (inr (inl refl)))) _

@@ -12,7 +12,10 @@ use Rattle.mod_tally.specs.declared.settings.Task.{Task}
 use Rattle.mod_tally.specs.declared.settings.Task.TheVariants.{Preauth, AuthFail, AuthSucc, Clear}
 use Rattle.mod_tally.specs.Settings.{PlainSettings, settings_of, task_among}
 use Rattle.mod_tally.specs.Tally.{is_locked, tally_text}
-use Rattle.mod_tally.specs.Faillock.{task_for_account, task_or_code, task_on_file, denies_if_locked, unless_no_file, unless_spared, task_if_readable, task_on_failures, checks_tally, clears, does_task, failures_in, faillock_plays, given_mode, if_any, if_held, if_taken, is_no_file, lock_name, locks_file, reads_tally, records, sets_if, spared_answer, tally_limit, tally_name, task_of, tries_lock, unless_locked, write_result}
+use Rattle.mod_tally.specs.Faillock.{task_for_account, task_or_code, task_on_file, denies_if_locked, unless_no_file, unless_spared}
+use Rattle.mod_tally.specs.Faillock.{task_if_readable, task_on_failures, checks_tally, clears, does_task, failures_in, faillock_plays}
+use Rattle.mod_tally.specs.Faillock.{given_mode, if_any, if_held, if_taken, is_no_file, lock_name, locks_file, reads_tally, records}
+use Rattle.mod_tally.specs.Faillock.{sets_if, spared_answer, tally_limit, tally_name, task_of, tries_lock, unless_locked, write_result}
 use Rattle.laws_code.specs.Codes.{faillock_account, faillock_auth, faillock_codes}
 use Rattle.laws_code.specs.Returns.{IsOneOf, ReturnsOf}
 use Rattle.laws_code.proofs.Giving.{Gives, answering, asking, finding, holding, letting_go, reading, replacing, seeing_items, seeing_moment}
@@ -40,7 +43,8 @@ module _ (P : Code → Type 0) where
   recorded : (s : PlainSettings) (name : List ℕ) (failures : List Failure) (act : Code → Act) → Rest act → Gives P (records s name failures act)
   recorded s name failures act r = seeing_moment P _ (λ now. seeing_items P _ (λ items. set_if _ name _ returns.Ignore act r.passed r.failed))
 
-  locked_or : (b : Bool) (step : (Code → Act) → Act) (act : Code → Act) → Gives P (act returns.AuthErr) → Gives P (step act) → Gives P (denies_if_locked b step act)
+  locked_or : (b : Bool) (step : (Code → Act) → Act) (act : Code → Act) → Gives P (act returns.AuthErr) → Gives P (step act)
+      → Gives P (denies_if_locked b step act)
   locked_or true step act p q = p
   locked_or false step act p q = q
 
@@ -81,7 +85,8 @@ module _ (P : Code → Type 0) where
   filed task s file lock act d r = read_so file (task_if_readable task s file lock act) (tallied task s file lock act d r)
 
   let_go : (b : Bool) (act : Code → Act) → Rest act → Rest (λ code. lets_go b (act code))
-  let_go b act r = record { ends = letting_go P b (act returns.Success) r.ends; passed = letting_go P b (act returns.Ignore) r.passed; failed = letting_go P b (act returns.ServiceErr) r.failed }
+  let_go b act r = record { ends = letting_go P b (act returns.Success) r.ends; passed = letting_go P b (act returns.Ignore) r.passed;
+      failed = letting_go P b (act returns.ServiceErr) r.failed }
 
   refused_later : (b : Bool) (task : Task) (act : Code → Act) → Refuses task act → Refuses task (λ code. lets_go b (act code))
   refused_later b Preauth act d = letting_go P b (act returns.AuthErr) d
@@ -91,7 +96,8 @@ module _ (P : Code → Type 0) where
 
   held : (task : Task) (s : PlainSettings) (file lock : List ℕ) (act : Code → Act) → Refuses task act → Rest act → (b : Bool)
       → Gives P (if_held task s file lock act b)
-  held task s file lock act d r true = filed task s file lock (λ code. lets_go (is_rooted lock) (act code)) (refused_later (is_rooted lock) task act d) (let_go (is_rooted lock) act r)
+  held task s file lock act d r true = filed task s file lock (λ code. lets_go (is_rooted lock) (act code)) (refused_later (is_rooted lock) task act d)
+      (let_go (is_rooted lock) act r)
   held task s file lock act d r false = r.failed
 
   locked : (task : Task) (s : PlainSettings) (file lock : List ℕ) (act : Code → Act) → Refuses task act → Rest act → Gives P (locks_file task s file lock act)
@@ -145,7 +151,8 @@ given : (mode : Option Task) (s : PlainSettings) → Gives (λ c. IsOneOf c fail
 given None s = answering (λ c. IsOneOf c faillock_auth) returns.ServiceErr (inr (inr (inr (inr (inl refl)))))
 given (Some task) s =
     let P : Code → Type 0 = λ c. IsOneOf c faillock_auth in
-    tally_checked P (inl refl) (inr (inl refl)) (inr (inr (inr (inr (inl refl))))) (inr (inr (inr (inr (inr (inl refl)))))) (inr (inr (inr (inl refl)))) task s (refusing P (inr (inr (inl refl))) task)
+    tally_checked P (inl refl) (inr (inl refl)) (inr (inr (inr (inr (inl refl))))) (inr (inr (inr (inr (inr (inl refl)))))) (inr (inr (inr (inl refl)))) task s
+        (refusing P (inr (inr (inl refl))) task)
 
 missing_so : Gives (λ c. IsOneOf c (returns.ModuleUnknown ∷ [])) (answers returns.ModuleUnknown)
 missing_so = answering (λ c. IsOneOf c (returns.ModuleUnknown ∷ [])) returns.ModuleUnknown (inl refl)
@@ -153,7 +160,8 @@ missing_so = answering (λ c. IsOneOf c (returns.ModuleUnknown ∷ [])) returns.
 by_function : (f : Func) (mode : Option Task) (s : PlainSettings) → Gives (λ c. IsOneOf c (faillock_codes f)) (task_or_code (task_of f mode) s)
 by_function Authenticate mode s = given mode s
 by_function SetCred mode s = answering (λ c. IsOneOf c (returns.Success ∷ [])) returns.Success (inl refl)
-by_function AcctMgmt mode s = tally_checked (λ c. IsOneOf c faillock_account) (inl refl) (inr (inl refl)) (inr (inr (inr (inl refl)))) (inr (inr (inr (inr (inl refl))))) (inr (inr (inl refl))) Clear s tt
+by_function AcctMgmt mode s = tally_checked (λ c. IsOneOf c faillock_account) (inl refl) (inr (inl refl)) (inr (inr (inr (inl refl))))
+    (inr (inr (inr (inr (inl refl))))) (inr (inr (inl refl))) Clear s tt
 by_function OpenSession mode s = missing_so
 by_function CloseSession mode s = missing_so
 by_function ChAuthTok mode s = missing_so

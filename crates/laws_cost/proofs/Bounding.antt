@@ -1,5 +1,6 @@
 -- What a setting without a fault asks for: one of two digests, and a bounded number of rounds.
-use Rattle.std.proofs.Common.{◌≡◌, ℕ, ◌≤◌, ◌<◌, max, Bool, true, false, not, if◌then◌else◌, List, length, drop, nat_lt, Option, Some, None, Result, Ok, codes, refl, ap, subst, arith, ltb-false}
+use Rattle.std.proofs.Common.{◌≡◌, ℕ, ◌≤◌, ◌<◌, max, Bool, true, false, not, if◌then◌else◌, List, length, drop, nat_lt, Option, Some, None}
+use Rattle.std.proofs.Common.{Result, Ok, codes, refl, ap, subst, arith, ltb-false}
 use Rattle.std.specs.Prelude.{slice_index}
 use Rattle.std.specs.Option.{option_or, unwrap_or}
 use Rattle.sha2.specs.Sha256 as narrow
@@ -9,7 +10,8 @@ use Rattle.sha2.proofs.Facts512.{length-sha512}
 use Rattle.sha_crypt.specs.declared.setting.SettingFault.{SettingFault}
 use Rattle.sha_crypt.specs.declared.setting.SettingFault.TheVariants.{BadRounds, TooManyRounds}
 use Rattle.sha_crypt.specs.Digest.{digest}
-use Rattle.sha_crypt.specs.Setting.{Asked, are_rounds, asked, asked_by, asked_or, begins, behind_rounds, field_fault, method_of, names_rounds, rounds_fault, rounds_field, rounds_named, rounds_written, salt_fault, salt_in}
+use Rattle.sha_crypt.specs.Setting.{Asked, are_rounds, asked, asked_by, asked_or, begins, behind_rounds, field_fault, method_of}
+use Rattle.sha_crypt.specs.Setting.{names_rounds, rounds_fault, rounds_field, rounds_named, rounds_written, salt_fault, salt_in}
 use Rattle.laws_cost.specs.Digests.{rounds_of}
 use Rattle.laws_cost.specs.Costs.{LengthsByLengths, RoundsAreBounded, size_of}
 use Rattle.laws_cost.proofs.Measuring.{mixed_lengths}

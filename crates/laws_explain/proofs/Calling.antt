@@ -1,5 +1,6 @@
 -- A call's text ends with that of its last run.
-use Rattle.std.proofs.Common.{◌≡◌, ℕ, ◌&&◌, Bool, true, false, true≢false, not, if◌then◌else◌, eqb-true, List, [], ◌++◌, get_or, Option, Some, None, refl, sym, ◌∙◌, ap, subst, append-nil}
+use Rattle.std.proofs.Common.{◌≡◌, ℕ, ◌&&◌, Bool, true, false, true≢false, not, if◌then◌else◌, eqb-true, List, [], ◌++◌, get_or, Option}
+use Rattle.std.proofs.Common.{Some, None, refl, sym, ◌∙◌, ap, subst, append-nil}
 use Rattle.std.proofs.lemmas.Bool.{and_parts}
 use Rattle.pam_base.specs.declared.code.Code.{Code}
 use Rattle.pam_base.specs.declared.code.Code.TheVariants as codes
@@ -16,7 +17,8 @@ use Rattle.handler_chain.specs.Pass.{pass_after}
 use Rattle.handler_chain.specs.Retell.{Telling, replaying, telling}
 use Rattle.handler_chain.specs.Route.{KeptAnswers}
 use Rattle.handler_chain.specs.Walk.{code_of}
-use Rattle.pass_replay.specs.dispatch_core.specs.Calls.{Held, Went, answers_held, behind_check, call_after, change, first_pass, following, goes, held_behind, second_pass}
+use Rattle.pass_replay.specs.dispatch_core.specs.Calls.{Held, Went, answers_held, behind_check, call_after, change, first_pass, following}
+use Rattle.pass_replay.specs.dispatch_core.specs.Calls.{goes, held_behind, second_pass}
 use Rattle.pass_replay.specs.dispatch_core.specs.Pending.{first_in, is_other_pending, past_in}
 use Rattle.pass_replay.specs.Replay.{as_told}
 use Rattle.report_lines.specs.Line.{Told, answered, block_of, runs, shows_code}

@@ -18,7 +18,8 @@ use Rattle.laws_stack.specs.Success.{is_failure}
 use Rattle.laws_lock.specs.Denied.{IsGate, LockedIsDenied}
 
 module _ (locked : LockedIsRefused) where
-  gate_answers : (players : List Player) (flags : ℕ) (rule : Rule) (s : State) (user : List ℕ) → IsGate players rule → s.room.transaction.items.user ≡ Some user → IsLocked (settings_of rule.args) (sight_of (scene_in s)) user
+  gate_answers : (players : List Player) (flags : ℕ) (rule : Rule) (s : State) (user : List ℕ) → IsGate players rule → s.room.transaction.items.user ≡ Some user
+      → IsLocked (settings_of rule.args) (sight_of (scene_in s)) user
       → (answers_by players Authenticate flags rule 1 s).answer ≡ returns.AuthErr
   gate_answers players flags rule s user gate is l =
       let f = gate.faillock in
@@ -34,7 +35,8 @@ module _ (locked : LockedIsRefused) where
   denied players flags kept rule rest s user gate is l =
       let answering = answers_by players Authenticate flags in
       let answer = gate_answers players flags rule s user gate is l in
-      let e = failing_first_line_ends State kinds.Keep kept answering rule rest s gate.control (ap is_failure answer) (ap is_failure answer) (ap is_incomplete answer) in
+      let e = failing_first_line_ends State kinds.Keep kept answering rule rest s gate.control (ap is_failure answer) (ap is_failure answer)
+              (ap is_incomplete answer) in
       record {
         code_is = e.code_is ∙ answer;
         ran = e.ran ∙ ap (λ (c : Code). visit 1 c ∷ []) answer;

@@ -1,5 +1,6 @@
 -- A walk in which a code that counts and isn't SUCCESS denies.
-use Rattle.std.proofs.Common.{◌≡◌, ℕ, zero, suc, ◌+◌, Bool, true, false, true≢false, if◌then◌else◌, List, [], ◌∷◌, ◌++◌, length, length-append, refl, sym, ◌∙◌, ap, append_assoc, append-nil, arith}
+use Rattle.std.proofs.Common.{◌≡◌, ℕ, zero, suc, ◌+◌, Bool, true, false, true≢false, if◌then◌else◌, List, [], ◌∷◌, ◌++◌, length}
+use Rattle.std.proofs.Common.{length-append, refl, sym, ◌∙◌, ap, append_assoc, append-nil, arith}
 use Rattle.pam_base.specs.declared.code.Code.{Code}
 use Rattle.control_words.specs.declared.control.Action.{Action}
 use Rattle.control_words.specs.Control.{action_at}
@@ -35,7 +36,8 @@ module _ (kind : PassKind) (acts : Visit → Action) where
       ap (λ (b : Bool). spoilt b vs) (spoiled_stays kind (acts v) v.answer (no_first (resets (acts v)) (list_any (λ v. resets (acts v)) vs) calm))
       ∙ still_spoilt vs (no_second (resets (acts v)) (list_any (λ v. resets (acts v)) vs) calm)
 
-  pub spoilt_there : (before more : List Visit) (v : Visit) → grants kind (acts v) ≡ true → is_other v.answer ≡ true → NoneResets acts more → spoilt false (before ++ v ∷ more) ≡ true
+  pub spoilt_there : (before more : List Visit) (v : Visit) → grants kind (acts v) ≡ true → is_other v.answer ≡ true → NoneResets acts more
+      → spoilt false (before ++ v ∷ more) ≡ true
   spoilt_there before more v counts is calm =
       spoilt-append false before (v ∷ more)
       ∙ ap (λ (b : Bool). spoilt b more) (spoils_now kind (acts v) v.answer (spoilt false before) counts is)
@@ -69,15 +71,18 @@ module _ (State : Type 0) (kind : PassKind) (kept : KeptAnswers) (answering : An
     spoils = d.spoils;
   }
 
-  onward_told : (next : Next) (f : ℕ → Walked (PassState State)) (w : Walked (PassState State)) (visits : List Visit) → ((n : ℕ) → Told visits (f n)) → Told visits w → Told visits (onward next f w)
+  onward_told : (next : Next) (f : ℕ → Walked (PassState State)) (w : Walked (PassState State)) (visits : List Visit) → ((n : ℕ) → Told visits (f n))
+      → Told visits w → Told visits (onward next f w)
   onward_told (after n) f w visits each here = each n
   onward_told stop f w visits each here = here
 
-  if_told : (b : Bool) (x y : Walked (PassState State)) (visits : List Visit) → (b ≡ true → Told visits x) → (b ≡ false → Told visits y) → Told visits (if b then x else y)
+  if_told : (b : Bool) (x y : Walked (PassState State)) (visits : List Visit) → (b ≡ true → Told visits x) → (b ≡ false → Told visits y)
+      → Told visits (if b then x else y)
   if_told true x y visits one two = one refl
   if_told false x y visits one two = two refl
 
-  told : (t : Stack) (n at : ℕ) (entry o : Opinion) (g : PassState State) (pre post : List (List Action)) → controls all ≡ pre ++ (controls t ++ post) → at ≡ length pre + 1
+  told : (t : Stack) (n at : ℕ) (entry o : Opinion) (g : PassState State) (pre post : List (List Action)) → controls all ≡ pre ++ (controls t ++ post)
+      → at ≡ length pre + 1
       → Spoils o g.visits → Told g.visits (walk kind (serving kind kept answering) n t at entry o g)
   told none n at entry o g pre post is there spoils = none_new g.visits (walked o g) refl spoils
   told (line rule t) (suc n) at entry o g pre post is there spoils =
@@ -85,7 +90,8 @@ module _ (State : Type 0) (kind : PassKind) (kept : KeptAnswers) (answering : An
       (let l = length-append pre (rule.control ∷ []) in omega (arith, there, l)) spoils
   told (sub inner t) (suc n) at entry o g pre post is there spoils =
       told t n (at + lines_in inner) entry o g (pre ++ controls inner) post
-      (is ∙ ap (λ (xs : List (List Action)). pre ++ xs) (append_assoc (controls inner) (controls t) post) ∙ sym (append_assoc pre (controls inner) (controls t ++ post)))
+      (is ∙ ap (λ (xs : List (List Action)). pre ++ xs) (append_assoc (controls inner) (controls t) post)
+          ∙ sym (append_assoc pre (controls inner) (controls t ++ post)))
       (let l = length-append pre (controls inner) in let k = controls-count inner in omega (arith, there, l, k)) spoils
   told (line rule t) zero at entry o g pre post is there spoils =
       let left : ℕ = count t in
@@ -98,12 +104,14 @@ module _ (State : Type 0) (kind : PassKind) (kept : KeptAnswers) (answering : An
       let is_action : action_of kind kept all this ≡ a =
       ap (λ (c : List Action). action_at c (decides kind kept at v.answer)) (control_here all pre (controls t ++ post) rule.control at is there)
       ∙ ap (action_at rule.control) (sym added.decided) in
-      if_told v.stopped (halted o v.state) (onward (next_of a left new) (λ n. walk kind (serving kind kept answering) n t (at + 1) entry last v.state) (walked last v.state)) g.visits
+      if_told v.stopped (halted o v.state) (onward (next_of a left new) (λ n. walk kind (serving kind kept answering) n t (at + 1) entry last v.state)
+          (walked last v.state)) g.visits
       (λ stops. none_new g.visits (halted o v.state) (added.stays stops) spoils)
       (λ goes.
       let grown : v.state.visits ≡ g.visits ++ this ∷ [] = added.adds goes in
       let spoils' : Spoils last v.state.visits = λ e. settled_spoiled kind a left v.answer v.deciding entry o (marked g.visits) spoils
-      (ap (λ (x : Action). spoiled_by kind x v.answer (marked g.visits)) (sym is_action) ∙ sym (spoilt-append kind (action_of kind kept all) false g.visits (this ∷ []))
+      (ap (λ (x : Action). spoiled_by kind x v.answer (marked g.visits)) (sym is_action)
+          ∙ sym (spoilt-append kind (action_of kind kept all) false g.visits (this ∷ []))
       ∙ sym (ap marked grown) ∙ e) in
       later g.visits (this ∷ []) v.state.visits _ grown
       (onward_told (next_of a left new) (λ n. walk kind (serving kind kept answering) n t (at + 1) entry last v.state) (walked last v.state) v.state.visits
@@ -112,12 +120,14 @@ module _ (State : Type 0) (kind : PassKind) (kept : KeptAnswers) (answering : An
       (none_new v.state.visits (walked last v.state) refl spoils')))
   told (sub inner t) zero at entry o g pre post is there spoils =
       let inside : Walked (PassState State) = walk kind (serving kind kept answering) zero inner at o o g in
-      let split : controls all ≡ pre ++ (controls inner ++ (controls t ++ post)) = is ∙ ap (λ (xs : List (List Action)). pre ++ xs) (append_assoc (controls inner) (controls t) post) in
+      let split : controls all ≡ pre ++ (controls inner ++ (controls t ++ post)) = is
+              ∙ ap (λ (xs : List (List Action)). pre ++ xs) (append_assoc (controls inner) (controls t) post) in
       let d : Told g.visits inside = told inner zero at o o g pre (controls t ++ post) split there spoils in
       if_told inside.stopped inside (walk kind (serving kind kept answering) zero t (at + lines_in inner) entry inside.opinion inside.state) g.visits
       (λ e. d)
       (λ e. later g.visits d.news inside.state.visits _ d.adds
-      (told t zero (at + lines_in inner) entry inside.opinion inside.state (pre ++ controls inner) post (split ∙ sym (append_assoc pre (controls inner) (controls t ++ post)))
+      (told t zero (at + lines_in inner) entry inside.opinion inside.state (pre ++ controls inner) post
+          (split ∙ sym (append_assoc pre (controls inner) (controls t ++ post)))
       (let l = length-append pre (controls inner) in let k = controls-count inner in omega (arith, there, l, k)) d.spoils))
 
   pub pass_told : (past : List Code) (s : State) → Told [] (pass_after kind kept answering all past s)

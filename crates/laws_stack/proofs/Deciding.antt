@@ -36,7 +36,8 @@ module _ (G : Type 0) where
   bad_never : (i : Impression) (status answer : Code) → verdict (bad i status answer) ≡ codes.Success → is_negative (bad i status answer).impression ≡ true → G
   bad_never i status answer e is = absurd (negative_denies (bad i status answer).impression (bad i status answer).status is e)
 
-  good_from : (i : Impression) (status answer : Code) → (verdict_at i status ≡ codes.Success → G) → (answer ≡ codes.Success → G) → verdict (good i status answer) ≡ codes.Success → G
+  good_from : (i : Impression) (status answer : Code) → (verdict_at i status ≡ codes.Success → G) → (answer ≡ codes.Success → G)
+      → verdict (good i status answer) ≡ codes.Success → G
   good_from Undefined status answer before here e = here e
   good_from Positive codes.Success answer before here e = here e
   good_from Positive status answer before here e = before e
@@ -46,21 +47,29 @@ module _ (G : Type 0) where
   if_from true x y one two e = one e
   if_from false x y one two e = two e
 
-  good_by_from : (deciding : Code) (i : Impression) (status answer : Code) → (verdict_at i status ≡ codes.Success → G) → (answer ≡ codes.Success → G) → verdict (good_by deciding i status answer) ≡ codes.Success → G
-  good_by_from deciding i status answer before here = if_from (is_ignore answer && not (is_ignore deciding)) (opinion_of i status) (good i status answer) before (good_from i status answer before here)
+  good_by_from : (deciding : Code) (i : Impression) (status answer : Code) → (verdict_at i status ≡ codes.Success → G) → (answer ≡ codes.Success → G)
+      → verdict (good_by deciding i status answer) ≡ codes.Success → G
+  good_by_from deciding i status answer before here = if_from (is_ignore answer && not (is_ignore deciding)) (opinion_of i status) (good i status answer) before
+      (good_from i status answer before here)
 
-  jumped_from : (kind : PassKind) (n : ℕ) (i : Impression) (status answer : Code) → (verdict_at i status ≡ codes.Success → G) → (answer ≡ codes.Success → grants kind (actions.Jump n) ≡ true → G) → verdict (jumped kind i status answer) ≡ codes.Success → G
+  jumped_from : (kind : PassKind) (n : ℕ) (i : Impression) (status answer : Code) → (verdict_at i status ≡ codes.Success → G)
+      → (answer ≡ codes.Success → grants kind (actions.Jump n) ≡ true → G) → verdict (jumped kind i status answer) ≡ codes.Success → G
   jumped_from kinds.Keep n i status answer before here e = before e
-  jumped_from kinds.Follow n i status answer before here e = if_from (is_ignore answer) (opinion_of i status) (good i status answer) before (good_from i status answer before (λ a. here a refl)) e
-  jumped_from kinds.Loose n i status answer before here e = if_from (is_ignore answer) (opinion_of i status) (good i status answer) before (good_from i status answer before (λ a. here a refl)) e
+  jumped_from kinds.Follow n i status answer before here e = if_from (is_ignore answer) (opinion_of i status) (good i status answer) before
+      (good_from i status answer before (λ a. here a refl)) e
+  jumped_from kinds.Loose n i status answer before here e = if_from (is_ignore answer) (opinion_of i status) (good i status answer) before
+      (good_from i status answer before (λ a. here a refl)) e
 
-  acted_from : (kind : PassKind) (a : Action) (answer deciding : Code) (entry o : Opinion) → (verdict o ≡ codes.Success → G) → (verdict entry ≡ codes.Success → G) → (answer ≡ codes.Success → grants kind a ≡ true → G)
+  acted_from : (kind : PassKind) (a : Action) (answer deciding : Code) (entry o : Opinion) → (verdict o ≡ codes.Success → G)
+      → (verdict entry ≡ codes.Success → G) → (answer ≡ codes.Success → grants kind a ≡ true → G)
       → verdict (acted kind a answer deciding entry o) ≡ codes.Success → G
   acted_from kind actions.Ignore answer deciding entry o before first here e = before e
   acted_from kind actions.Ok answer deciding entry o before first here e = good_by_from deciding o.impression o.status answer before (λ a. here a refl) e
   acted_from kind actions.Done answer deciding entry o before first here e = good_by_from deciding o.impression o.status answer before (λ a. here a refl) e
-  acted_from kind actions.Bad answer deciding entry o before first here e = bad_never o.impression o.status answer e (acted_negative kind actions.Bad answer deciding entry o)
-  acted_from kind actions.Die answer deciding entry o before first here e = bad_never o.impression o.status answer e (acted_negative kind actions.Die answer deciding entry o)
+  acted_from kind actions.Bad answer deciding entry o before first here e =
+      bad_never o.impression o.status answer e (acted_negative kind actions.Bad answer deciding entry o)
+  acted_from kind actions.Die answer deciding entry o before first here e =
+      bad_never o.impression o.status answer e (acted_negative kind actions.Die answer deciding entry o)
   acted_from kind actions.Reset answer deciding entry o before first here e = first e
   acted_from kind (actions.Jump n) answer deciding entry o before first here e = jumped_from kind n o.impression o.status answer before here e
 
@@ -77,9 +86,11 @@ module _ (G : Type 0) where
   last_from actions.Reset left new on e = on e
   last_from (actions.Jump n) left new on e = overrun_from (nat_le n left) new on e
 
-  pub settled_from : (kind : PassKind) (a : Action) (left : ℕ) (answer deciding : Code) (entry o : Opinion) → (verdict o ≡ codes.Success → G) → (verdict entry ≡ codes.Success → G) → (answer ≡ codes.Success → grants kind a ≡ true → G)
+  pub settled_from : (kind : PassKind) (a : Action) (left : ℕ) (answer deciding : Code) (entry o : Opinion) → (verdict o ≡ codes.Success → G)
+      → (verdict entry ≡ codes.Success → G) → (answer ≡ codes.Success → grants kind a ≡ true → G)
       → verdict (new_or_overrun a left (acted kind a answer deciding entry o)) ≡ codes.Success → G
-  settled_from kind a left answer deciding entry o before first here = last_from a left (acted kind a answer deciding entry o) (acted_from kind a answer deciding entry o before first here)
+  settled_from kind a left answer deciding entry o before first here = last_from a left (acted kind a answer deciding entry o)
+      (acted_from kind a answer deciding entry o before first here)
 
 -- ---- whether a line has denied since the last reset
 
@@ -93,7 +104,8 @@ jump_doomed : (b now : Bool) → now ≡ true → (if b then now else true) ≡ 
 jump_doomed true now is = is
 jump_doomed false now is = refl
 
-doomed_behind : (a : Action) (left : ℕ) (doomed entry now : Bool) → (doomed ≡ true → now ≡ true) → doomed_by a doomed ≡ true → negative_behind a left entry now ≡ true
+doomed_behind : (a : Action) (left : ℕ) (doomed entry now : Bool) → (doomed ≡ true → now ≡ true) → doomed_by a doomed ≡ true
+    → negative_behind a left entry now ≡ true
 doomed_behind actions.Ignore left doomed entry now on e = on e
 doomed_behind actions.Ok left doomed entry now on e = on e
 doomed_behind actions.Done left doomed entry now on e = on e
@@ -102,7 +114,8 @@ doomed_behind actions.Die left doomed entry now on e = refl
 doomed_behind actions.Reset left doomed entry now on e = absurd (true≢false (sym e))
 doomed_behind (actions.Jump n) left doomed entry now on e = jump_doomed (nat_le n left) now (on e)
 
-pub settled_doomed : (kind : PassKind) (a : Action) (left : ℕ) (answer deciding : Code) (entry o : Opinion) (doomed : Bool) → (doomed ≡ true → negative_opinion o ≡ true) → doomed_by a doomed ≡ true
+pub settled_doomed : (kind : PassKind) (a : Action) (left : ℕ) (answer deciding : Code) (entry o : Opinion) (doomed : Bool)
+    → (doomed ≡ true → negative_opinion o ≡ true) → doomed_by a doomed ≡ true
     → negative_opinion (new_or_overrun a left (acted kind a answer deciding entry o)) ≡ true
 settled_doomed kind a left answer deciding entry o doomed on e =
     settled_negative a left (acted kind a answer deciding entry o) (negative_opinion entry) (negative_opinion o) (acted_negative kind a answer deciding entry o)

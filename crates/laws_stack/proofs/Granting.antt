@@ -1,5 +1,6 @@
 -- A walk in which each SUCCESS and each denial is due to a line.
-use Rattle.std.proofs.Common.{◌≡◌, ◌⊎◌, inl, inr, ℕ, zero, suc, ◌+◌, ◌-◌, Bool, true, false, true≢false, ◌||◌, if◌then◌else◌, List, [], ◌∷◌, ◌++◌, length, length-append, get_or, refl, sym, ◌∙◌, ap, append_assoc, append-nil, arith}
+use Rattle.std.proofs.Common.{◌≡◌, ◌⊎◌, inl, inr, ℕ, zero, suc, ◌+◌, ◌-◌, Bool, true, false, true≢false, ◌||◌, if◌then◌else◌, List, [], ◌∷◌}
+use Rattle.std.proofs.Common.{◌++◌, length, length-append, get_or, refl, sym, ◌∙◌, ap, append_assoc, append-nil, arith}
 use Rattle.std.specs.List.{list_any}
 use Rattle.std.proofs.lemmas.List.{get_or_at}
 use Rattle.pam_base.specs.declared.code.Code.{Code}
@@ -45,13 +46,15 @@ still_doomed acts (v ∷ vs) e =
     ap (λ (b : Bool). doomed acts b vs) (doomed_stays (acts v) (no_first (resets (acts v)) (list_any (λ v. resets (acts v)) vs) e))
     ∙ still_doomed acts vs (no_second (resets (acts v)) (list_any (λ v. resets (acts v)) vs) e)
 
-doomed_there : (acts : Visit → Action) (before more : List Visit) (v : Visit) → denies (acts v) ≡ true → NoneResets acts more → doomed acts false (before ++ v ∷ more) ≡ true
+doomed_there : (acts : Visit → Action) (before more : List Visit) (v : Visit) → denies (acts v) ≡ true → NoneResets acts more
+    → doomed acts false (before ++ v ∷ more) ≡ true
 doomed_there acts before more v denied calm =
     doomed-append acts false before (v ∷ more)
     ∙ ap (λ (b : Bool). doomed acts b more) (denies_dooms (acts v) (doomed acts false before) denied)
     ∙ still_doomed acts more calm
 
-granted_still : (kind : PassKind) (acts : Visit → Action) (visits more new : List Visit) → new ≡ visits ++ more → Granted kind acts visits → Granted kind acts new
+granted_still : (kind : PassKind) (acts : Visit → Action) (visits more new : List Visit) → new ≡ visits ++ more → Granted kind acts visits
+    → Granted kind acts new
 granted_still kind acts visits more new is g = record {
   before = g.before;
   place = g.place;
@@ -62,7 +65,8 @@ granted_still kind acts visits more new is g = record {
 
 -- ---- the control of a line by its rule number
 
-pub control_here : (all : Stack) (pre post : List (List Action)) (control : List Action) (at : ℕ) → controls all ≡ pre ++ control ∷ post → at ≡ length pre + 1 → control_of all at ≡ control
+pub control_here : (all : Stack) (pre post : List (List Action)) (control : List Action) (at : ℕ) → controls all ≡ pre ++ control ∷ post → at ≡ length pre + 1
+    → control_of all at ≡ control
 control_here all pre post control at is there =
     let k : length pre ≡ at - 1 = omega (arith, there) in
     ap (λ (xs : List (List Action)). get_or xs (at - 1) []) is ∙ get_or_at pre control post [] (at - 1) k
@@ -70,7 +74,8 @@ control_here all pre post control at is there =
 pub controls-count : (t : Stack) → length (controls t) ≡ lines_in t
 controls-count none = refl
 controls-count (line rule rest) = let e = controls-count rest in omega (arith, e)
-controls-count (sub inner rest) = let e = controls-count inner in let f = controls-count rest in let g = length-append (controls inner) (controls rest) in omega (arith, e, f, g)
+controls-count (sub inner rest) = let e = controls-count inner in let f = controls-count rest in let g = length-append (controls inner) (controls rest) in
+    omega (arith, e, f, g)
 
 -- ---- a line
 
@@ -89,7 +94,8 @@ module _ (State : Type 0) (kind : PassKind) (kept : KeptAnswers) where
   else_second true xs ys e = absurd (true≢false e)
   else_second false xs ys e = refl
 
-  pub line_adds : (answering : Answering State) (rule : Rule) (at : ℕ) (past : List Code) (visits : List Visit) (s : State) → Adds at visits (served_past kind kept answering rule at past visits s)
+  pub line_adds : (answering : Answering State) (rule : Rule) (at : ℕ) (past : List Code) (visits : List Visit) (s : State)
+      → Adds at visits (served_past kind kept answering rule at past visits s)
   line_adds answering rule at [] visits s =
       let answer = (answering rule at s).answer in
       record {
@@ -133,15 +139,18 @@ module _ (State : Type 0) (kind : PassKind) (kept : KeptAnswers) where
       denied = d.denied;
     }
 
-    onward_due : (next : Next) (f : ℕ → Walked (PassState State)) (w : Walked (PassState State)) (visits : List Visit) → ((n : ℕ) → Due visits (f n)) → Due visits w → Due visits (onward next f w)
+    onward_due : (next : Next) (f : ℕ → Walked (PassState State)) (w : Walked (PassState State)) (visits : List Visit) → ((n : ℕ) → Due visits (f n))
+        → Due visits w → Due visits (onward next f w)
     onward_due (after n) f w visits each here = each n
     onward_due stop f w visits each here = here
 
-    if_due : (b : Bool) (x y : Walked (PassState State)) (visits : List Visit) → (b ≡ true → Due visits x) → (b ≡ false → Due visits y) → Due visits (if b then x else y)
+    if_due : (b : Bool) (x y : Walked (PassState State)) (visits : List Visit) → (b ≡ true → Due visits x) → (b ≡ false → Due visits y)
+        → Due visits (if b then x else y)
     if_due true x y visits one two = one refl
     if_due false x y visits one two = two refl
 
-    due : (t : Stack) (n at : ℕ) (entry o : Opinion) (g : PassState State) (pre post : List (List Action)) → controls all ≡ pre ++ (controls t ++ post) → at ≡ length pre + 1
+    due : (t : Stack) (n at : ℕ) (entry o : Opinion) (g : PassState State) (pre post : List (List Action)) → controls all ≡ pre ++ (controls t ++ post)
+        → at ≡ length pre + 1
         → Backed entry g.visits → Backed o g.visits → Denied o g.visits → Due g.visits (walk kind (serving kind kept answering) n t at entry o g)
     due none n at entry o g pre post is there first backed denied = none_new g.visits (walked o g) refl backed denied
     due (line rule t) (suc n) at entry o g pre post is there first backed denied =
@@ -149,7 +158,8 @@ module _ (State : Type 0) (kind : PassKind) (kept : KeptAnswers) where
         (let l = length-append pre (rule.control ∷ []) in omega (arith, there, l)) first backed denied
     due (sub inner t) (suc n) at entry o g pre post is there first backed denied =
         due t n (at + lines_in inner) entry o g (pre ++ controls inner) post
-        (is ∙ ap (λ (xs : List (List Action)). pre ++ xs) (append_assoc (controls inner) (controls t) post) ∙ sym (append_assoc pre (controls inner) (controls t ++ post)))
+        (is ∙ ap (λ (xs : List (List Action)). pre ++ xs) (append_assoc (controls inner) (controls t) post)
+            ∙ sym (append_assoc pre (controls inner) (controls t ++ post)))
         (let l = length-append pre (controls inner) in let k = controls-count inner in omega (arith, there, l, k)) first backed denied
     due (line rule t) zero at entry o g pre post is there first backed denied =
         let left : ℕ = count t in
@@ -162,7 +172,8 @@ module _ (State : Type 0) (kind : PassKind) (kept : KeptAnswers) where
         let is_action : acts this ≡ a =
         ap (λ (c : List Action). action_at c (decides kind kept at v.answer)) (control_here all pre (controls t ++ post) rule.control at is there)
         ∙ ap (action_at rule.control) (sym added.decided) in
-        if_due v.stopped (halted o v.state) (onward (next_of a left new) (λ n. walk kind (serving kind kept answering) n t (at + 1) entry last v.state) (walked last v.state)) g.visits
+        if_due v.stopped (halted o v.state) (onward (next_of a left new) (λ n. walk kind (serving kind kept answering) n t (at + 1) entry last v.state)
+            (walked last v.state)) g.visits
         (λ stops. none_new g.visits (halted o v.state) (added.stays stops) backed denied)
         (λ goes.
         let grown : v.state.visits ≡ g.visits ++ this ∷ [] = added.adds goes in
@@ -175,9 +186,11 @@ module _ (State : Type 0) (kind : PassKind) (kept : KeptAnswers) where
           split = grown ∙ ap (λ (c : Code). g.visits ++ visit at c ∷ []) e;
           counts = ap (λ (c : Code). grants kind (acts (visit at c))) (sym e) ∙ ap (grants kind) is_action ∙ f;
         } in
-        let backed' : Backed last v.state.visits = settled_from (Granted kind acts v.state.visits) kind a left v.answer v.deciding entry o before' first' here in
+        let backed' : Backed last v.state.visits = settled_from (Granted kind acts v.state.visits) kind a left v.answer v.deciding entry o before'
+                first' here in
         let denied' : Denied last v.state.visits = λ e. settled_doomed kind a left v.answer v.deciding entry o (doomed acts false g.visits) denied
-        (ap (λ (x : Action). doomed_by x (doomed acts false g.visits)) (sym is_action) ∙ sym (doomed-append acts false g.visits (this ∷ [])) ∙ sym (ap (doomed acts false) grown) ∙ e) in
+        (ap (λ (x : Action). doomed_by x (doomed acts false g.visits)) (sym is_action) ∙ sym (doomed-append acts false g.visits (this ∷ []))
+            ∙ sym (ap (doomed acts false) grown) ∙ e) in
         later g.visits (this ∷ []) v.state.visits _ grown
         (onward_due (next_of a left new) (λ n. walk kind (serving kind kept answering) n t (at + 1) entry last v.state) (walked last v.state) v.state.visits
         (λ n. due t n (at + 1) entry last v.state (pre ++ rule.control ∷ []) post (is ∙ sym (append_assoc pre (rule.control ∷ []) (controls t ++ post)))
@@ -185,17 +198,20 @@ module _ (State : Type 0) (kind : PassKind) (kept : KeptAnswers) where
         (none_new v.state.visits (walked last v.state) refl backed' denied')))
     due (sub inner t) zero at entry o g pre post is there first backed denied =
         let inside : Walked (PassState State) = walk kind (serving kind kept answering) zero inner at o o g in
-        let split : controls all ≡ pre ++ (controls inner ++ (controls t ++ post)) = is ∙ ap (λ (xs : List (List Action)). pre ++ xs) (append_assoc (controls inner) (controls t) post) in
+        let split : controls all ≡ pre ++ (controls inner ++ (controls t ++ post)) = is
+                ∙ ap (λ (xs : List (List Action)). pre ++ xs) (append_assoc (controls inner) (controls t) post) in
         let d : Due g.visits inside = due inner zero at o o g pre (controls t ++ post) split there backed backed denied in
         if_due inside.stopped inside (walk kind (serving kind kept answering) zero t (at + lines_in inner) entry inside.opinion inside.state) g.visits
         (λ e. d)
         (λ e. later g.visits d.news inside.state.visits _ d.adds
-        (due t zero (at + lines_in inner) entry inside.opinion inside.state (pre ++ controls inner) post (split ∙ sym (append_assoc pre (controls inner) (controls t ++ post)))
+        (due t zero (at + lines_in inner) entry inside.opinion inside.state (pre ++ controls inner) post
+            (split ∙ sym (append_assoc pre (controls inner) (controls t ++ post)))
         (let l = length-append pre (controls inner) in let k = controls-count inner in omega (arith, there, l, k))
         (λ e. granted_still kind acts g.visits d.news inside.state.visits d.adds (first e)) d.backed d.denied))
 
     pub pass_due : (past : List Code) (s : State) → Due [] (pass_after kind kept answering all past s)
-    pass_due past s = due all 0 1 opening opening (pass_state past [] s) [] [] (sym (append-nil (controls all))) refl (λ e. absurd cc) (λ e. absurd cc) (λ e. absurd (true≢false (sym e)))
+    pass_due past s = due all 0 1 opening opening (pass_state past [] s) [] [] (sym (append-nil (controls all))) refl (λ e. absurd cc) (λ e. absurd cc)
+        (λ e. absurd (true≢false (sym e)))
 
 -- ---- the laws
 
@@ -228,10 +244,12 @@ requisite_denies codes.NewAuthtokReqd e = absurd (true≢false (sym e))
 requisite_denies codes.Ignore e = absurd (true≢false (sym e))
 requisite_denies code e = refl
 
-either_denies : (control : List Action) (code : Code) → (control ≡ required) ⊎ (control ≡ requisite) → is_failure code ≡ true → denies (action_at control code) ≡ true
+either_denies : (control : List Action) (code : Code) → (control ≡ required) ⊎ (control ≡ requisite) → is_failure code ≡ true
+    → denies (action_at control code) ≡ true
 either_denies control code (inl is) e = ap (λ (c : List Action). denies (action_at c code)) is ∙ required_denies code e
 either_denies control code (inr is) e = ap (λ (c : List Action). denies (action_at c code)) is ∙ requisite_denies code e
 
 pub failed_required_denies : (State : Type 0) → FailedRequiredDenies State
 failed_required_denies State kind kept answering stack past s before more v split control failed calm =
-    failed_line_denies State kind kept answering stack past s before more v split (either_denies (control_of stack v.place) (deciding_of kind kept v) control failed) calm
+    failed_line_denies State kind kept answering stack past s before more v split
+        (either_denies (control_of stack v.place) (deciding_of kind kept v) control failed) calm

@@ -82,7 +82,8 @@ first_false false b is = refl
 module _ (i : Impression) (status answer : Code) where
   -- the state before was spoiled, or this code spoils it
   good_by_keeps : (deciding : Code) → spoiled_at i status ≡ true → spoiled (good_by deciding i status answer) ≡ true
-  good_by_keeps deciding is = both_spoiled (is_ignore answer && not (is_ignore deciding)) (opinion_of i status) (good i status answer) is (good_keeps i status answer is)
+  good_by_keeps deciding is = both_spoiled (is_ignore answer && not (is_ignore deciding)) (opinion_of i status) (good i status answer) is
+      (good_keeps i status answer is)
 
   good_by_spoils : (deciding : Code) → is_other answer ≡ true → spoiled (good_by deciding i status answer) ≡ true
   good_by_spoils deciding is =
@@ -96,10 +97,13 @@ module _ (i : Impression) (status answer : Code) where
 
   jumped_spoils : (kind : PassKind) (n : ℕ) → grants kind (actions.Jump n) ≡ true → is_other answer ≡ true → spoiled (jumped kind i status answer) ≡ true
   jumped_spoils kinds.Keep n counts is = absurd (true≢false (sym counts))
-  jumped_spoils kinds.Follow n counts is = second_spoiled (is_ignore answer) (opinion_of i status) (good i status answer) (other_counts answer is) (good_spoils i status answer is)
-  jumped_spoils kinds.Loose n counts is = second_spoiled (is_ignore answer) (opinion_of i status) (good i status answer) (other_counts answer is) (good_spoils i status answer is)
+  jumped_spoils kinds.Follow n counts is = second_spoiled (is_ignore answer) (opinion_of i status) (good i status answer) (other_counts answer is)
+      (good_spoils i status answer is)
+  jumped_spoils kinds.Loose n counts is = second_spoiled (is_ignore answer) (opinion_of i status) (good i status answer) (other_counts answer is)
+      (good_spoils i status answer is)
 
-acted_keeps : (kind : PassKind) (a : Action) (answer deciding : Code) (entry o : Opinion) → resets a ≡ false → spoiled o ≡ true → spoiled (acted kind a answer deciding entry o) ≡ true
+acted_keeps : (kind : PassKind) (a : Action) (answer deciding : Code) (entry o : Opinion) → resets a ≡ false → spoiled o ≡ true
+    → spoiled (acted kind a answer deciding entry o) ≡ true
 acted_keeps kind actions.Ignore answer deciding entry o calm is = is
 acted_keeps kind actions.Ok answer deciding entry o calm is = good_by_keeps o.impression o.status answer deciding is
 acted_keeps kind actions.Done answer deciding entry o calm is = good_by_keeps o.impression o.status answer deciding is
@@ -108,7 +112,8 @@ acted_keeps kind actions.Die answer deciding entry o calm is = bad_spoils o.impr
 acted_keeps kind actions.Reset answer deciding entry o calm is = absurd (true≢false calm)
 acted_keeps kind (actions.Jump n) answer deciding entry o calm is = jumped_keeps o.impression o.status answer kind is
 
-acted_spoils : (kind : PassKind) (a : Action) (answer deciding : Code) (entry o : Opinion) → grants kind a ≡ true → is_other answer ≡ true → spoiled (acted kind a answer deciding entry o) ≡ true
+acted_spoils : (kind : PassKind) (a : Action) (answer deciding : Code) (entry o : Opinion) → grants kind a ≡ true → is_other answer ≡ true
+    → spoiled (acted kind a answer deciding entry o) ≡ true
 acted_spoils kind actions.Ignore answer deciding entry o counts is = absurd (true≢false (sym counts))
 acted_spoils kind actions.Ok answer deciding entry o counts is = good_by_spoils o.impression o.status answer deciding is
 acted_spoils kind actions.Done answer deciding entry o counts is = good_by_spoils o.impression o.status answer deciding is
@@ -163,7 +168,8 @@ both_true now true true one two = then_true now true refl
 both_true now true false one two = absurd (true≢false (sym two))
 both_true now false b one two = absurd (true≢false (sym one))
 
-pub spoils_now : (kind : PassKind) (a : Action) (answer : Code) (now : Bool) → grants kind a ≡ true → is_other answer ≡ true → spoiled_by kind a answer now ≡ true
+pub spoils_now : (kind : PassKind) (a : Action) (answer : Code) (now : Bool) → grants kind a ≡ true → is_other answer ≡ true
+    → spoiled_by kind a answer now ≡ true
 spoils_now kind actions.Ignore answer now counts is = absurd (true≢false (sym counts))
 spoils_now kind actions.Ok answer now counts is = then_true now (is_other answer) is
 spoils_now kind actions.Done answer now counts is = then_true now (is_other answer) is

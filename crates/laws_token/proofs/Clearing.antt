@@ -12,7 +12,8 @@ use Rattle.pam_handle.specs.AnyWorld.{AreUnset}
 use Rattle.pam_handle.specs.Handle.{PlainHandle, in_room}
 use Rattle.pam_handle.specs.Pass.{Passed}
 use Rattle.pam_handle.specs.StackCalls.{authenticated, authentication, behind_pass, change_goes_on, check, has_pass_flag, passes_first, stack_call}
-use Rattle.laws_token.specs.Tokens.{BeginsWithoutTokens, EarlierTokensDontMatter, FirstLineSeesNoToken, NoTokenWhileItWaits, WaitsUnset, begun, begun_for, with_tokens}
+use Rattle.laws_token.specs.Tokens.{BeginsWithoutTokens, EarlierTokensDontMatter, FirstLineSeesNoToken, NoTokenWhileItWaits, WaitsUnset}
+use Rattle.laws_token.specs.Tokens.{begun, begun_for, with_tokens}
 
 begins : (pending : Option Pending) (func : Func) (aborted begun : Called) (goes_on : Pending → Called) → pending ≡ None
     → begun_or_going_on pending func aborted begun goes_on ≡ begun

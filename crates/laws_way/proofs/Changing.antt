@@ -26,7 +26,8 @@ module _ {State : Type 0} (asking : Asking State) (stacks : Stacks) where
   check_succeeded codes.Success kept h s e = refl
   check_succeeded code kept h s e = e
 
-  check_failed : (code : Code) (kept : Option KeptAnswers) (h : Held) (s : State) → code ≢ codes.Success → behind_check asking stacks code kept h s ≡ went code h s
+  check_failed : (code : Code) (kept : Option KeptAnswers) (h : Held) (s : State) → code ≢ codes.Success
+      → behind_check asking stacks code kept h s ≡ went code h s
   check_failed codes.Success kept h s other = absurd (other refl)
   check_failed code kept h s other = refl
 
@@ -57,7 +58,8 @@ module _ {State : Type 0} (asking : Asking State) (stacks : Stacks) where
     is_check = ap (λ (cached : Option KeptAnswers). change asking stacks (past_in h.pending) cached h s) none
 
     pub succeeded : (goes asking stacks ChAuthTok h s).code ≡ codes.Success → code_of first ≡ codes.Success
-    succeeded e = check_succeeded (code_of first) (Some (kept_in first.state.visits)) there first.state.state (sym (ap (λ (g : Went State). g.code) is_check) ∙ e)
+    succeeded e = check_succeeded (code_of first) (Some (kept_in first.state.visits)) there first.state.state
+        (sym (ap (λ (g : Went State). g.code) is_check) ∙ e)
 
     pub is_update : code_of first ≡ codes.Success
         → goes asking stacks ChAuthTok h s ≡ update asking stacks (Some (kept_in first.state.visits)) [] there first.state.state

@@ -1,5 +1,6 @@
 -- The calls by the lines that they added to the trace.
-use Rattle.std.proofs.Common.{◌≡◌, ◌≢◌, Bool, true, false, true≢false, if◌then◌else◌, List, [], ◌∷◌, ◌++◌, Option, Some, None, refl, sym, ◌∙◌, ap, subst, append-nil}
+use Rattle.std.proofs.Common.{◌≡◌, ◌≢◌, Bool, true, false, true≢false, if◌then◌else◌, List, [], ◌∷◌, ◌++◌, Option, Some, None, refl, sym}
+use Rattle.std.proofs.Common.{◌∙◌, ap, subst, append-nil}
 use Rattle.pam_base.specs.declared.call.Func.{Func}
 use Rattle.pam_base.specs.declared.call.Func.TheVariants.{Authenticate, ChAuthTok, CloseSession, OpenSession, SetCred}
 use Rattle.pam_base.specs.declared.code.Code.{Code}
@@ -27,7 +28,8 @@ use Rattle.stack_ways.proofs.Granting.{by_code}
 use Rattle.laws_way.specs.Cached.{CachedBy, GoesAgain}
 use Rattle.laws_way.specs.Calls.{AreCached, GrantedOf, cached_for, pass_of, stack_of_call}
 use Rattle.laws_way.specs.Token.{ByBothPasses, check_run, update_run}
-use Rattle.laws_way.specs.Traced.{TracedAgain, TracedAuthenticationCaches, TracedCache, TracedCallsGrantedBy, TracedChangesGrantedBy, TracedClosingGrantedBy, TracedCredentialsGrantedBy, TracedSessionCaches}
+use Rattle.laws_way.specs.Traced.{TracedAgain, TracedAuthenticationCaches, TracedCache, TracedCallsGrantedBy, TracedChangesGrantedBy}
+use Rattle.laws_way.specs.Traced.{TracedClosingGrantedBy, TracedCredentialsGrantedBy, TracedSessionCaches}
 use Rattle.laws_way.proofs.Calling.{authentication_caches, calls_granted_by, one_pass_is, session_caches}
 use Rattle.laws_way.proofs.Changing.{is_update, succeeded, token_changed}
 use Rattle.laws_way.proofs.Telling.{lines_of, lines_of-seen, runs_told}

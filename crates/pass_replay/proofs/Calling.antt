@@ -10,7 +10,8 @@ use Rattle.pass_replay.specs.Retold.{cached_for, kind_of, stack_for}
 
 module _ {State : Type 0} (asking : Asking State) (stacks : Stacks) where
   -- the first pass of a call, by its stack, its kind and what is cached for it
-  first_by : (func : Func) (past : List Code) (h : Held) (s : State) → passes asking stacks func false (kind_of func (cached_for func h)) (cached_for func h) (stack_for func stacks) past s ≡ first_pass asking stacks func past h s
+  first_by : (func : Func) (past : List Code) (h : Held) (s : State) → passes asking stacks func false (kind_of func (cached_for func h)) (cached_for func h)
+      (stack_for func stacks) past s ≡ first_pass asking stacks func past h s
   first_by Authenticate past h s = refl
   first_by SetCred past h s = refl
   first_by AcctMgmt past h s = refl
@@ -18,8 +19,10 @@ module _ {State : Type 0} (asking : Asking State) (stacks : Stacks) where
   first_by CloseSession past h s = refl
   first_by ChAuthTok past h s = refl
 
-  pub called : (func : Func) (past : List Code) (h left : Held) (s : State) (kept : Option KeptAnswers) (p : Passed State) (w : Went State) → kept ≡ cached_for func h → held_behind func None p left ≡ held_behind func None p h
-      → p ≡ passes asking stacks func false (kind_of func kept) kept (stack_for func stacks) past s → w ≡ went p.code (held_behind func None p left) p.state → w ≡ one_pass asking stacks func past h s
+  pub called : (func : Func) (past : List Code) (h left : Held) (s : State) (kept : Option KeptAnswers) (p : Passed State) (w : Went State)
+      → kept ≡ cached_for func h → held_behind func None p left ≡ held_behind func None p h
+      → p ≡ passes asking stacks func false (kind_of func kept) kept (stack_for func stacks) past s → w ≡ went p.code (held_behind func None p left) p.state
+          → w ≡ one_pass asking stacks func past h s
   called func past h left s kept p w k r e f =
       let first : p ≡ first_pass asking stacks func past h s = e ∙ rw k (first_by func past h s) in
       f ∙ ap (λ (x : Held). went p.code x p.state) r ∙ ap (λ (q : Passed State). went q.code (held_behind func None q h) q.state) first

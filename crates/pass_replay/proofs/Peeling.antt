@@ -2,7 +2,8 @@
 use Rattle.std.proofs.Common.{◌≡◌, ℕ, ◌+◌, ◌<◌, ◌≤◌, add-zero, arith, List, ◌∷◌, length, drop, get_or, refl, sym, ◌∙◌, ap}
 use Rattle.std.proofs.lemmas.List.{drop_more}
 use mathlib.Core.Former.{Count}
-use Rattle.control_words.specs.declared.nodes.Node.{Node, Line, Sub, Sub', Row_of-Node, end_of-Node, more_of-Node, items-the_row-Node, items_hidden-the_row-Node-0}
+use Rattle.control_words.specs.declared.nodes.Node.{Node, Line, Sub, Sub', Row_of-Node, end_of-Node, more_of-Node, items-the_row-Node}
+use Rattle.control_words.specs.declared.nodes.Node.{items_hidden-the_row-Node-0}
 use Rattle.control_words.specs.declared.nodes.Nodes.{Nodes}
 use Rattle.control_words.specs.declared.nodes.Rule.{Rule}
 use Rattle.control_words.specs.Stack.{Stack, none, line, sub, count, lines_in, depth, node_on, row_stack, stack_of}

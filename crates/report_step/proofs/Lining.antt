@@ -12,4 +12,5 @@ line_added line items i item is below = rw (take_more items i item below) (grind
 pub line_joined : {T : Type 0} (line : T → List ℕ) (items : List T) (i : ℕ) (item : T) (before text grown : List ℕ) → item ≡ get_or items i item
     → i < length items → text ≡ before ++ flat_map line (take i items) → grown ≡ text ++ line item
     → grown ≡ before ++ flat_map line (take (i + 1) items)
-line_joined line items i item before text grown is below so_far joined = rw (line_added line items i item is below, joined, so_far) (grind (arith, common_steps))
+line_joined line items i item before text grown is below so_far joined =
+    rw (line_added line items i item is below, joined, so_far) (grind (arith, common_steps))

@@ -1,5 +1,6 @@
 -- What the checker finds for a block is the block's result.
-use Rattle.std.proofs.Common.{◌≡◌, ℕ, zero, suc, ◌+◌, ◌-◌, ◌≤◌, ◌<◌, Bool, true, false, not, ◌&&◌, eqb, eq-eqb, if◌then◌else◌, List, [], ◌∷◌, length, drop, Option, Some, None, refl, sym, ◌∙◌, ap, arith, ne_eqb}
+use Rattle.std.proofs.Common.{◌≡◌, ℕ, zero, suc, ◌+◌, ◌-◌, ◌≤◌, ◌<◌, Bool, true, false, not, ◌&&◌, eqb, eq-eqb, if◌then◌else◌, List, []}
+use Rattle.std.proofs.Common.{◌∷◌, length, drop, Option, Some, None, refl, sym, ◌∙◌, ap, arith, ne_eqb}
 use Rattle.pam_base.specs.declared.code.Code.{Code}
 use Rattle.pam_base.specs.declared.call.Func.{Func}
 use Rattle.pam_base.specs.declared.call.Func.TheVariants as funcs
@@ -16,8 +17,11 @@ use Rattle.pass_replay.specs.Held.{held_of}
 use Rattle.pass_replay.specs.Replay.{as_told}
 use Rattle.pass_replay.specs.Retold.{went_of}
 use Rattle.pass_replay.specs.Told.{visits_in, lines_before}
-use Rattle.report_lines.specs.Line.{Command, starts, ends, runs, sets_item, gets_item, puts_env, gets_env, lists_env, asks_delay, switches_delay, replies, Shown, shows_code, shows_fault, shows_value, shows_count, shows_not_open, shows_already_open, shows_bad_number, shows_pending, Result, answered, closed_by_program}
-use Rattle.session_audit.specs.Fits.{SlotLog, shut, running, visits_told, is_none, only_if, same_code, is_refused_change, without_visits, behind_call, at_call, behind_result}
+use Rattle.report_lines.specs.Line.{Command, starts, ends, runs, sets_item, gets_item, puts_env, gets_env, lists_env, asks_delay}
+use Rattle.report_lines.specs.Line.{switches_delay, replies, Shown, shows_code, shows_fault, shows_value, shows_count, shows_not_open}
+use Rattle.report_lines.specs.Line.{shows_already_open, shows_bad_number, shows_pending, Result, answered, closed_by_program}
+use Rattle.session_audit.specs.Fits.{SlotLog, shut, running, visits_told, is_none, only_if, same_code, is_refused_change, without_visits}
+use Rattle.session_audit.specs.Fits.{behind_call, at_call, behind_result}
 use Rattle.session_audit.specs.Differs as told_lines
 use Rattle.session_audit.specs.Differs.{visits_good}
 use Rattle.session_audit.specs.Checked.{told_in, after_quiet, IsCall}
@@ -148,20 +152,27 @@ refused_by funcs.ChAuthTok code [] = no_more (same_code code codes.SystemErr)
 refused_by funcs.ChAuthTok code (v ∷ vs) = nothing_more (same_code code codes.SystemErr)
 
 module _ (stacks : Stacks) where
-  pub call_refused : (func : Func) (code : Code) (vs : List retell.Seen) (h : Held) → is_refused_change func code vs ≡ true → at_call stacks func code vs h ≡ Some (running h)
+  pub call_refused : (func : Func) (code : Code) (vs : List retell.Seen) (h : Held) → is_refused_change func code vs ≡ true
+      → at_call stacks func code vs h ≡ Some (running h)
   call_refused func code vs h is = if_true (is_refused_change func code vs) (Some (running h)) _ is
 
-  pub call_aborted : (func : Func) (code : Code) (vs : List retell.Seen) (h : Held) → is_refused_change func code vs ≡ false → is_other_pending h.pending func ≡ true → at_call stacks func code vs h ≡ None
-  call_aborted func code vs h is other = if_false (is_refused_change func code vs) (Some (running h)) _ is ∙ if_true (is_other_pending h.pending func) None _ other
+  pub call_aborted : (func : Func) (code : Code) (vs : List retell.Seen) (h : Held) → is_refused_change func code vs ≡ false
+      → is_other_pending h.pending func ≡ true → at_call stacks func code vs h ≡ None
+  call_aborted func code vs h is other = if_false (is_refused_change func code vs) (Some (running h)) _ is
+      ∙ if_true (is_other_pending h.pending func) None _ other
 
-  pub call_goes : (func : Func) (code : Code) (vs : List retell.Seen) (h : Held) → is_refused_change func code vs ≡ false → is_other_pending h.pending func ≡ false
+  pub call_goes : (func : Func) (code : Code) (vs : List retell.Seen) (h : Held) → is_refused_change func code vs ≡ false
+      → is_other_pending h.pending func ≡ false
       → behind_call code (goes as_told stacks func h (telling vs)) ≡ at_call stacks func code vs h
-  call_goes func code vs h is other = sym (if_false (is_refused_change func code vs) (Some (running h)) _ is ∙ if_false (is_other_pending h.pending func) None _ other)
+  call_goes func code vs h is other = sym (if_false (is_refused_change func code vs) (Some (running h)) _ is
+      ∙ if_false (is_other_pending h.pending func) None _ other)
 
-  pub line_aborted : (func : Func) (vs : List retell.Seen) (h : Held) (n : ℕ) → is_other_pending h.pending func ≡ true → (if is_other_pending h.pending func then 0 else n) ≡ 0
+  pub line_aborted : (func : Func) (vs : List retell.Seen) (h : Held) (n : ℕ) → is_other_pending h.pending func ≡ true
+      → (if is_other_pending h.pending func then 0 else n) ≡ 0
   line_aborted func vs h n other = if_true (is_other_pending h.pending func) 0 n other
 
-  pub line_goes : (func : Func) (vs : List retell.Seen) (h : Held) (n : ℕ) → is_other_pending h.pending func ≡ false → n ≡ (if is_other_pending h.pending func then 0 else n)
+  pub line_goes : (func : Func) (vs : List retell.Seen) (h : Held) (n : ℕ) → is_other_pending h.pending func ≡ false
+      → n ≡ (if is_other_pending h.pending func then 0 else n)
   line_goes func vs h n other = sym (if_false (is_other_pending h.pending func) 0 n other)
 
 -- the lines that a replayed call took
@@ -216,13 +227,15 @@ module _ (stacks : Stacks) where
   quiet_open h vs switches_delay shown is = refl
   quiet_open h vs replies shown is = refl
 
-  pub quiet_result : (place : SlotLog) (vs : List retell.Seen) (result : Result) → IsCall None result → behind_result stacks place vs result ≡ without_visits vs (after_quiet place result)
+  pub quiet_result : (place : SlotLog) (vs : List retell.Seen) (result : Result) → IsCall None result
+      → behind_result stacks place vs result ≡ without_visits vs (after_quiet place result)
   quiet_result shut vs (answered command shown) is = refl
   quiet_result shut vs (closed_by_program code) is = sym (none_without vs)
   quiet_result (running h) vs (answered command shown) is = quiet_open h vs command shown is
   quiet_result (running h) vs (closed_by_program code) is = refl
 
-  quiet_good-open : (h : Held) (vs : List retell.Seen) (command : Command) (shown : Shown) → IsCall None (answered command shown) → visits_good stacks (Some (running h)) vs (answered command shown) ≡ 0
+  quiet_good-open : (h : Held) (vs : List retell.Seen) (command : Command) (shown : Shown) → IsCall None (answered command shown)
+      → visits_good stacks (Some (running h)) vs (answered command shown) ≡ 0
   quiet_good-open h vs (runs func) (shows_code code) is = absurd (is func code refl)
   quiet_good-open h vs (runs func) (shows_fault fault) is = refl
   quiet_good-open h vs (runs func) (shows_value value) is = refl

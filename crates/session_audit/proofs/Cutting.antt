@@ -1,5 +1,6 @@
 -- What is left of a text after a line of it.
-use Rattle.std.proofs.Common.{◌≡◌, ℕ, ◌+◌, Bool, true, false, eqb, List, [], ◌∷◌, ◌++◌, map, length, take, drop, Option, Some, None, refl, sym, ◌∙◌, ap, ne_eqb, suc, if◌then◌else◌}
+use Rattle.std.proofs.Common.{◌≡◌, ℕ, ◌+◌, Bool, true, false, eqb, List, [], ◌∷◌, ◌++◌, map, length, take, drop, Option, Some, None, refl}
+use Rattle.std.proofs.Common.{sym, ◌∙◌, ap, ne_eqb, suc, if◌then◌else◌}
 use Rattle.std.specs.Option.{option_map}
 use Rattle.pam_base.specs.Bytes.{has_byte, IsFirstPlace}
 use Rattle.pam_base.specs.Lines.{Cut, onto, cut, cut-line, cut-part}
@@ -14,7 +15,8 @@ use Rattle.session_audit.specs.Checked.{bare_lines, line_of}
 abbrev lines_in : Cut → List (Option Says)
 lines_in c = map (option_map bare) (map read_line c.lines ++ formless c.rest)
 
-pub line_left : (rest : List ℕ) (n : ℕ) → IsFirstPlace (Some n) 10 rest → bare_lines rest ≡ option_map bare (read_line (take n rest)) ∷ bare_lines (drop (n + 1) rest)
+pub line_left : (rest : List ℕ) (n : ℕ) → IsFirstPlace (Some n) 10 rest
+    → bare_lines rest ≡ option_map bare (read_line (take n rest)) ∷ bare_lines (drop (n + 1) rest)
 line_left rest n first = ap bare_lines first.2 ∙ ap lines_in (cut-line (take n rest) (drop (n + 1) rest) first.1)
 
 bare_formless : (part : List ℕ) → map (option_map bare) (formless part) ≡ formless part

@@ -1,5 +1,6 @@
 -- After a line is taken, the first line that differs is the same.
-use Rattle.std.proofs.Common.{◌≡◌, ℕ, zero, suc, ◌+◌, ◌-◌, ◌≤◌, Bool, true, false, ◌&&◌, if◌then◌else◌, ltb, leb, ◌<◌, get_or, List, [], ◌∷◌, ◌++◌, map, length, Option, Some, None, refl, sym, ◌∙◌, ap, arith}
+use Rattle.std.proofs.Common.{◌≡◌, ℕ, zero, suc, ◌+◌, ◌-◌, ◌≤◌, Bool, true, false, ◌&&◌, if◌then◌else◌, ltb, leb, ◌<◌, get_or, List, []}
+use Rattle.std.proofs.Common.{◌∷◌, ◌++◌, map, length, Option, Some, None, refl, sym, ◌∙◌, ap, arith}
 use Rattle.std.specs.Prelude.{slice_get, slice_set}
 use Rattle.std.specs.Option.{option_map}
 use Rattle.std.proofs.lemmas.Bool.Decides.{nat_tests}
@@ -43,7 +44,8 @@ module _ (stacks : Stacks) where
       → differs_from stacks places g n (Some (tells number t) ∷ lines) ≡ Some (n + 1)
   other_told places g n number t lines other = by_other (may_follow g number) _ (Some (n + 1)) other
 
-  pub told_goes : (places : List SlotLog) (g : Gathered) (n number : ℕ) (told : List Told) (t : Told) (lines : List (Option Says)) → may_follow g number ≡ true → told ≡ told_so_far g
+  pub told_goes : (places : List SlotLog) (g : Gathered) (n number : ℕ) (told : List Told) (t : Told) (lines : List (Option Says)) → may_follow g number ≡ true
+      → told ≡ told_so_far g
       → differs_from stacks places g n (Some (tells number t) ∷ lines) ≡ differs_from stacks places (gathered number (told ++ t ∷ [])) (n + 1) lines
   told_goes places g n number told t lines follows are =
       by_follow (may_follow g number) _ (Some (n + 1)) follows
@@ -54,38 +56,46 @@ module _ (stacks : Stacks) where
   other_result places g n number result lines other = by_other (may_follow g number) _ (Some (n + 1)) other
 
   abbrev by_block : List SlotLog → ℕ → List (Option Says) → Block → Option ℕ
-  by_block places n lines b = behind_or stacks (behind_block stacks places b) (n + 1 - length b.told + bad_line stacks (place_at places b.number) b) (λ behind. differs_from stacks behind nothing_yet (n + 1) lines)
+  by_block places n lines b = behind_or stacks (behind_block stacks places b) (n + 1 - length b.told + bad_line stacks (place_at places b.number) b)
+      (λ behind. differs_from stacks behind nothing_yet (n + 1) lines)
 
-  result_goes : (places : List SlotLog) (g : Gathered) (n number : ℕ) (told : List Told) (result : Result) (lines : List (Option Says)) → may_follow g number ≡ true → told ≡ told_so_far g
+  result_goes : (places : List SlotLog) (g : Gathered) (n number : ℕ) (told : List Told) (result : Result) (lines : List (Option Says))
+      → may_follow g number ≡ true → told ≡ told_so_far g
       → differs_from stacks places g n (Some (results number result) ∷ lines) ≡ by_block places n lines (block_of number told result)
   result_goes places g n number told result lines follows are =
       by_follow (may_follow g number) _ (Some (n + 1)) follows
       ∙ ap (λ (ts : List Told). by_block places n lines (block_of number ts result)) (sym are)
 
-  pub result_fits : (places next : List SlotLog) (g : Gathered) (n number : ℕ) (told : List Told) (result : Result) (lines : List (Option Says)) → may_follow g number ≡ true → told ≡ told_so_far g
+  pub result_fits : (places next : List SlotLog) (g : Gathered) (n number : ℕ) (told : List Told) (result : Result) (lines : List (Option Says))
+      → may_follow g number ≡ true → told ≡ told_so_far g
       → behind_block stacks places (block_of number told result) ≡ Some next
       → differs_from stacks places g n (Some (results number result) ∷ lines) ≡ differs_from stacks next nothing_yet (n + 1) lines
   result_fits places next g n number told result lines follows are fits =
       let b : Block = block_of number told result in
       result_goes places g n number told result lines follows are
-      ∙ ap (λ (x : Option (List SlotLog)). behind_or stacks x (n + 1 - length b.told + bad_line stacks (place_at places b.number) b) (λ behind. differs_from stacks behind nothing_yet (n + 1) lines)) fits
+      ∙ ap (λ (x : Option (List SlotLog)). behind_or stacks x (n + 1 - length b.told + bad_line stacks (place_at places b.number) b)
+          (λ behind. differs_from stacks behind nothing_yet (n + 1) lines)) fits
 
-  pub result_named : (places : List SlotLog) (g : Gathered) (n number line : ℕ) (told : List Told) (result : Result) (lines : List (Option Says)) → may_follow g number ≡ true → told ≡ told_so_far g
+  pub result_named : (places : List SlotLog) (g : Gathered) (n number line : ℕ) (told : List Told) (result : Result) (lines : List (Option Says))
+      → may_follow g number ≡ true → told ≡ told_so_far g
       → behind_block stacks places (block_of number told result) ≡ None → line ≡ bad_line stacks (place_at places number) (block_of number told result)
       → differs_from stacks places g n (Some (results number result) ∷ lines) ≡ Some (n + 1 - length told + line)
   result_named places g n number line told result lines follows are fits is =
       let b : Block = block_of number told result in
       result_goes places g n number told result lines follows are
-      ∙ ap (λ (x : Option (List SlotLog)). behind_or stacks x (n + 1 - length b.told + bad_line stacks (place_at places b.number) b) (λ behind. differs_from stacks behind nothing_yet (n + 1) lines)) fits
+      ∙ ap (λ (x : Option (List SlotLog)). behind_or stacks x (n + 1 - length b.told + bad_line stacks (place_at places b.number) b)
+          (λ behind. differs_from stacks behind nothing_yet (n + 1) lines)) fits
       ∙ ap (λ (k : ℕ). Some (n + 1 - length told + k)) (sym is)
 
   -- ---- a block of the transaction of its number
 
-  found_at : (old : List held.SlotLog) (i number : ℕ) (p : held.SlotLog) → number ≡ suc i → slice_get old i ≡ Some p → place_at (map place_of old) number ≡ Some (place_of p)
+  found_at : (old : List held.SlotLog) (i number : ℕ) (p : held.SlotLog) → number ≡ suc i → slice_get old i ≡ Some p
+      → place_at (map place_of old) number ≡ Some (place_of p)
   found_at old i number p is at =
       ap (place_at (map place_of old)) is ∙ slice_get-map place_of old i ∙ ap (option_map place_of) at
 
-  pub placed_line : (old : List held.SlotLog) (i number line : ℕ) (p : held.SlotLog) (told : List Told) (result : Result) → number ≡ suc i → slice_get old i ≡ Some p
+  pub placed_line : (old : List held.SlotLog) (i number line : ℕ) (p : held.SlotLog) (told : List Told) (result : Result) → number ≡ suc i
+      → slice_get old i ≡ Some p
       → line ≡ lines_before (visits_good stacks (Some (place_of p)) (visits_told told) result) told
       → line ≡ bad_line stacks (place_at (map place_of old) number) (block_of number told result)
   placed_line old i number line p told result is at named =
@@ -98,7 +108,8 @@ module _ (stacks : Stacks) where
       ap (behind_at stacks (map place_of old) (block_of number told result)) (found_at old i number p is at)
       ∙ ap (with_behind stacks (map place_of old) number) none
 
-  pub placed_fits : (old : List held.SlotLog) (i number : ℕ) (p between behind : held.SlotLog) (told : List Told) (result : Result) → number ≡ suc i → slice_get old i ≡ Some p
+  pub placed_fits : (old : List held.SlotLog) (i number : ℕ) (p between behind : held.SlotLog) (told : List Told) (result : Result) → number ≡ suc i
+      → slice_get old i ≡ Some p
       → behind_result stacks (place_of p) (visits_told told) result ≡ Some (place_of behind)
       → behind_block stacks (map place_of old) (block_of number told result) ≡ Some (map place_of (slice_set (slice_set old i between) i behind))
   placed_fits old i number p between behind told result is at fits =
@@ -107,7 +118,8 @@ module _ (stacks : Stacks) where
       ∙ ap (λ (m : ℕ). Some (with_place (map place_of old) m (place_of behind))) is
       ∙ ap Some (sym (map-set place_of old i behind) ∙ ap (map place_of) (sym (set-set old i between behind)))
 
-  pub unplaced : (places : List SlotLog) (number : ℕ) (told : List Told) (result : Result) (b : Bool) → place_at places number ≡ None → (is_bad_number stacks result && is_none (visits_told told)) ≡ b
+  pub unplaced : (places : List SlotLog) (number : ℕ) (told : List Told) (result : Result) (b : Bool) → place_at places number ≡ None
+      → (is_bad_number stacks result && is_none (visits_told told)) ≡ b
       → behind_block stacks places (block_of number told result) ≡ (if b then Some places else None)
   unplaced places number told result b none is =
       ap (behind_at stacks places (block_of number told result)) none ∙ ap (λ (c : Bool). if c then Some places else None) is
@@ -142,7 +154,8 @@ pub a_place : (old : List held.SlotLog) (number : ℕ) → (ltb 0 number && leb 
 a_place old zero is = absurd (cc)
 a_place old (suc i) is = grind (arith, nat_tests)
 
-pub fits_at : (stacks : Stacks) (old : List held.SlotLog) (number : ℕ) (p between behind : held.SlotLog) (told : List Told) (result : Result) → number ≡ suc (number - 1)
+pub fits_at : (stacks : Stacks) (old : List held.SlotLog) (number : ℕ) (p between behind : held.SlotLog) (told : List Told) (result : Result)
+    → number ≡ suc (number - 1)
     → slice_get old (number - 1) ≡ Some p → behind_result stacks (place_of p) (visits_told told) result ≡ Some (place_of behind)
     → IsPlaced stacks old (block_of number told result) None (slice_set (slice_set old (number - 1) between) (number - 1) behind)
 fits_at stacks old number p between behind told result is at fits = (
@@ -151,7 +164,8 @@ fits_at stacks old number p between behind told result is at fits = (
 )
 
 -- a block of a number that no transaction has
-pub nowhere_is : (stacks : Stacks) (old : List held.SlotLog) (number : ℕ) (told : List Told) (result : Result) (line : Option ℕ) → place_at (map place_of old) number ≡ None
+pub nowhere_is : (stacks : Stacks) (old : List held.SlotLog) (number : ℕ) (told : List Told) (result : Result) (line : Option ℕ)
+    → place_at (map place_of old) number ≡ None
     → IsUnplaced line told result → IsPlaced stacks old (block_of number told result) line old
 nowhere_is stacks old number told result None none is = (unplaced stacks (map place_of old) number told result true none (is stacks), refl)
 nowhere_is stacks old number told result (Some line) none is =

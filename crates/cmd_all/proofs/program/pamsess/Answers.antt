@@ -1,23 +1,30 @@
 use Rattle.std.proofs.Common.{ap, refl, sym, ◌∙◌}
 use Rattle.cmd_all.specs.Exit.{exit_status}
 use Rattle.cmd_all.proofs.Cleaning.{cleaned_as, nothing_cleaned, nothing_to_clean}
-use Rattle.cmd_all.proofs.Commands.{audit_asked, audit_not_two, check_asked, check_is_other, generate_asked, generate_is_other, goes_reading, goes_unread, login_asked, login_is_other, not_read, run_asked, run_not_two, tally_asked, tally_is_other, wire_asked, wire_not_two}
+use Rattle.cmd_all.proofs.Commands.{audit_asked, audit_not_two, check_asked, check_is_other, generate_asked, generate_is_other}
+use Rattle.cmd_all.proofs.Commands.{goes_reading, goes_unread, login_asked, login_is_other, not_read, run_asked, run_not_two, tally_asked}
+use Rattle.cmd_all.proofs.Commands.{tally_is_other, wire_asked, wire_not_two}
 use Rattle.cmd_all.proofs.Under.{frames_read_causes, frames_so, frames_write_causes, script_read_causes, script_so, script_write_causes}
 use Rattle.cmd_all.proofs.program.pamsess.Goals as goal
 
 pub returns-in-Some-Run-clause-run : goal.returns-in-Some-Run-clause-run
 returns-in-Some-Run-clause-run g c root asked =
-    run_asked _ _ _ _ _ _ _ root (rw c.in-Some-Run.field-0-is at c.in-Some-Run.ensures) asked (script_so _ _ _ (c.status-in-Some-Run.ensures ∙ ap exit_status c.script_exit.ensures) _ _ _ _ c.run_under.ensures.under c.numbers_stand_side_by_side.ensures c.run_under.ensures.reports)
+    run_asked _ _ _ _ _ _ _ root (rw c.in-Some-Run.field-0-is at c.in-Some-Run.ensures) asked
+        (script_so _ _ _ (c.status-in-Some-Run.ensures ∙ ap exit_status c.script_exit.ensures) _ _ _ _ c.run_under.ensures.under
+        c.numbers_stand_side_by_side.ensures c.run_under.ensures.reports)
 
 pub returns-in-Some-Run-clause-command : goal.returns-in-Some-Run-clause-command
 returns-in-Some-Run-clause-command g c =
-    goes_reading _ _ _ _ (rw c.in-Some-Run.field-0-is at c.in-Some-Run.ensures) (λ is. run_not_two _ (sym (c.status-in-Some-Run.ensures ∙ ap exit_status c.script_exit.ensures) ∙ is)) (λ none. none)
+    goes_reading _ _ _ _ (rw c.in-Some-Run.field-0-is at c.in-Some-Run.ensures)
+        (λ is. run_not_two _ (sym (c.status-in-Some-Run.ensures ∙ ap exit_status c.script_exit.ensures) ∙ is)) (λ none. none)
 
 pub returns-in-Some-Run-clause-read_causes : goal.returns-in-Some-Run-clause-read_causes
-returns-in-Some-Run-clause-read_causes g c = script_read_causes _ _ _ (c.status-in-Some-Run.ensures ∙ ap exit_status c.script_exit.ensures) _ _ _ _ c.run_under.ensures.under
+returns-in-Some-Run-clause-read_causes g c = script_read_causes _ _ _ (c.status-in-Some-Run.ensures ∙ ap exit_status c.script_exit.ensures) _ _ _ _
+    c.run_under.ensures.under
 
 pub returns-in-Some-Run-clause-write_causes : goal.returns-in-Some-Run-clause-write_causes
-returns-in-Some-Run-clause-write_causes g c = script_write_causes _ _ _ (c.status-in-Some-Run.ensures ∙ ap exit_status c.script_exit.ensures) _ _ _ _ c.run_under.ensures.under
+returns-in-Some-Run-clause-write_causes g c = script_write_causes _ _ _ (c.status-in-Some-Run.ensures ∙ ap exit_status c.script_exit.ensures) _ _ _ _
+    c.run_under.ensures.under
 
 pub returns-in-Some-Run-clause-cleaned_up : goal.returns-in-Some-Run-clause-cleaned_up
 returns-in-Some-Run-clause-cleaned_up g c =
@@ -25,17 +32,22 @@ returns-in-Some-Run-clause-cleaned_up g c =
 
 pub returns-in-Some-Wire-clause-wire : goal.returns-in-Some-Wire-clause-wire
 returns-in-Some-Wire-clause-wire g c root asked =
-    wire_asked _ _ _ _ _ _ _ root (rw c.in-Some-Wire.field-0-is at c.in-Some-Wire.ensures) asked (frames_so _ _ _ (c.status-in-Some-Wire.ensures ∙ ap exit_status c.frames_exit.ensures) _ _ _ _ c.run_under-in-Some-Wire.ensures.under c.run_under-in-Some-Wire.ensures.reports)
+    wire_asked _ _ _ _ _ _ _ root (rw c.in-Some-Wire.field-0-is at c.in-Some-Wire.ensures) asked
+        (frames_so _ _ _ (c.status-in-Some-Wire.ensures ∙ ap exit_status c.frames_exit.ensures) _ _ _ _ c.run_under-in-Some-Wire.ensures.under
+        c.run_under-in-Some-Wire.ensures.reports)
 
 pub returns-in-Some-Wire-clause-command : goal.returns-in-Some-Wire-clause-command
 returns-in-Some-Wire-clause-command g c =
-    goes_reading _ _ _ _ (rw c.in-Some-Wire.field-0-is at c.in-Some-Wire.ensures) (λ is. wire_not_two _ (sym (c.status-in-Some-Wire.ensures ∙ ap exit_status c.frames_exit.ensures) ∙ is)) (λ none. none)
+    goes_reading _ _ _ _ (rw c.in-Some-Wire.field-0-is at c.in-Some-Wire.ensures)
+        (λ is. wire_not_two _ (sym (c.status-in-Some-Wire.ensures ∙ ap exit_status c.frames_exit.ensures) ∙ is)) (λ none. none)
 
 pub returns-in-Some-Wire-clause-read_causes : goal.returns-in-Some-Wire-clause-read_causes
-returns-in-Some-Wire-clause-read_causes g c = frames_read_causes _ _ _ (c.status-in-Some-Wire.ensures ∙ ap exit_status c.frames_exit.ensures) _ _ _ _ c.run_under-in-Some-Wire.ensures.under
+returns-in-Some-Wire-clause-read_causes g c = frames_read_causes _ _ _ (c.status-in-Some-Wire.ensures ∙ ap exit_status c.frames_exit.ensures) _ _ _ _
+    c.run_under-in-Some-Wire.ensures.under
 
 pub returns-in-Some-Wire-clause-write_causes : goal.returns-in-Some-Wire-clause-write_causes
-returns-in-Some-Wire-clause-write_causes g c = frames_write_causes _ _ _ (c.status-in-Some-Wire.ensures ∙ ap exit_status c.frames_exit.ensures) _ _ _ _ c.run_under-in-Some-Wire.ensures.under
+returns-in-Some-Wire-clause-write_causes g c = frames_write_causes _ _ _ (c.status-in-Some-Wire.ensures ∙ ap exit_status c.frames_exit.ensures) _ _ _ _
+    c.run_under-in-Some-Wire.ensures.under
 
 pub returns-in-Some-Wire-clause-cleaned_up : goal.returns-in-Some-Wire-clause-cleaned_up
 returns-in-Some-Wire-clause-cleaned_up g c =
@@ -87,7 +99,8 @@ returns-in-Some-Audit-clause-audit g c root service asked =
 pub returns-in-Some-Audit-clause-command : goal.returns-in-Some-Audit-clause-command
 returns-in-Some-Audit-clause-command g c =
     rw c.status-in-Some-Audit.ensures
-    (goes_reading _ _ _ _ (rw c.in-Some-Audit.field-0-is at c.in-Some-Audit.ensures) (λ is. audit_not_two c.audit_service.ensures.audit.audit_statuses.0 (sym c.audit_service.ensures.audit.audit_statuses.1 ∙ is)) (λ none. none))
+    (goes_reading _ _ _ _ (rw c.in-Some-Audit.field-0-is at c.in-Some-Audit.ensures)
+        (λ is. audit_not_two c.audit_service.ensures.audit.audit_statuses.0 (sym c.audit_service.ensures.audit.audit_statuses.1 ∙ is)) (λ none. none))
 
 pub returns-in-Some-Audit-clause-cleaned_up : goal.returns-in-Some-Audit-clause-cleaned_up
 returns-in-Some-Audit-clause-cleaned_up g c =
@@ -101,7 +114,8 @@ returns-in-Some-Generate-clause-generate g c seed lines asked =
 pub returns-in-Some-Generate-clause-command : goal.returns-in-Some-Generate-clause-command
 returns-in-Some-Generate-clause-command g c =
     rw c.status-in-Some-Generate.ensures
-    (goes_unread _ _ _ _ (rw c.in-Some-Generate.field-0-is at c.in-Some-Generate.ensures) (generate_is_other _ c.generate_lines.ensures.generate.generate_statuses) refl)
+    (goes_unread _ _ _ _ (rw c.in-Some-Generate.field-0-is at c.in-Some-Generate.ensures)
+        (generate_is_other _ c.generate_lines.ensures.generate.generate_statuses) refl)
 
 pub returns-in-Some-Generate-clause-read_causes : goal.returns-in-Some-Generate-clause-read_causes
 returns-in-Some-Generate-clause-read_causes g c =
@@ -141,7 +155,8 @@ returns-in-Some-LoginAs-clause-login g c root service user asked =
 pub returns-in-Some-LoginAs-clause-command : goal.returns-in-Some-LoginAs-clause-command
 returns-in-Some-LoginAs-clause-command g c =
     rw c.status-in-Some-LoginAs.ensures
-    (goes_unread _ _ _ _ (rw c.in-Some-LoginAs.field-0-is at c.in-Some-LoginAs.ensures) (login_is_other _ c.log_in-in-Some-LoginAs.ensures.login.login_statuses) refl)
+    (goes_unread _ _ _ _ (rw c.in-Some-LoginAs.field-0-is at c.in-Some-LoginAs.ensures)
+        (login_is_other _ c.log_in-in-Some-LoginAs.ensures.login.login_statuses) refl)
 
 pub returns-in-Some-LoginAs-clause-read_causes : goal.returns-in-Some-LoginAs-clause-read_causes
 returns-in-Some-LoginAs-clause-read_causes g c =

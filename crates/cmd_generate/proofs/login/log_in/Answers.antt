@@ -9,7 +9,8 @@ returns-clause-told g c = λ delay is told.
     (rw (c.attempt-login.ensures.went.players, c.code_number.ensures, c.end_status-status.ensures) at (c.end.ensures.ended delay))
 
 pub returns-clause-none_open : goal.returns-clause-none_open
-returns-clause-none_open g c = none_open _ _ c.requires.none_open (λ number other. c.end.ensures.others number other ∙ c.attempt-login.ensures.others number other) c.end.ensures.closed
+returns-clause-none_open g c = none_open _ _ c.requires.none_open (λ number other. c.end.ensures.others number other
+    ∙ c.attempt-login.ensures.others number other) c.end.ensures.closed
 
 pub returns-clause-went : goal.returns-clause-went
 returns-clause-went g c =

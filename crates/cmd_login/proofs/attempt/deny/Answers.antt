@@ -8,16 +8,19 @@ pub returns-in-Err-clause-told : goal.returns-in-Err-clause-told
 returns-in-Err-clause-told g c = λ sink. denial_unwritten _ _
 
 pub returns-in-Ok-write_all-clause-told : goal.returns-in-Ok-write_all-clause-told
-returns-in-Ok-write_all-clause-told g c = λ sink. denial_written _ c.in-Ok-write_all.field-0 _ _ _ c.in-Ok.ensures (rw c.as_bytes.ensures.value at (c.in-Ok-write_all.ensures.told sink))
+returns-in-Ok-write_all-clause-told g c = λ sink. denial_written _ c.in-Ok-write_all.field-0 _ _ _ c.in-Ok.ensures
+    (rw c.as_bytes.ensures.value at (c.in-Ok-write_all.ensures.told sink))
 
 pub returns-clause-told : goal.returns-clause-told
-returns-clause-told g c = λ sink. denial_cut _ c.in-Err-write_all.field-0 _ _ _ c.in-Ok.ensures (rw c.as_bytes.ensures.value at (c.in-Err-write_all.ensures.told sink))
+returns-clause-told g c = λ sink. denial_cut _ c.in-Err-write_all.field-0 _ _ _ c.in-Ok.ensures
+    (rw c.as_bytes.ensures.value at (c.in-Err-write_all.ensures.told sink))
 
 pub returns-in-Err-clause-shows : goal.returns-in-Err-clause-shows
 returns-in-Err-clause-shows g c = λ sink. shows_none _ _ _
 
 pub returns-in-Ok-write_all-clause-shows : goal.returns-in-Ok-write_all-clause-shows
-returns-in-Ok-write_all-clause-shows g c = λ sink. shows_whole _ _ c.in-Ok-write_all.field-0 _ _ _ (rw c.as_bytes.ensures.value at (c.in-Ok-write_all.ensures.told sink)) ([], c.in-Ok.ensures)
+returns-in-Ok-write_all-clause-shows g c = λ sink. shows_whole _ _ c.in-Ok-write_all.field-0 _ _ _
+    (rw c.as_bytes.ensures.value at (c.in-Ok-write_all.ensures.told sink)) ([], c.in-Ok.ensures)
 
 pub returns-clause-shows : goal.returns-clause-shows
 returns-clause-shows g c = λ sink. shows_front _ c.in-Err-write_all.field-0 _ _ _ (rw c.as_bytes.ensures.value at (c.in-Err-write_all.ensures.told sink))

@@ -13,7 +13,8 @@ invariant-loop-stop g l =
     record {
       went : Went (IsStatusOf l.status) start now;
       sink_tells : g.K.Sink.sink_tells l.sink ≡ g.K.Sink.sink_tells l.fn.sink;
-      told : g.K.Sink.sink_tells l.fn.sink ≡ true → ClosesSome g.P.Protocol.wrapped start.players l.status (state start) (state now) (g.K.Sink.sink_holds l.fn.sink) (g.K.Sink.sink_holds l.sink);
+      told : g.K.Sink.sink_tells l.fn.sink ≡ true → ClosesSome g.P.Protocol.wrapped start.players l.status (state start) (state now)
+          (g.K.Sink.sink_holds l.fn.sink) (g.K.Sink.sink_holds l.sink);
       faults : g.K.Sink.sink_faults l.sink ≡ g.K.Sink.sink_faults l.fn.sink;
     }
 

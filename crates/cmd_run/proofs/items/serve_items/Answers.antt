@@ -59,7 +59,8 @@ loop-ending-preserved g c =
       source_tells = c.serve_next.ensures.source_tells ∙ was.source_tells;
       told = λ still delay is told source sink.
           let before = was.told still delay is told source sink in
-          let next = rw was.went.players at (turn still delay (was.went.gives delay is) (still_told _ _ _ was.went told) (was.source_tells ∙ source) (was.sink_tells ∙ sink)) in
+          let next = rw was.went.players at (turn still delay (was.went.gives delay is) (still_told _ _ _ was.went told) (was.source_tells ∙ source)
+                  (was.sink_tells ∙ sink)) in
           record {
             turns = c.turns_go_on.ensures _ (Ok None) _ _ _ _ _ _ _ _ _ _ _ _ _ _ before.turns next.turns;
             served = served_on _ _ _ _ _ _ _ _ _ _ _ _ _ _ _ _ before.served next.served;
@@ -74,9 +75,12 @@ loop-ending-preserved g c =
       few = c.serve_next.ensures.few;
       source_faults = read ∙ was.source_faults;
       sink_faults = c.in-Ok-None.ensures.sink_faults ∙ was.sink_faults;
-      made = λ sink. made_on _ _ _ _ _ _ _ _ _ _ (was.made sink) (made_ok_as _ _ c.in-Ok-None.field-0 _ _ _ _ _ (rw was.went.players at (c.in-Ok-None.ensures.made (was.sink_tells ∙ sink))));
-      leads = λ source. leads_on _ _ _ _ _ _ _ _ (was.leads source) (c.serve_next.ensures.leads (c.in-Ok-None.is ∙ ap Ok c.in-Ok-None.field-0-is) (was.source_tells ∙ source));
-      went = went_on _ _ _ _ was.went (went_so _ _ (λ number status has source. asks_before _ _ _ _ _ _ (was.leads source) number status (has (was.source_tells ∙ source))) _ _ c.serve_next.ensures.went);
+      made = λ sink. made_on _ _ _ _ _ _ _ _ _ _ (was.made sink) (made_ok_as _ _ c.in-Ok-None.field-0 _ _ _ _ _
+          (rw was.went.players at (c.in-Ok-None.ensures.made (was.sink_tells ∙ sink))));
+      leads = λ source. leads_on _ _ _ _ _ _ _ _ (was.leads source) (c.serve_next.ensures.leads (c.in-Ok-None.is ∙ ap Ok c.in-Ok-None.field-0-is)
+          (was.source_tells ∙ source));
+      went = went_on _ _ _ _ was.went (went_so _ _ (λ number status has source. asks_before _ _ _ _ _ _ (was.leads source) number status
+          (has (was.source_tells ∙ source))) _ _ c.serve_next.ensures.went);
     }
 
 pub returns-in-Ok-Some-clause-serves : goal.returns-in-Ok-Some-clause-serves
@@ -88,20 +92,24 @@ returns-in-Ok-Some-clause-serves g c =
       told = λ still delay is told source sink.
           let turn = rw c.in-Ok-Some.field-0-is at c.in-Ok-Some.ensures.told in
           let before = was.told still delay is told source sink in
-          let next = rw was.went.players at (turn still delay (was.went.gives delay is) (still_told _ _ _ was.went told) (was.source_tells ∙ source) (was.sink_tells ∙ sink)) in
+          let next = rw was.went.players at (turn still delay (was.went.gives delay is) (still_told _ _ _ was.went told) (was.source_tells ∙ source)
+                  (was.sink_tells ∙ sink)) in
           record {
-            runs = c.turns_are_a_run.ensures _ (Ok c.in-Ok-Some.ending) _ _ _ _ _ _ _ _ (c.turns_go_on.ensures _ (Ok (Some c.in-Ok-Some.ending)) _ _ _ _ _ _ _ _ _ _ _ _ _ _ before.turns next.turns);
+            runs = c.turns_are_a_run.ensures _ (Ok c.in-Ok-Some.ending) _ _ _ _ _ _ _ _
+                (c.turns_go_on.ensures _ (Ok (Some c.in-Ok-Some.ending)) _ _ _ _ _ _ _ _ _ _ _ _ _ _ before.turns next.turns);
             served = served_to _ _ _ _ _ _ _ _ _ _ _ _ _ _ _ before.served next.served;
           };
       reads = λ source.
           let next = (rw c.in-Ok-Some.field-0-is at c.in-Ok-Some.ensures.reads) (was.source_tells ∙ source) in
           record {
-            runs = c.reading_is_turns.ensures.run (Ok c.in-Ok-Some.ending) _ _ _ _ _ _ _ _ (c.reading_is_turns.ensures.on (Ok (Some c.in-Ok-Some.ending)) _ _ _ _ _ _ _ _ _ _ _ _ _ _ (was.reads source).turns next.turns);
+            runs = c.reading_is_turns.ensures.run (Ok c.in-Ok-Some.ending) _ _ _ _ _ _ _ _
+                (c.reading_is_turns.ensures.on (Ok (Some c.in-Ok-Some.ending)) _ _ _ _ _ _ _ _ _ _ _ _ _ _ (was.reads source).turns next.turns);
             takes = takes_on _ _ _ _ (was.reads source).takes next.takes;
           };
       writes = λ sink. ok_then _ c.in-Ok-Some.field-0 _ _ _ _ (was.writes sink) (c.in-Ok-Some.ensures.writes (was.sink_tells ∙ sink));
       few = c.serve_next.ensures.few;
-      went = went_on _ _ _ _ was.went (went_so _ _ (λ number status has source. asks_before _ _ _ _ _ _ (was.leads source) number status (has (was.source_tells ∙ source))) _ _ c.serve_next.ensures.went);
+      went = went_on _ _ _ _ was.went (went_so _ _ (λ number status has source. asks_before _ _ _ _ _ _ (was.leads source) number status
+          (has (was.source_tells ∙ source))) _ _ c.serve_next.ensures.went);
       source_faults = rw was.source_faults at (rw c.in-Ok-Some.field-0-is at c.in-Ok-Some.ensures.source_faults);
       sink_faults = c.in-Ok-Some.ensures.sink_faults ∙ was.sink_faults;
     }
@@ -114,20 +122,24 @@ returns-in-Err-serve_next-clause-serves g c =
       sink_tells = c.serve_next.ensures.sink_tells ∙ was.sink_tells;
       told = λ still delay is told source sink.
           let before = was.told still delay is told source sink in
-          let next = rw was.went.players at (c.in-Err-serve_next.ensures.told still delay (was.went.gives delay is) (still_told _ _ _ was.went told) (was.source_tells ∙ source) (was.sink_tells ∙ sink)) in
+          let next = rw was.went.players at (c.in-Err-serve_next.ensures.told still delay (was.went.gives delay is) (still_told _ _ _ was.went told)
+                  (was.source_tells ∙ source) (was.sink_tells ∙ sink)) in
           record {
-            runs = c.turns_are_a_run.ensures _ (Err c.in-Err-serve_next.stop) _ _ _ _ _ _ _ _ (c.turns_go_on.ensures _ (Err c.in-Err-serve_next.stop) _ _ _ _ _ _ _ _ _ _ _ _ _ _ before.turns next.turns);
+            runs = c.turns_are_a_run.ensures _ (Err c.in-Err-serve_next.stop) _ _ _ _ _ _ _ _
+                (c.turns_go_on.ensures _ (Err c.in-Err-serve_next.stop) _ _ _ _ _ _ _ _ _ _ _ _ _ _ before.turns next.turns);
             served = broken_on _ _ _ _ _ _ _ _ _ _ _ _ _ _ _ before.served next.served;
           };
       reads = λ source.
           let next = c.in-Err-serve_next.ensures.reads (was.source_tells ∙ source) in
           record {
-            runs = c.reading_is_turns.ensures.run (Err c.in-Err-serve_next.stop) _ _ _ _ _ _ _ _ (c.reading_is_turns.ensures.on (Err c.in-Err-serve_next.stop) _ _ _ _ _ _ _ _ _ _ _ _ _ _ (was.reads source).turns next.turns);
+            runs = c.reading_is_turns.ensures.run (Err c.in-Err-serve_next.stop) _ _ _ _ _ _ _ _
+                (c.reading_is_turns.ensures.on (Err c.in-Err-serve_next.stop) _ _ _ _ _ _ _ _ _ _ _ _ _ _ (was.reads source).turns next.turns);
             takes = takes_on _ _ _ _ (was.reads source).takes next.takes;
           };
       writes = λ sink. err_then _ c.in-Err-serve_next.stop _ _ _ (was.writes sink) (c.in-Err-serve_next.ensures.writes (was.sink_tells ∙ sink));
       few = c.serve_next.ensures.few;
-      went = went_on _ _ _ _ was.went (went_so _ _ (λ number status has source. asks_before _ _ _ _ _ _ (was.leads source) number status (has (was.source_tells ∙ source))) _ _ c.serve_next.ensures.went);
+      went = went_on _ _ _ _ was.went (went_so _ _ (λ number status has source. asks_before _ _ _ _ _ _ (was.leads source) number status
+          (has (was.source_tells ∙ source))) _ _ c.serve_next.ensures.went);
       source_faults = c.in-Err-serve_next.ensures.source_faults ∙ was.source_faults;
       sink_faults = rw was.sink_faults at c.in-Err-serve_next.ensures.sink_faults;
     }
@@ -138,9 +150,11 @@ returns-in-Err-clause-made g c = λ sink. made_broken _ _ _ _ _ _
 pub returns-in-Ok-Some-clause-made : goal.returns-in-Ok-Some-clause-made
 returns-in-Ok-Some-clause-made g c = λ sink.
     let was = c.loop-ending.invariant in
-    made_on _ _ _ _ _ _ _ _ _ _ (was.made sink) (made_ok_as _ _ c.in-Ok-Some.field-0 _ _ _ _ _ (rw was.went.players at (c.in-Ok-Some.ensures.made (was.sink_tells ∙ sink))))
+    made_on _ _ _ _ _ _ _ _ _ _ (was.made sink) (made_ok_as _ _ c.in-Ok-Some.field-0 _ _ _ _ _
+        (rw was.went.players at (c.in-Ok-Some.ensures.made (was.sink_tells ∙ sink))))
 
 pub returns-in-Err-serve_next-clause-made : goal.returns-in-Err-serve_next-clause-made
 returns-in-Err-serve_next-clause-made g c = λ sink.
     let was = c.loop-ending.invariant in
-    made_on _ _ _ _ _ _ _ _ _ _ (was.made sink) (made_err_as _ _ c.in-Err-serve_next.stop _ _ _ _ (rw was.went.players at (c.in-Err-serve_next.ensures.made (was.sink_tells ∙ sink))))
+    made_on _ _ _ _ _ _ _ _ _ _ (was.made sink) (made_err_as _ _ c.in-Err-serve_next.stop _ _ _ _
+        (rw was.went.players at (c.in-Err-serve_next.ensures.made (was.sink_tells ∙ sink))))

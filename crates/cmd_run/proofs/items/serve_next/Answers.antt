@@ -32,7 +32,9 @@ returns-in-Err-serve-clause-told g c = λ still delay is told source sink.
     let written = c.in-Err-serve.ensures.writes sink in
     record {
       turns = c.found_item_is_a_turn.ensures.item _ _ _ _ _ _ _ _ _ _ _ _ (Err c.in-Err-serve.stop) found (finds source) (served still delay is told sink);
-      served = broken_off _ _ _ _ _ _ _ _ written.text _ _ written.written (proceeds_so _ _ (λ number status asks. item_asks_first _ _ g.P.Protocol.asked _ _ _ _ _ _ _ _ found (finds source) number status asks) _ _ _ _ _ went);
+      served = broken_off _ _ _ _ _ _ _ _ written.text _ _ written.written
+          (proceeds_so _ _ (λ number status asks. item_asks_first _ _ g.P.Protocol.asked _ _ _ _ _ _ _ _ found (finds source) number status asks) _ _
+          _ _ _ went);
     }
 
 pub returns-in-Ok-Some-clause-told : goal.returns-in-Ok-Some-clause-told
@@ -41,7 +43,8 @@ returns-in-Ok-Some-clause-told g c = λ still delay is told source sink.
     let finds = rw c.in-Ok-Item.field-0-is at c.in-Ok-Item.ensures.told in
     let served = rw (c.bytes.ensures, c.in-Ok-Some.field-0-is) at c.in-Ok-Some.ensures.told in
     record {
-      turns = rw c.in-Ok-Some.kind-is (c.found_item_is_a_turn.ensures.item _ _ _ _ _ _ _ _ _ _ _ _ (Ok (Some c.in-Ok-Some.kind)) found (finds source) (served still delay is told sink));
+      turns = rw c.in-Ok-Some.kind-is (c.found_item_is_a_turn.ensures.item _ _ _ _ _ _ _ _ _ _ _ _ (Ok (Some c.in-Ok-Some.kind)) found (finds source)
+          (served still delay is told sink));
       served = refused_served _ _ _ _ _ c.in-Ok-Some.kind _ _ _ _ _ _ _ (served still delay is told sink);
     }
 
@@ -53,7 +56,8 @@ returns-in-Ok-None-clause-told g c = λ still delay is told source sink.
     let moves = rw c.bytes.ensures at (c.serve.ensures.moves (c.in-Ok-None.is ∙ ap Ok c.in-Ok-None.field-0-is)) in
     record {
       turns = rw c.skip.ensures (c.found_item_is_a_turn.ensures.item _ _ _ _ _ _ _ _ _ _ _ _ (Ok None) found (finds source) (served still delay is told sink));
-      served = rw c.skip.ensures (one_served _ _ _ _ _ _ _ _ _ _ _ _ _ (item_first _ _ g.P.Protocol.asked _ _ _ _ _ _ _ _ found (finds source)) (served still delay is told sink) moves);
+      served = rw c.skip.ensures (one_served _ _ _ _ _ _ _ _ _ _ _ _ _ (item_first _ _ g.P.Protocol.asked _ _ _ _ _ _ _ _ found (finds source))
+          (served still delay is told sink) moves);
     }
 
 pub returns-in-Err-serve-2-clause-told : goal.returns-in-Err-serve-2-clause-told
@@ -65,7 +69,9 @@ returns-in-Err-serve-2-clause-told g c = λ still delay is told source sink.
     let written = c.in-Err-serve-2.ensures.writes sink in
     record {
       turns = c.found_item_is_a_turn.ensures.rest _ _ _ _ _ _ _ _ _ _ (Err c.in-Err-serve-2.stop) found (finds source) (served still delay is told sink);
-      served = broken_off _ _ _ _ _ _ _ _ written.text _ _ written.written (proceeds_so _ _ (λ number status asks. rest_asks_first _ _ _ _ _ _ _ c.does.ensures c.keeps.ensures.reads _ _ _ _ _ (finds source) number status asks) _ _ _ _ _ went);
+      served = broken_off _ _ _ _ _ _ _ _ written.text _ _ written.written
+          (proceeds_so _ _ (λ number status asks. rest_asks_first _ _ _ _ _ _ _ c.does.ensures c.keeps.ensures.reads _ _ _ _ _ (finds source) number status
+          asks) _ _ _ _ _ went);
     }
 
 pub returns-in-Ok-Some-serve-clause-told : goal.returns-in-Ok-Some-serve-clause-told
@@ -74,7 +80,8 @@ returns-in-Ok-Some-serve-clause-told g c = λ still delay is told source sink.
     let finds = rw c.in-Ok-Rest.field-0-is at c.in-Ok-Rest.ensures.told in
     let served = rw (c.bytes-in-Ok-Rest.ensures, c.in-Ok-Some-serve.field-0-is) at c.in-Ok-Some-serve.ensures.told in
     record {
-      turns = rw c.in-Ok-Some-serve.kind-is (c.found_item_is_a_turn.ensures.rest _ _ _ _ _ _ _ _ _ _ (Ok (Some c.in-Ok-Some-serve.kind)) found (finds source) (served still delay is told sink));
+      turns = rw c.in-Ok-Some-serve.kind-is (c.found_item_is_a_turn.ensures.rest _ _ _ _ _ _ _ _ _ _ (Ok (Some c.in-Ok-Some-serve.kind)) found (finds source)
+          (served still delay is told sink));
       served = refused_served _ _ _ _ _ c.in-Ok-Some-serve.kind _ _ _ _ _ _ _ (served still delay is told sink);
     }
 
@@ -87,7 +94,8 @@ returns-in-Ok-None-serve-clause-told g c = λ still delay is told source sink.
     let accepted = rw c.bytes-in-Ok-Rest.ensures at (c.serve-in-Ok-Rest.ensures.accepted (c.in-Ok-None-serve.is ∙ ap Ok c.in-Ok-None-serve.field-0-is)) in
     record {
       turns = c.found_item_is_a_turn.ensures.rest _ _ _ _ _ _ _ _ _ _ (Ok None) found (finds source) (served still delay is told sink);
-      served = ([], one_served _ _ _ _ _ _ _ _ _ _ _ _ [] (rest_is _ _ _ _ _ _ _ c.does.ensures c.keeps.ensures.reads _ _ _ _ _ (finds source) accepted.0 accepted.1) (served still delay is told sink) moves);
+      served = ([], one_served _ _ _ _ _ _ _ _ _ _ _ _ [] (rest_is _ _ _ _ _ _ _ c.does.ensures c.keeps.ensures.reads _ _ _ _ _ (finds source) accepted.0
+          accepted.1) (served still delay is told sink) moves);
     }
 
 pub returns-in-Err-clause-went : goal.returns-in-Err-clause-went
@@ -121,19 +129,22 @@ pub returns-in-Err-serve-2-clause-went : goal.returns-in-Err-serve-2-clause-went
 returns-in-Err-serve-2-clause-went g c =
     let finds = rw c.in-Ok-Rest.field-0-is at c.in-Ok-Rest.ensures.told in
     let served = rw c.bytes-in-Ok-Rest.ensures at c.serve-in-Ok-Rest.ensures.went in
-    went_so _ _ (λ number status asks source. rest_asks _ _ _ _ _ _ _ c.does.ensures c.keeps.ensures.reads _ _ _ _ _ (finds source) c.find_item.ensures.bytes number status asks) _ _ served
+    went_so _ _ (λ number status asks source. rest_asks _ _ _ _ _ _ _ c.does.ensures c.keeps.ensures.reads _ _ _ _ _ (finds source) c.find_item.ensures.bytes
+        number status asks) _ _ served
 
 pub returns-in-Ok-Some-serve-clause-went : goal.returns-in-Ok-Some-serve-clause-went
 returns-in-Ok-Some-serve-clause-went g c =
     let finds = rw c.in-Ok-Rest.field-0-is at c.in-Ok-Rest.ensures.told in
     let served = rw c.bytes-in-Ok-Rest.ensures at c.serve-in-Ok-Rest.ensures.went in
-    went_so _ _ (λ number status asks source. rest_asks _ _ _ _ _ _ _ c.does.ensures c.keeps.ensures.reads _ _ _ _ _ (finds source) c.find_item.ensures.bytes number status asks) _ _ served
+    went_so _ _ (λ number status asks source. rest_asks _ _ _ _ _ _ _ c.does.ensures c.keeps.ensures.reads _ _ _ _ _ (finds source) c.find_item.ensures.bytes
+        number status asks) _ _ served
 
 pub returns-in-Ok-None-serve-clause-went : goal.returns-in-Ok-None-serve-clause-went
 returns-in-Ok-None-serve-clause-went g c =
     let finds = rw c.in-Ok-Rest.field-0-is at c.in-Ok-Rest.ensures.told in
     let served = rw c.bytes-in-Ok-Rest.ensures at c.serve-in-Ok-Rest.ensures.went in
-    went_so _ _ (λ number status asks source. rest_asks _ _ _ _ _ _ _ c.does.ensures c.keeps.ensures.reads _ _ _ _ _ (finds source) c.find_item.ensures.bytes number status asks) _ _ served
+    went_so _ _ (λ number status asks source. rest_asks _ _ _ _ _ _ _ c.does.ensures c.keeps.ensures.reads _ _ _ _ _ (finds source) c.find_item.ensures.bytes
+        number status asks) _ _ served
 
 pub returns-in-Ok-None-clause-leads : goal.returns-in-Ok-None-clause-leads
 returns-in-Ok-None-clause-leads g c = λ none source.

@@ -6,7 +6,8 @@ use Rattle.cmd_run.proofs.laws.numbers_stand_side_by_side.Goals as goal
 pub returns : goal.returns
 returns c = record {
   alone = λ setting start bytes ended number slot is. record {
-    slot_is = ap (λ slots. slot_at slots number) (sym (slots_of setting start bytes ended)) ∙ c.places_stand_side_by_side.ensures.slot setting.players setting.delay number _ start.slots slot is;
+    slot_is = ap (λ slots. slot_at slots number) (sym (slots_of setting start bytes ended))
+        ∙ c.places_stand_side_by_side.ensures.slot setting.players setting.delay number _ start.slots slot is;
     outcomes_are = c.places_stand_side_by_side.ensures.outcomes setting.players setting.delay number _ start.slots slot is;
   };
   steps = tells_steps;

@@ -11,7 +11,8 @@ returns-clause-told g c = λ still delay is told sink.
     rw (c.keep_time.ensures.told still) at (c.serve_now.ensures.told delay is (rw c.keep_time.ensures.tells told) sink)
 
 pub returns-clause-went : goal.returns-clause-went
-returns-clause-went g c = went_on _ _ _ _ (went_quietly _ _ _ refl refl c.keep_time.ensures.tells (λ number gives. gives) (λ number gives. gives) refl (ap (λ (p : Process). p.ledger) c.keep_time.ensures.process) c.requires) c.serve_now.ensures.went
+returns-clause-went g c = went_on _ _ _ _ (went_quietly _ _ _ refl refl c.keep_time.ensures.tells (λ number gives. gives) (λ number gives. gives) refl
+    (ap (λ (p : Process). p.ledger) c.keep_time.ensures.process) c.requires) c.serve_now.ensures.went
 
 pub returns-clause-moves : goal.returns-clause-moves
 returns-clause-moves g c = λ none. rw c.keep_time.ensures.process at (c.serve_now.ensures.moves none)

@@ -45,13 +45,16 @@ pub returns-in-Ok-Blank-clause-went : goal.returns-in-Ok-Blank-clause-went
 returns-in-Ok-Blank-clause-went g c = went_nowhere _ _ c.requires
 
 pub returns-in-Ok-At-clause-went : goal.returns-in-Ok-At-clause-went
-returns-in-Ok-At-clause-went g c = went_quietly _ _ _ refl refl c.set_world_moment.ensures.tells (λ number gives. gives) (λ number gives. gives) refl (rw c.set_world_moment.ensures.process refl) c.requires
+returns-in-Ok-At-clause-went g c = went_quietly _ _ _ refl refl c.set_world_moment.ensures.tells (λ number gives. gives) (λ number gives. gives) refl
+    (rw c.set_world_moment.ensures.process refl) c.requires
 
 pub returns-in-Ok-Random-clause-went : goal.returns-in-Ok-Random-clause-went
-returns-in-Ok-Random-clause-went g c = went_quietly _ _ _ refl refl c.set_world_word.ensures.tells (λ number gives. gives) (λ number gives. gives) refl (rw c.set_world_word.ensures.process refl) c.requires
+returns-in-Ok-Random-clause-went g c = went_quietly _ _ _ refl refl c.set_world_word.ensures.tells (λ number gives. gives) (λ number gives. gives) refl
+    (rw c.set_world_word.ensures.process refl) c.requires
 
 pub returns-in-Ok-Caller-clause-went : goal.returns-in-Ok-Caller-clause-went
-returns-in-Ok-Caller-clause-went g c = went_quietly _ _ _ refl refl c.set_caller.ensures.tells (λ number gives. gives) (λ number gives. gives) refl c.set_caller.ensures.ledger c.requires
+returns-in-Ok-Caller-clause-went g c = went_quietly _ _ _ refl refl c.set_caller.ensures.tells (λ number gives. gives) (λ number gives. gives) refl
+    c.set_caller.ensures.ledger c.requires
 
 pub returns-in-Ok-Blank-clause-moves : goal.returns-in-Ok-Blank-clause-moves
 returns-in-Ok-Blank-clause-moves g c = λ none.
@@ -157,28 +160,33 @@ pub returns-in-Ok-write_step-clause-told : goal.returns-in-Ok-write_step-clause-
 returns-in-Ok-write_step-clause-told g c = λ delay is told sink.
     let e = rw c.in-Ok-Step.field-0-is at c.in-Ok-Step.ensures.asks in
     c.item_is_served.ensures.written _ (Ok c.in-Ok-write_step.field-0) _ _ _ _ _ _ _
-    (called_item _ _ _ _ _ c.does.ensures _ _ _ _ _ e _ _ _ _ (c.in-Ok.ensures.told delay is told) (rw c.apply.ensures.gear refl)) (c.in-Ok-write_step.ensures.told sink)
+    (called_item _ _ _ _ _ c.does.ensures _ _ _ _ _ e _ _ _ _ (c.in-Ok.ensures.told delay is told) (rw c.apply.ensures.gear refl))
+        (c.in-Ok-write_step.ensures.told sink)
 
 pub returns-clause-told : goal.returns-clause-told
 returns-clause-told g c = λ delay is told sink.
     let e = rw c.in-Ok-Step.field-0-is at c.in-Ok-Step.ensures.asks in
     report_stopped _ _ (c.item_is_served.ensures.written _) (c.item_is_served.ensures.begun _) c.in-Err-write_step.stop _ _ _ _ _ _ _
-    (called_item _ _ _ _ _ c.does.ensures _ _ _ _ _ e _ _ _ _ (c.in-Ok.ensures.told delay is told) (rw c.apply.ensures.gear refl)) (c.in-Err-write_step.ensures.told sink)
+    (called_item _ _ _ _ _ c.does.ensures _ _ _ _ _ e _ _ _ _ (c.in-Ok.ensures.told delay is told) (rw c.apply.ensures.gear refl))
+        (c.in-Err-write_step.ensures.told sink)
 
 pub returns-in-Err-clause-went : goal.returns-in-Err-clause-went
 returns-in-Err-clause-went g c =
     let e = rw c.in-Ok-Step.field-0-is at c.in-Ok-Step.ensures.asks in
-    went_as_asked _ _ e _ _ (rw c.apply.ensures.gear refl) (λ number gives. rw c.apply.ensures.gear gives) (λ number gives. rw c.apply.ensures.gear at gives) c.apply.ensures.keeps
+    went_as_asked _ _ e _ _ (rw c.apply.ensures.gear refl) (λ number gives. rw c.apply.ensures.gear gives) (λ number gives. rw c.apply.ensures.gear at gives)
+        c.apply.ensures.keeps
 
 pub returns-in-Ok-write_step-clause-went : goal.returns-in-Ok-write_step-clause-went
 returns-in-Ok-write_step-clause-went g c =
     let e = rw c.in-Ok-Step.field-0-is at c.in-Ok-Step.ensures.asks in
-    went_as_asked _ _ e _ _ (rw c.apply.ensures.gear refl) (λ number gives. rw c.apply.ensures.gear gives) (λ number gives. rw c.apply.ensures.gear at gives) c.apply.ensures.keeps
+    went_as_asked _ _ e _ _ (rw c.apply.ensures.gear refl) (λ number gives. rw c.apply.ensures.gear gives) (λ number gives. rw c.apply.ensures.gear at gives)
+        c.apply.ensures.keeps
 
 pub returns-clause-went : goal.returns-clause-went
 returns-clause-went g c =
     let e = rw c.in-Ok-Step.field-0-is at c.in-Ok-Step.ensures.asks in
-    went_as_asked _ _ e _ _ (rw c.apply.ensures.gear refl) (λ number gives. rw c.apply.ensures.gear gives) (λ number gives. rw c.apply.ensures.gear at gives) c.apply.ensures.keeps
+    went_as_asked _ _ e _ _ (rw c.apply.ensures.gear refl) (λ number gives. rw c.apply.ensures.gear gives) (λ number gives. rw c.apply.ensures.gear at gives)
+        c.apply.ensures.keeps
 
 pub returns-in-Ok-write_step-clause-moves : goal.returns-in-Ok-write_step-clause-moves
 returns-in-Ok-write_step-clause-moves g c = λ none.
@@ -231,8 +239,10 @@ returns-in-Err-clause-made g c = λ sink. made_broken _ _ _ _ _ _
 
 pub returns-in-Ok-write_step-clause-made : goal.returns-in-Ok-write_step-clause-made
 returns-in-Ok-write_step-clause-made g c = λ sink.
-    made_one _ _ _ _ _ _ _ c.in-Ok.ensures.answers.answer c.in-Ok.ensures.answers.traces c.apply.ensures.leaves.others _ _ _ c.in-Ok-write_step.field-0 (rw c.apply.ensures.gear at (c.in-Ok-write_step.ensures.told sink))
+    made_one _ _ _ _ _ _ _ c.in-Ok.ensures.answers.answer c.in-Ok.ensures.answers.traces c.apply.ensures.leaves.others _ _ _ c.in-Ok-write_step.field-0
+        (rw c.apply.ensures.gear at (c.in-Ok-write_step.ensures.told sink))
 
 pub returns-clause-made : goal.returns-clause-made
 returns-clause-made g c = λ sink.
-    made_cut _ _ _ _ _ _ _ c.in-Ok.ensures.answers.answer c.in-Ok.ensures.answers.traces c.apply.ensures.leaves.others _ _ c.in-Err-write_step.stop (rw c.apply.ensures.gear at (c.in-Err-write_step.ensures.told sink))
+    made_cut _ _ _ _ _ _ _ c.in-Ok.ensures.answers.answer c.in-Ok.ensures.answers.traces c.apply.ensures.leaves.others _ _ c.in-Err-write_step.stop
+        (rw c.apply.ensures.gear at (c.in-Err-write_step.ensures.told sink))

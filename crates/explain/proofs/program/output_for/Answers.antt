@@ -16,7 +16,8 @@ returns-in-None-clause-told g c = λ tells reads.
     usage_given (asked_of c.args.words.now) old old _ _ _ c.line_by.result c.in-None.ensures c.line_by.ensures
 
 pub returns-in-Some-clause-causes : goal.returns-in-Some-clause-causes
-returns-in-Some-clause-causes g c = asked_causes _ _ _ _ c.explained_input.result (asked_of c.args.words.now) _ c.in-Some.ensures c.explained_input.ensures.shows
+returns-in-Some-clause-causes g c = asked_causes _ _ _ _ c.explained_input.result (asked_of c.args.words.now) _ c.in-Some.ensures
+    c.explained_input.ensures.shows
 
 pub returns-in-None-clause-causes : goal.returns-in-None-clause-causes
 returns-in-None-clause-causes g c = usage_causes _ _ _ _ c.line_by.result (asked_of c.args.words.now) c.in-None.ensures c.line_by.ensures

@@ -21,7 +21,8 @@ returns-clause-closings c = λ path setting n s script status alone.
     let run = c.runs_change_files_by_plays.ensures.script setting n s script in (
       run.0,
       run.1,
-      subst (λ (files : List File). Tallies path setting.players s.world.vault.files run.0 files) (sym (c.runs_change_files_by_plays.ensures.closings setting.players status last))
+      subst (λ (files : List File). Tallies path setting.players s.world.vault.files run.0 files)
+          (sym (c.runs_change_files_by_plays.ensures.closings setting.players status last))
           (tallies path setting.players alone c.recorded_failures_stand.ensures.one c.written_tallies_are_read.ensures.new c.recorded_failures_stand.ensures.all
           s.world.vault.files run.0 last.world.vault.files run.2),
     )

@@ -11,7 +11,8 @@ use Rattle.pass_replay.specs.Walk.{WalkEnds, after_line, state_in}
 use Rattle.pass_replay.proofs.Peeling.{few_there, peeled, peeled_line, peeled_sub, some_left}
 use Rattle.pass_replay.proofs.Walking.{sub_put_off, walking_line, walking_skip, walking_sub}
 use Rattle.pass_replay.proofs.walk.+walk_nodes.Goals as goal
-use Rattle.pass_replay.proofs.walk.+walk_nodes.Goals.{then-skip-gt0, else-skip-gt0+in-Line+in_ok-onward-in-Line+in-Some, else-skip-gt0+in-Sub+in_ok-inside-in-Sub+in-Some-2}
+use Rattle.pass_replay.proofs.walk.+walk_nodes.Goals.{then-skip-gt0, else-skip-gt0+in-Line+in_ok-onward-in-Line+in-Some}
+use Rattle.pass_replay.proofs.walk.+walk_nodes.Goals.{else-skip-gt0+in-Sub+in_ok-inside-in-Sub+in-Some-2}
 
 pub overflow_sub-left : goal.overflow_sub-left
 overflow_sub-left t c = some_left _ _ _ _ c.loop-node-test.true c.node-item.is c.loop-node.invariant.counted
@@ -30,7 +31,8 @@ pub walk_nodes-requires : goal.walk_nodes-requires
 walk_nodes-requires t c =
     let here = peeled_sub _ _ _ _ c.loop-node-test.true c.node-item.is c.in-Sub.is in
     let falls : depth (stack_of c.in-Sub.inner.vec.items) < t = omega (arith, ap depth here, c.loop-node.invariant.shallow, c.decreases) in
-    let few : c.loop-node.replay.at + lines_in (stack_of c.in-Sub.inner.vec.items) ≤ 4096 = omega (arith, ap lines_in here, c.loop-node.invariant.placed, c.requires.few) in
+    let few : c.loop-node.replay.at + lines_in (stack_of c.in-Sub.inner.vec.items) ≤ 4096 =
+            omega (arith, ap lines_in here, c.loop-node.invariant.placed, c.requires.few) in
     (falls, few)
 
 pub returns-in_default-2-clause-comes : goal.returns-in_default-2-clause-comes
@@ -63,7 +65,8 @@ loop-node-preserved t c =
           subst (λ (o : Option NextNode). walk c.args.kind serve 0 (line w.in-Line.rule rest) (c.loop-node.replay.at + 1) c.args.entry c.loop-node.opinion old
           ≡ after_line c.args.kind serve rest (c.loop-node.replay.at + 1 + 1) c.args.entry c.loop-node.opinion o new)
           w.in-Some.is (w.in_ok-onward-in-Line.ensures.goes rest counted) in
-          let further = subst (λ (o : Option NextNode). IfSome o (λ _. w.walk_line.new.replay.at ≡ c.loop-node.replay.at + 1)) w.in-Some.is w.in_ok-onward-in-Line.ensures.at in
+          let further = subst (λ (o : Option NextNode). IfSome o (λ _. w.walk_line.new.replay.at ≡ c.loop-node.replay.at + 1)) w.in-Some.is
+                  w.in_ok-onward-in-Line.ensures.at in
           rw (w.replay-is, w.opinion-is, w.skip-is)
           (walking_line _ _ _ _ _ _ _ _ _ _ _ _ _ _ _ _ _ _ c.loop-node.invariant here none_over further refl goes)
       | else-skip-gt0+in-Sub+in_ok-inside-in-Sub+in-Some-2 w ↦
@@ -74,7 +77,8 @@ loop-node-preserved t c =
           (state_in c.args.past.now c.args.told.now c.loop-node.replay) in
           let comes = subst (λ (end : Option Opinion). WalkEnds inside end (state_in c.args.past.now c.args.told.now w.walk_nodes.new.replay))
           w.in-Some-2.is w.in_ok-inside-in-Sub.ensures.comes in
-          let further = subst (λ (end : Option Opinion). IfSome end (λ _. w.walk_nodes.new.replay.at ≡ c.loop-node.replay.at + lines_in (stack_of w.in-Sub.inner.vec.items)))
+          let further = subst (λ (end : Option Opinion). IfSome end (λ _. w.walk_nodes.new.replay.at
+                  ≡ c.loop-node.replay.at + lines_in (stack_of w.in-Sub.inner.vec.items)))
           w.in-Some-2.is w.in_ok-inside-in-Sub.ensures.at in
           let skip_is = w.skip-is ∙ none_over in
           rw (w.replay-is, w.opinion-is, skip_is)
