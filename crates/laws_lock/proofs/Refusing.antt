@@ -27,7 +27,7 @@ use Rattle.mod_tally.specs.Settings.{PlainSettings, settings_of, task_among, tas
 use Rattle.mod_tally.specs.Tally.{failures_of, is_locked}
 use Rattle.laws_lock.specs.Locked.{IsLocked, LockedIsRefused}
 
-read_whole : (failing : Bool) (limit : ℕ) (there : Option (List ℕ)) (text : List ℕ) → failing ≡ false → there ≡ Some text → length text ≤ limit
+pub read_whole : (failing : Bool) (limit : ℕ) (there : Option (List ℕ)) (text : List ℕ) → failing ≡ false → there ≡ Some text → length text ≤ limit
     → content_of failing limit there ≡ content.Holds text
 unfolding content_of
 read_whole true limit there text works is fits = absurd (true≢false works)
@@ -36,7 +36,7 @@ read_whole false limit (Some bytes) text works is fits =
     let same : bytes ≡ text = cc in
     rw (same, le-ltb limit (length text) fits) refl
 
-rooted : (folder user : List ℕ) → is_rooted folder ≡ true → is_rooted (tally_name folder user) ≡ true
+pub rooted : (folder user : List ℕ) → is_rooted folder ≡ true → is_rooted (tally_name folder user) ≡ true
 rooted [] user e = absurd (true≢false (sym e))
 rooted (b ∷ bs) user e = rw e e
 
@@ -83,7 +83,7 @@ module _ (s : PlainSettings) where
         ∙ read_tally (task_if_readable task s file lock answers) (is_rooted file) file tally failures stage (rooted s.folder user folder) seen are
         (locks file lock failures (record stage { sight = later stage.sight }) locked)
 
-    found_so : (entries : List Passwd) (entry : Passwd) (text : List ℕ) (c : Content) → c ≡ content.Holds text → passwds_of text ≡ Ok entries
+    pub found_so : (entries : List Passwd) (entry : Passwd) (text : List ℕ) (c : Content) → c ≡ content.Holds text → passwds_of text ≡ Ok entries
         → entry_of user entries ≡ Some entry → account_in user (passwds_in c) ≡ found entry
     found_so entries entry text c is are there =
         ap (λ (x : Content). account_in user (passwds_in x)) is ∙ ap (λ (r : Result (List Passwd) DbFault). account_in user (result_ok r)) are
