@@ -11,8 +11,12 @@ use Rattle.cmd_all.specs.Exit.{exit_status, script_exit}
 use Rattle.cmd_all.specs.Run.{HasRefused, IsAccepted, ReadsBy}
 
 pub nothing_read : (status : ℕ) (x : SourceState) → status ≡ exit_status exits.NoMemory → ReadsBy status x x
-nothing_read status x is = record { result = Err NoMemory; is = is; reads =
-    record { taken = []; source = refl; reads = omega arith; ends = omega arith; by = tt } }
+nothing_read status x is = record {
+  result = Err NoMemory;
+  is = is;
+  reads =
+      record { taken = []; source = refl; reads = omega arith; ends = omega arith; by = tt };
+}
 
 pub nothing_written : (p : SinkState) → WritesScript p p
 nothing_written p = record { text = []; written = sym (append-nil p.written); calls = omega arith }

@@ -115,9 +115,9 @@ pub cleaned_at : (P Is : ℕ → ℕ → Type 0) → ((number status : ℕ) → 
 cleaned_at P Is also root setup old s t e law library players slots same went none =
     let stand : StandFor (notes_of t.players) 17 old.process.ledger (lists_of t.slots) [] =
     subst₂ (λ (ps : List Player) (ss : List PlainSlot). StandFor (notes_of ps) 17 old.process.ledger (lists_of ss) []) (sym players) (sym slots)
-        library.none_yet in
+    library.none_yet in
     let ledger : t.world.process.ledger ≡ old.process.ledger = ap (λ (p : PlainProcess). p.ledger) same
-            ∙ ap (λ (w : PlainWorld). w.process.ledger) library.world_is in
+    ∙ ap (λ (w : PlainWorld). w.process.ledger) library.world_is in
     subst (λ (ps : List Player). IsCleanedUp Is (notes_of ps) e.world.process.ledger) (players ∙ library.players)
     (cleaned_up Is (notes_of t.players) old.process.ledger t.world.process.ledger e.world.process.ledger t.slots e.slots law stand ledger
     (proceeds_too P Is also (notes_of t.players) t.world.process.ledger (lists_of t.slots) e.world.process.ledger (lists_of e.slots) went.proceeds) none)

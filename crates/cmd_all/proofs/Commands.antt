@@ -66,13 +66,13 @@ module _ (root : List ℕ) (status : ℕ) (setup : Setup) (world : Around) (inpu
   runs_so told known reads complete writes reports = record {
     done = λ number given source sink both. λ is.
         done_of (setting_of setup.players number) status setup.slots root world.old world.new input.old input.new output.old output.new
-            (told number given source sink both) is;
+        (told number given source sink both) is;
     refused = λ number given source sink both. λ is.
         refused_of (setting_of setup.players number) status setup.slots root world.old world.new input.old input.new output.old output.new
-            (told number given source sink both) is;
+        (told number given source sink both) is;
     unread = λ number given source sink both. λ is.
         unread_of (setting_of setup.players number) status setup.slots root world.old world.new input.old input.new output.old output.new
-            (told number given source sink both) is;
+        (told number given source sink both) is;
     told = told;
     statuses = known;
     complete = complete;
@@ -89,12 +89,12 @@ module _ (root : List ℕ) (status : ℕ) (setup : Setup) (world : Around) (inpu
       → (IsTrue input.tells → ReadsFramesBy status input.old input.new)
       → (IsTrue input.tells → WireCompletes status input.old.left (Rose input.faults_before input.faults_after) (Rose output.faults_before output.faults_after))
       → (IsTrue output.tells → WritesScript output.old output.new) → (IsTrue output.tells → ReportsFrames status setup output.old output.new)
-          → (IsReadThrough status → input.faults_after ≡ input.faults_before)
+      → (IsReadThrough status → input.faults_after ≡ input.faults_before)
       → WiresSo root status setup world input output
   wires_so told known reads complete writes reports through = record {
     wire_answered = λ number given source sink both.
         answered (setting_of setup.players number) status setup.slots root world.old world.new input.old input.new output.old output.new
-            (told number given source sink both);
+        (told number given source sink both);
     wire_told = told;
     wire_statuses = known;
     wire_reads = reads;
@@ -247,4 +247,4 @@ module _ (command : Option Command) (status : ℕ) (setup : Setup) (world : Arou
       let second : s ≡ service = cc in
       let third : u ≡ user = cc in
       subst (λ (z : Option (List ℕ)). LogsInSo root service z status setup world output) third
-          (subst₂ (λ (x y : List ℕ). LogsInSo x y u status setup world output) first second so)
+      (subst₂ (λ (x y : List ℕ). LogsInSo x y u status setup world output) first second so)

@@ -30,7 +30,7 @@ module _ (root : List ℕ) (setup : Setup) (old : PlainWorld) (s : Seen) (new : 
   logged_at : (setting : Setting) (slots : List PlainSlot) (now : PlainWorld) (result : Result Verdict Stop) (status : ℕ)
       → status ≡ exit_status (login_exit result) → now ≡ at_root root old
       → LogsIn setting (login_of setting service user (state_of slots now)) result (state_of slots now) (state_of ends new) p q
-          → IsLogin setting status service user (entry slots root old) new p q
+      → IsLogin setting status service user (entry slots root old) new p q
   logged_at setting slots now result status is under logs = record {
     result = result;
     is = is;
@@ -42,11 +42,11 @@ module _ (root : List ℕ) (setup : Setup) (old : PlainWorld) (s : Seen) (new : 
 
   pub logged_in : (number : Code → ℕ → ℕ) (result : Result Verdict Stop) (status : ℕ) → status ≡ exit_status (login_exit result) → IsOpened root setup old s
       → LogsIn (setting_of s.players number) (login_of (setting_of s.players number) service user (state_of s.slots s.world)) result (state_of s.slots s.world)
-          (state_of ends new) p q
+      (state_of ends new) p q
       → IsLogin (setting_of setup.players number) status service user (entry setup.slots root old) new p q
   logged_in number result status is opened logs =
       subst₂ (λ (players : List Player) (slots : List PlainSlot). IsLogin (setting_of players number) status service user (entry slots root old) new p q)
-          opened.players opened.slots
+      opened.players opened.slots
       (logged_at (setting_of s.players number) s.slots s.world result status is opened.world_is logs)
 
 -- a library that comes from one setup comes from another one, too, if both give the same
@@ -90,7 +90,7 @@ pub logs_in_so : (root service : List ℕ) (user : Option (List ℕ)) (status : 
     → ((number : Code → ℕ → ℕ) → setup.gives number → given.gives number) → s.world_tells ≡ world.tells → status ≡ exit_status (login_exit result)
     → (IsTrue setup.tells → (number : Code → ℕ → ℕ) → s.gives number → IsTrue (s.tells && s.world_tells) → IsTrue output.tells
     → LogsIn (setting_of s.players number) (login_of (setting_of s.players number) service user (state_of s.slots s.world)) result (state_of s.slots s.world)
-        (state_of ends world.new) output.old output.new)
+    (state_of ends world.new) output.old output.new)
     → (IsTrue output.tells → ShowsLogin service user status output.old output.new)
     → LogsInSo root service user status setup world output
 logs_in_so root service user status setup world output given s ends result opened players slots tells gives world_tells is told shows = record {
@@ -98,8 +98,8 @@ logs_in_so root service user status setup world output given s ends result opene
       let library : IsOpened root setup world.old s = opened_as root given setup world.old s players slots tells gives opened in
       inl (logged_in root setup world.old s world.new ends service user output.old output.new number result status is library
       (told (both_right world.tells setup.tells both) number (library.gives number gives_it)
-          (both_true s.tells s.world_tells (library.tells (both_right world.tells setup.tells both))
-          (world_tells ∙ both_left world.tells setup.tells both)) sink));
+      (both_true s.tells s.world_tells (library.tells (both_right world.tells setup.tells both))
+      (world_tells ∙ both_left world.tells setup.tells both)) sink));
   login_shows = shows;
   login_statuses = (result, is);
 }
@@ -123,5 +123,5 @@ module _ (players given : List Player) (slots closed ends : List PlainSlot) (old
       → GeneratesBy (setting_of given number) status closed seed lines old new p q
   generated number seed lines result status same_players same_slots is generates = inl (
       subst₂ (λ (ps : List Player) (ss : List PlainSlot). IsGenerated status (generation (setting_of ps number) seed lines (state_of ss old)) new p q)
-          same_players same_slots
+      same_players same_slots
       (record { result = result; is = is; end = state_of ends new; world_is = refl; generates = generates }))

@@ -69,7 +69,7 @@ pub sound_at_first : {B : Type 0} (holds : B → ConvState) (convs : List B) (na
     → IsSound names modules slots ledger
 sound_at_first holds convs names modules slots ledger law sixteen are births filed =
     subst₂ (IsSound names modules) (map-closed holds convs ∙ sym are) (no_entries ledger births filed)
-        (law (map holds convs) (length-map holds convs ∙ sixteen))
+    (law (map holds convs) (length-map holds convs ∙ sixteen))
 
 pub stand_at_first : {B : Type 0} (note : Notes) (holds : B → ConvState) (convs : List B) (slots : List PlainSlot) (ledger : PlainLedger)
     → ((states : List ConvState) → StandFor note 17 (record { births = []; filed = [] }) (lists_of (map closed states)) [])
@@ -77,7 +77,7 @@ pub stand_at_first : {B : Type 0} (note : Notes) (holds : B → ConvState) (conv
     → StandFor note 17 ledger (lists_of slots) []
 stand_at_first note holds convs slots ledger law are births filed =
     subst₂ (λ (s : List PlainSlot) (l : PlainLedger). StandFor note 17 l (lists_of s) []) (map-closed holds convs ∙ sym are) (no_entries ledger births filed)
-        (law (map holds convs))
+    (law (map holds convs))
 
 none_open : {B : Type 0} (holds : B → ConvState) (convs : List B) → NoneIsOpen (map (λ b. closed (holds b)) convs)
 none_open holds [] = tt
@@ -109,9 +109,9 @@ module _ {Kind : Type 0} (runs_so : RunTold Kind) where
       → IsBegunSo runs_so (setting_of setup.players number) result (opening setup.slots root old) new x y p q
   begun root setup old s now new ends x y p q number result opened reset ran =
       subst₂ (λ (players : List Player) (slots : List PlainSlot). IsBegunSo runs_so (setting_of players number) result (opening slots root old) new x y p q)
-          opened.players opened.slots
+      opened.players opened.slots
       (begun_at (setting_of s.players number) s.slots ends root old now new x y p q result (under_now root old s.world now opened.world_is reset)
-          opened.none_yet ran)
+      opened.none_yet ran)
 
 -- ---- by the status
 

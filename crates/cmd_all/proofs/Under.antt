@@ -104,11 +104,11 @@ module _ (root : List ℕ) (result : Result (Ending ScriptKind) Stop) (status : 
   script_so apart reports =
       runs_so root status setup world input output
       (λ number given source sink both. script_told _ result status is setup.slots root world.old world.new input.old input.new output.old output.new apart
-          (u.told number given source sink both))
+      (u.told number given source sink both))
       (result, is)
       (λ source. script_read result status is input.old input.new (u.reads source))
       (λ source. script_completes result status is input.old.left (Rose input.faults_before input.faults_after) (Rose output.faults_before output.faults_after)
-          (u.complete source))
+      (u.complete source))
       u.writes
       (λ sink. record { result = result; is = is; reports = reports sink })
 
@@ -176,11 +176,11 @@ module _ (root : List ℕ) (result : Result (Ending FrameFault) Stop) (status : 
   frames_so reports =
       wires_so root status setup world input output
       (λ number given source sink both. frames_told _ result status is setup.slots root world.old world.new input.old input.new output.old output.new
-          (u.told number given source sink both))
+      (u.told number given source sink both))
       (result, is)
       (λ source. frames_read result status is input.old input.new (u.reads source))
       (λ source. completes_by result status is input.old.left (Rose input.faults_before input.faults_after) (Rose output.faults_before output.faults_after)
-          (u.complete source))
+      (u.complete source))
       u.writes
       (λ sink. record { result = result; is = is; reports = reports sink })
       (through result status is input.faults_before input.faults_after u.source_faults)

@@ -18,10 +18,10 @@ module _ (setting : Setting) (p : Placed) (s : RunState) (w : PlainWorld) (is : 
   behind_all : (result : Result Login (Refuse LoadFault)) (u : RunState) → p.fault ≡ None
       → ComesTo result (logged_in setting (state_of s.slots w)) (LoginStops setting (state_of s.slots w)) u
       → ComesTo result (behind_files setting p.fault (state_of s.slots (with_vault p.vault (from_root s.world))))
-          (LoginStops setting (state_of s.slots (with_vault p.vault (from_root s.world)))) u
+      (LoginStops setting (state_of s.slots (with_vault p.vault (from_root s.world)))) u
   behind_all result u none comes =
       subst (λ (o : Option LoadFault). ComesTo result (behind_files setting o (state_of s.slots (with_vault p.vault (from_root s.world))))
-          (LoginStops setting (state_of s.slots (with_vault p.vault (from_root s.world)))) u) (sym none)
+      (LoginStops setting (state_of s.slots (with_vault p.vault (from_root s.world)))) u) (sym none)
       (subst (λ (v : PlainWorld). ComesTo result (logged_in setting (state_of s.slots v)) (LoginStops setting (state_of s.slots v)) u) is comes)
 
   -- one wasn't stored
@@ -29,7 +29,7 @@ module _ (setting : Setting) (p : Placed) (s : RunState) (w : PlainWorld) (is : 
       → ComesTo (Err (Named fault)) (behind_files setting p.fault (state_of s.slots (with_vault p.vault (from_root s.world)))) Stops (state_of s.slots w)
   behind_fault Stops fault some =
       subst (λ (o : Option LoadFault). ComesTo (Err (Named fault)) (behind_files setting o (state_of s.slots (with_vault p.vault (from_root s.world)))) Stops
-          (state_of s.slots w)) (sym some)
+      (state_of s.slots w)) (sym some)
       (refl, ap (state_of s.slots) is)
 
 -- the same with more states that it may leave
@@ -55,7 +55,7 @@ module _ (setting : Setting) (seed lines : ℕ) (s : RunState) (files : List Ran
   all_placed done result u places comes =
       let none = ap (λ (q : Placed). q.fault) (sym same) ∙ places.0 in
       more_stops (LoginStops setting (state_of s.slots (with_vault (placed (random_files seed lines) s.world.vault).vault (from_root s.world))))
-          (AttemptStops setting seed lines s)
+      (AttemptStops setting seed lines s)
       result (attempted setting seed lines s) u (λ stops. inr (inr (inr (none, stops))))
       (behind_all setting (placed (random_files seed lines) s.world.vault) s w (world_is places.1) result u none comes)
 
@@ -68,7 +68,7 @@ module _ (setting : Setting) (seed lines : ℕ) (s : RunState) (files : List Ran
       → ComesTo (Err refuse) (attempted setting seed lines s) (AttemptStops setting seed lines s) (state_of s.slots w)
   not_placed (Named fault) places =
       behind_fault setting (placed (random_files seed lines) s.world.vault) s w (world_is places.1) (AttemptStops setting seed lines s) fault
-          (ap (λ (q : Placed). q.fault) (sym same) ∙ places.0)
+      (ap (λ (q : Placed). q.fault) (sym same) ∙ places.0)
   not_placed NoMemory places = inr (inr (inl (v, some_placed places, ap (state_of s.slots) (rest ∙ ap (with_vault v) root))))
 
 -- nothing was stored yet

@@ -76,7 +76,7 @@ by_answer names conv filed w (Err f) fault e = refl
 module _ (setting : Setting) where
   refused_is_closed : (slots : List PlainSlot) (w : PlainWorld) (fault : LoadFault) → is_open_at (slot_at slots 1) ≡ false
       → refusal_in (called setting (state_of slots w) start_call).outcome.answer ≡ Some fault
-          → is_open_at (slot_at (called setting (state_of slots w) start_call).slots 1) ≡ false
+      → is_open_at (slot_at (called setting (state_of slots w) start_call).slots 1) ≡ false
   unfolding called stepped
   refused_is_closed [] w fault none e = refl
   refused_is_closed (closed conv ∷ slots) w fault none e = by_answer _ conv _ _ _ fault e
@@ -176,6 +176,9 @@ module _ (setting : Setting) (s t : RunState) where
 
   pub tries_both : (u : RunState) (done : Unit {0}) (login : Login) → Starts {T = Unit {0}} (Ok done) setting s t
       → Authenticates (Ok login) setting t u → Tries (Ok login) setting s u
-  tries_both u done login starts comes =
-      (starts.0, comes.0 ∙ ap (λ (m : RunState). login_of (called setting m authenticate_call).outcome) starts.1, comes.1
-          ∙ ap (λ (m : RunState). state_in (called setting m authenticate_call)) starts.1)
+  tries_both u done login starts comes = (
+    starts.0,
+    comes.0 ∙ ap (λ (m : RunState). login_of (called setting m authenticate_call).outcome) starts.1,
+    comes.1
+        ∙ ap (λ (m : RunState). state_in (called setting m authenticate_call)) starts.1,
+  )

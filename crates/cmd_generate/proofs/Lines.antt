@@ -27,7 +27,7 @@ use Rattle.cmd_generate.proofs.Reading.{Ruled, is_feed, is_nul}
 module _ (P : List ℕ → Action → Type 0) where
   pick_success : P (codes "ok") actions.Ok → P (codes "done") actions.Done → P (codes "ignore") actions.Ignore → P (codes "reset") actions.Reset
       → P (codes "1") (actions.Jump 1) → P (codes "2") (actions.Jump 2) → P (codes "3") (actions.Jump 3) → (n : ℕ)
-          → P (picked success_words n) (action_picked success_actions n)
+      → P (picked success_words n) (action_picked success_actions n)
   pick_success ok done ignore reset one two three n = by (n % 8) (mod_below n 8 (omega arith))
     where
       by : (m : ℕ) → m < 8 → P (get_or success_words m []) (get_or success_actions m actions.Bad)
@@ -214,7 +214,7 @@ module _ (s d a : List ℕ) (x y : Action) (of_s : Word s) (of_d : Word d) (of_a
       none_in is_nul (codes "auth [success=") _ (c (codes "auth [success=") refl) (none_in is_nul s _ (c s of_s.no_nul)
       (none_in is_nul (codes " new_authtok_reqd=ok default=") _ (c (codes " new_authtok_reqd=ok default=") refl) (none_in is_nul d _ (c d of_d.no_nul)
       (none_in is_nul (codes "] pam_debug.so auth=") _ (c (codes "] pam_debug.so auth=") refl)
-          (none_in is_nul a (codes "\n") (c a of_a.no_nul) (c (codes "\n") refl)))))) in
+      (none_in is_nul a (codes "\n") (c a of_a.no_nul) (c (codes "\n") refl)))))) in
       none.none
 
   inside_short : length (inside s d) ≤ 8 + (8 + (29 + 8))
@@ -224,7 +224,7 @@ module _ (s d a : List ℕ) (x y : Action) (of_s : Word s) (of_d : Word d) (of_a
   short : length (spelling (head s d ++ tail a)) ≤ 128
   short = subst (λ (z : List ℕ). length z ≤ 128) (sym spelled) (
       let l : length (codes "auth [" ++ ((inside s d ++ codes "]") ++ (codes " pam_debug.so auth=" ++ (a ++ [])))) ≤ 6
-              + (8 + (8 + (29 + 8)) + 1 + (19 + (8 + 0))) =
+      + (8 + (8 + (29 + 8)) + 1 + (19 + (8 + 0))) =
       at_most (codes "auth [") ((inside s d ++ codes "]") ++ (codes " pam_debug.so auth=" ++ (a ++ []))) 6 _ (leb-true _ 6 refl)
       (at_most (inside s d ++ codes "]") (codes " pam_debug.so auth=" ++ (a ++ [])) _ _ (at_most (inside s d) (codes "]") _ 1 inside_short (leb-true _ 1 refl))
       (at_most (codes " pam_debug.so auth=") (a ++ []) 19 _ (leb-true _ 19 refl) (at_most a [] 8 0 of_a.short (leb-true _ 0 refl)))) in
@@ -361,7 +361,7 @@ module _ (k : ℕ) (few : k < 1000) where
   spelled_short : length (spelling naming) ≤ 128
   spelled_short =
       let l : length (codes "auth substack gen." ++ (ds ++ [])) ≤ 18 + (3 + 0) =
-              at_most (codes "auth substack gen.") (ds ++ []) 18 _ (leb-true _ 18 refl) (at_most ds [] 3 0 at_most_three (leb-true _ 0 refl)) in
+      at_most (codes "auth substack gen.") (ds ++ []) 18 _ (leb-true _ 18 refl) (at_most ds [] 3 0 at_most_three (leb-true _ 0 refl)) in
       omega (arith, l)
 
   text_short : length (substack_line k) ≤ 128

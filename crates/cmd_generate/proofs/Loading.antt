@@ -60,7 +60,7 @@ module _ (texts : List ℕ → Option (List ℕ)) (seed lines : ℕ) (most : lin
   random_bring name deeper a (suc n) rest opens made bring =
       let more = random_bring name deeper (a + 1) n rest opens made bring in
       let all = brings_more texts name deeper (random_content seed a) (map (random_content seed) (range_with_len (a + 1) n) ++ rest) 0 opens 1 (n + made)
-              (λ line. passes_made texts name line) more in
+      (λ line. passes_made texts name line) more in
       λ line. passes_within texts _ (0 + opens) opens (1 + (n + made)) (suc n + made) (all line) (omega arith) (omega arith)
 
   -- a file without a substack
@@ -71,11 +71,11 @@ module _ (texts : List ℕ → Option (List ℕ)) (seed lines : ℕ) (most : lin
       let name = path_at k in
       let bring : Brings texts name deeper (contents_of seed lines k) 0 (number k + 0) =
       subst (λ (b : Bool). Brings texts name deeper (map (random_content seed) (range_with_len (before k) (number k))
-          ++ cond b (substack_content (k + 1) ∷ []) []) 0 (number k + 0)) (sym ends)
+      ++ cond b (substack_content (k + 1) ∷ []) []) 0 (number k + 0)) (sym ends)
       (random_bring name deeper (before k) (number k) [] 0 0 (brings_none texts name deeper)) in
       passes_within texts _ (1 + 0) 1 (number k + 0) 32
       (passes_file texts name (text_of seed lines k) (contents_of seed lines k) (files k from to) (holds_file seed lines k most to) level Auth opener 0
-          (number k + 0) (bring 1))
+      (number k + 0) (bring 1))
       (omega arith) (omega (arith, number_few k))
 
   -- a file with the next one as a substack
@@ -86,14 +86,14 @@ module _ (texts : List ℕ → Option (List ℕ)) (seed lines : ℕ) (most : lin
       let name = path_at k in
       let next : Brings texts name deeper (substack_content (k + 1) ∷ []) (1 + 0) (32 + 0) =
       brings_more texts name deeper (substack_content (k + 1)) [] 1 0 32 0 (λ line. alone_passes (k + 1) (omega arith) to ends level (by_rule name line))
-          (brings_none texts name deeper) in
+      (brings_none texts name deeper) in
       let bring : Brings texts name deeper (contents_of seed lines k) (1 + 0) (number k + (32 + 0)) =
       subst (λ (b : Bool). Brings texts name deeper (map (random_content seed) (range_with_len (before k) (number k))
-          ++ cond b (substack_content (k + 1) ∷ []) []) (1 + 0) (number k + (32 + 0))) (sym leads)
+      ++ cond b (substack_content (k + 1) ∷ []) []) (1 + 0) (number k + (32 + 0))) (sym leads)
       (random_bring name deeper (before k) (number k) (substack_content (k + 1) ∷ []) (1 + 0) (32 + 0) next) in
       passes_within texts _ (1 + (1 + 0)) 2 (number k + (32 + 0)) 64
       (passes_file texts name (text_of seed lines k) (contents_of seed lines k) (files k from (omega (arith, to)))
-          (holds_file seed lines k most (omega (arith, to))) (suc level) Auth opener (1 + 0) (number k + (32 + 0)) (bring 1))
+      (holds_file seed lines k most (omega (arith, to))) (suc level) Auth opener (1 + 0) (number k + (32 + 0)) (bring 1))
       (omega arith) (omega (arith, number_few k))
 
   -- ---- the service
@@ -119,8 +119,8 @@ module _ (texts : List ℕ → Option (List ℕ)) (seed lines : ℕ) (most : lin
       let one : Brings texts service_path deep (substack_content a ∷ []) 1 32 =
       λ line. passes_within texts _ (1 + 0) 1 (32 + 0) 32
       (brings_more texts service_path deep (substack_content a) [] 1 0 32 0
-          (λ n. alone_passes a (omega arith) (omega (arith, e)) ends 15 (by_rule service_path n)) (brings_none texts service_path deep) line) (omega arith)
-          (omega arith) in
+      (λ n. alone_passes a (omega arith) (omega (arith, e)) ends 15 (by_rule service_path n)) (brings_none texts service_path deep) line) (omega arith)
+      (omega arith) in
       subst (λ (b : Bool). Brings texts service_path deep (map substack_content (cond b (a ∷ []) [])) 1 32) (sym (odd_at j)) one
   service_brings j (suc (suc m)) e =
       let a = 2 * j + 1 in
@@ -131,7 +131,7 @@ module _ (texts : List ℕ → Option (List ℕ)) (seed lines : ℕ) (most : lin
       subst (λ (n : ℕ). Brings texts service_path deep (odd_contents n m) m (32 * m)) next (service_brings (j + 1) m (omega (arith, e))) in
       let all : Brings texts service_path deep (substack_content a ∷ odd_contents (a + 1 + 1) m) (2 + m) (64 + 32 * m) =
       brings_more texts service_path deep (substack_content a) (odd_contents (a + 1 + 1) m) 2 m 64 (32 * m)
-          (λ n. leading_passes a (omega arith) (omega (arith, e)) leads ends 14 (by_rule service_path n)) more in
+      (λ n. leading_passes a (omega arith) (omega (arith, e)) leads ends 14 (by_rule service_path n)) more in
       subst (λ (ks : List ℕ). Brings texts service_path deep (map substack_content ks) (suc (suc m)) (32 * suc (suc m))) (sym (odds_of j m))
       (λ line. passes_within texts _ (2 + m) (suc (suc m)) (64 + 32 * m) (32 * suc (suc m)) (all line) (omega arith) (omega arith))
 
@@ -174,9 +174,9 @@ module _ (texts : List ℕ → Option (List ℕ)) (seed lines : ℕ) (most : lin
   other_passes type =
       let deeper = items texts 16 type in
       let rest : file_items deeper type other_file (rules_held (held texts other_file)) ≡ [] =
-              ap (λ (x : Held). file_items deeper type other_file (rules_held x)) other_held in
+      ap (λ (x : Held). file_items deeper type other_file (rules_held x)) other_held in
       let opens : Passes texts (opening other_file 0 as_other ∷ []) 1 0 =
-              passes_opening texts other_file 0 as_other (omega arith) (λ c. ap (held_file (asked c) other_file as_other) other_held) in
+      passes_opening texts other_file 0 as_other (omega arith) (λ c. ap (held_file (asked c) other_file as_other) other_held) in
       subst (λ (opener : Opener). Passes texts (items texts 17 type opener other_file) 1 0) (sym opener_is)
       (subst (λ (is : List Item). Passes texts (opening other_file 0 as_other ∷ is) 1 0) (sym rest) opens)
 
@@ -196,10 +196,10 @@ module _ (texts : List ℕ → Option (List ℕ)) (seed lines : ℕ) (most : lin
   treed type opens made few passes c room =
       let mine = items texts 17 type as_service (plain_file service_path) in
       let others = cond (count (nodes texts 17 type (plain_file service_path)) == 0)
-              (items texts 17 type (other_opener texts (plain_file service_path)) other_file) [] in
+      (items texts 17 type (other_opener texts (plain_file service_path)) other_file) [] in
       let start : Counts = record c { lines = 0 } in
       let p : Passed texts start (mine ++ others) (opens + 1) (made + 0) =
-              passes_then texts mine others opens 1 made 0 passes (perhaps _ _ (other_passes type)) start (omega (arith, room)) (omega (arith, few)) in
+      passes_then texts mine others opens 1 made 0 passes (perhaps _ _ (other_passes type)) start (omega (arith, room)) (omega (arith, few)) in
       (p.after, p.looks, p.openings_are)
 
   treed_then : (xs ys : List Item) (a b : ℕ) → Treed xs a → Treed ys b → Treed (xs ++ ys) (a + b)
@@ -220,11 +220,11 @@ module _ (texts : List ℕ → Option (List ℕ)) (seed lines : ℕ) (most : lin
   looked calls =
       let session = treed_then (tree_at Session) [] (1 + 1) 0 (treed Session 1 0 (omega arith) (other_type_passes Session refl)) treed_none in
       let password = treed_then (tree_at Password) (tree_at Session ++ []) (1 + 1) (1 + 1 + 0)
-              (treed Password 1 0 (omega arith) (other_type_passes Password refl)) session in
+      (treed Password 1 0 (omega arith) (other_type_passes Password refl)) session in
       let account = treed_then (tree_at Account) (tree_at Password ++ (tree_at Session ++ [])) (1 + 1) (1 + 1 + (1 + 1 + 0))
-              (treed Account 1 0 (omega arith) (other_type_passes Account refl)) password in
+      (treed Account 1 0 (omega arith) (other_type_passes Account refl)) password in
       let all = treed_then (tree_at Auth) (tree_at Account ++ (tree_at Password ++ (tree_at Session ++ []))) (1 + files_number + 1)
-              (1 + 1 + (1 + 1 + (1 + 1 + 0)))
+      (1 + 1 + (1 + 1 + (1 + 1 + 0)))
       (treed Auth (1 + files_number) (32 * files_number) (omega (arith, most)) auth_passes) account in
       let r = all (record { calls = calls; openings = 0; lines = 0 }) (omega (arith, most)) in
       (r.0, r.1)

@@ -84,7 +84,7 @@ module _ (texts : List ℕ → Option (List ℕ)) where
       let fails : Result Counts Stop = stop (asked c) file.name 0 ReadFailed in
       let step : opened texts [] c file level opener ≡ Ok (asked c) =
       ap (λ (b : Bool). cond b (refused_opening c file opener TooDeep) (cond (nat_le 256 c.openings) (refused_opening c file opener TooManyFiles)
-          (cond (fails_next c.calls []) fails read))) (le-ltb 16 level low)
+      (cond (fails_next c.calls []) fails read))) (le-ltb 16 level low)
       ∙ ap (λ (b : Bool). cond b (refused_opening c file opener TooManyFiles) (cond (fails_next c.calls []) fails read)) room
       ∙ ap (λ (b : Bool). cond b fails read) (never c.calls) ∙ fine c in
       record { after = asked c; looks = by_one c (asked c) (opening file level opener) step; openings_are = omega arith; lines_are = omega arith }
@@ -101,8 +101,12 @@ module _ (texts : List ℕ → Option (List ℕ)) where
     passes_checked (r ∷ rules) fine =
         let parts = and_parts (is_ok (entry_of true r)) (all_fine true rules) fine in
         passes_then (checked (plain_file name) r ∷ []) (map (checked (plain_file name)) rules) 0 0 0 0
-        (λ c opens lines. record { after = c; looks = by_one c c (checked (plain_file name) r) (fine_rule c r.line (entry_of true r) parts.0);
-            openings_are = omega arith; lines_are = omega arith })
+        (λ c opens lines. record {
+          after = c;
+          looks = by_one c c (checked (plain_file name) r) (fine_rule c r.line (entry_of true r) parts.0);
+          openings_are = omega arith;
+          lines_are = omega arith;
+        })
         (passes_checked rules parts.1)
 
     own : (rules : List RawRule) → own_rules None rules ≡ rules
@@ -127,7 +131,7 @@ module _ (texts : List ℕ → Option (List ℕ)) where
           ∙ ap (λ (es : List ConfigEntry). map (checked (plain_file name)) h.rules ++ items_of deeper type name es) h.entries in
           let all : Passes (opening (plain_file name) (16 - level) opener ∷ (map (checked (plain_file name)) h.rules ++ brought)) (1 + opens) lines =
           passes_within (opening (plain_file name) (16 - level) opener ∷ (map (checked (plain_file name)) h.rules ++ brought)) (1 + (0 + opens)) (1 + opens)
-              (0 + (0 + lines)) lines
+          (0 + (0 + lines)) lines
           (passes_then (opening (plain_file name) (16 - level) opener ∷ []) (map (checked (plain_file name)) h.rules ++ brought) 1 (0 + opens) 0 (0 + lines)
           (passes_opening (plain_file name) (16 - level) opener (omega arith) (λ c. ap (held_file (asked c) (plain_file name) opener) held_is))
           (passes_then (map (checked (plain_file name)) h.rules) brought 0 opens 0 lines (passes_checked h.rules h.fine) inner)) (omega arith) (omega arith) in
@@ -146,4 +150,4 @@ module _ (texts : List ℕ → Option (List ℕ)) where
           → Brings contents b n → Brings (content ∷ contents) (a + b) (m + n)
       brings_more content contents a b m n one more line =
           passes_then (content_items deeper name line content) (items_of deeper Auth name (entries_from (line + 1) contents)) a b m n (one line)
-              (more (line + 1))
+          (more (line + 1))

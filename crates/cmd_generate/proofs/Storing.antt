@@ -134,9 +134,10 @@ module _ (seed lines : ℕ) where
 
   later_differ : (a n k : ℕ) → k < a → a + n ≤ 1000 → Differs (path_at k) (files_from a n)
   later_differ a zero k less few = (not_service k, tt)
-  later_differ a (suc n) k less few =
-      (apart a k (omega (arith, few)) (omega (arith, less, few)) (λ e. omega (arith, e, less)),
-          later_differ (a + 1) n k (omega (arith, less)) (omega (arith, few)))
+  later_differ a (suc n) k less few = (
+    apart a k (omega (arith, few)) (omega (arith, less, few)) (λ e. omega (arith, e, less)),
+    later_differ (a + 1) n k (omega (arith, less)) (omega (arith, few)),
+  )
 
   found : (a n k : ℕ) → a ≤ k → k < a + n → a + n ≤ 1000 → (files : List File) → file_at (path_at k) (puts (files_from a n) files) ≡ Some (text_of seed lines k)
   found a zero k from to few files = absurd (omega (arith, from, to))
@@ -148,9 +149,9 @@ module _ (seed lines : ℕ) where
           → file_at (path_at k) (puts (files_from a (suc n)) files) ≡ Some (text_of seed lines k)
       by (inl e) more =
           untouched (files_from (a + 1) n) (path_at k) (later_differ (a + 1) n k (omega (arith, e)) (omega (arith, few)))
-              (file_put (path_at a) (text_of seed lines a) files)
+          (file_put (path_at a) (text_of seed lines a) files)
           ∙ subst (λ (j : ℕ). file_at (path_at j) (file_put (path_at a) (text_of seed lines a) files) ≡ Some (text_of seed lines j)) e
-              (put_there (path_at a) (text_of seed lines a) files)
+          (put_there (path_at a) (text_of seed lines a) files)
       by (inr other) more = more (omega (arith, from, other))
 
   none_is_other : (a n : ℕ) → Differs (codes "/etc/pam.d/other") (files_from a n)
@@ -176,4 +177,4 @@ module _ (seed lines : ℕ) where
     has_directory =
         ap (is_folder (codes "/etc/pam.d")) (puts_last (map (random_file seed lines) (range_with_len 1 (count_of lines))) (service (count_of lines)) [])
         ∙ put_below service_path (service (count_of lines)).text (codes "/etc/pam.d") refl
-            (puts (map (random_file seed lines) (range_with_len 1 (count_of lines))) [])
+        (puts (map (random_file seed lines) (range_with_len 1 (count_of lines))) [])

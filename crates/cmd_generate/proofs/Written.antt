@@ -34,7 +34,7 @@ loads_all seed lines vault most free =
     let p : Placed = placed (random_files seed lines) (vault_with [] vault.locks vault.calls) in
     let s = stored (random_files seed lines) (all_short seed lines most) [] vault.locks vault.calls in
     let now : p.vault ≡ vault_with (all seed lines most) vault.locks p.vault.calls =
-            as_it_is p.vault (all seed lines most) vault.locks s.files_are s.locks_are s.fails_are in
+    as_it_is p.vault (all seed lines most) vault.locks s.files_are s.locks_are s.fails_are in
     let l = loads seed lines most vault.locks p.vault.calls in
     subst (LoadsAll seed lines) (sym from) (record {
       none = s.none;
@@ -64,4 +64,4 @@ module _ (setting : Setting) where
       let from : RunState = state_of s.slots (with_vault p.vault (from_root s.world)) in
       ap (λ (fault : Option LoadFault). found_by (behind_files setting fault from).result) l.none
       ∙ ap (λ (fault : Option LoadFault). found_by (behind_start setting fault (state_in (called setting from start_call))).result)
-          (starts s.slots (with_vault p.vault (from_root s.world)) l.counts l.no_fault)
+      (starts s.slots (with_vault p.vault (from_root s.world)) l.counts l.no_fault)

@@ -32,8 +32,14 @@ module _ (setting : Setting) (call : AppCall) (s : RunState) where
   stopped stop t p q g = record { answers = tt; goes = g }
 
   pub call_failed : (t : RunState) (p : SinkState) → CallFails setting (step_of call) s t → Makes setting (make setting call s) (Err NoMemory) s t p p
-  call_failed t p f = stopped NoMemory t p p (record { whole = []; others = make setting call s ∷ []; among = refl; part = [];
-      written = sym (append-nil p.written); to = (refl, inr (inr f)) })
+  call_failed t p f = stopped NoMemory t p p (record {
+    whole = [];
+    others = make setting call s ∷ [];
+    among = refl;
+    part = [];
+    written = sym (append-nil p.written);
+    to = (refl, inr (inr f));
+  })
 
   module _ (outcome : PlainOutcome) (slots : List PlainSlot) (world : PlainWorld)
       (a : StepsAs (stepped setting.players setting.delay s.slots s.world (record { number = 1; call = call })) outcome slots world) where
@@ -45,8 +51,14 @@ module _ (setting : Setting) (call : AppCall) (s : RunState) where
 
     -- an allocation for its line failed
     pub call_unwritten : (p : SinkState) → Makes setting (make setting call s) (Err NoMemory) s (state_of slots world) p p
-    call_unwritten p = stopped NoMemory (state_of slots world) p p (record { whole = []; others = make setting call s ∷ []; among = refl; part = [];
-        written = sym (append-nil p.written); to = (refl, inl came) })
+    call_unwritten p = stopped NoMemory (state_of slots world) p p (record {
+      whole = [];
+      others = make setting call s ∷ [];
+      among = refl;
+      part = [];
+      written = sym (append-nil p.written);
+      to = (refl, inl came);
+    })
 
     module _ (answer : Answer) (text : List ℕ) (p q : SinkState) (is : answer ≡ outcome.answer) (line : text ≡ answer_line call answer) where
       line_is : text ≡ made_line (make setting call s)

@@ -60,7 +60,7 @@ module _ (players : List Player) (number : Code → ℕ → ℕ) (status : ℕ) 
 
   pub end_of_closed : (slots : List PlainSlot) (w : PlainWorld) → is_open_at (slot_at slots 1) ≡ false
       → state_of (stepped players number slots w (record { number = 1; call = calls.End status })).slots
-          (stepped players number slots w (record { number = 1; call = calls.End status })).world ≡ state_of slots w
+      (stepped players number slots w (record { number = 1; call = calls.End status })).world ≡ state_of slots w
   unfolding stepped
   end_of_closed [] w none = refl
   end_of_closed (closed conv ∷ slots) w none = refl

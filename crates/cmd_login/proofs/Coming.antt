@@ -46,8 +46,14 @@ module _ (setting : Setting) where
 
   pub comes_stopped : (T : Type 0) (l : Login) (stop : Stop) (s t : RunState) (p q : SinkState) → MakesCalls {T = T} setting l.made (Err stop) s t p q
       → LogsInThen setting as_it_is l (Err stop) s t p q
-  comes_stopped T l stop s t p q g = record { whole = g.whole; others = g.others; among = g.among; part = g.part; written = g.written;
-      to = stops_so T l stop s t g.whole g.others g.part g.to }
+  comes_stopped T l stop s t p q g = record {
+    whole = g.whole;
+    others = g.others;
+    among = g.among;
+    part = g.part;
+    written = g.written;
+    to = stops_so T l stop s t g.whole g.others g.part g.to;
+  }
 
   -- ---- some calls, and then the rest
 
@@ -182,7 +188,7 @@ module _ (setting : Setting) where
         → u ≡ (make setting (end_call (closing_code result)) t).state → (whole others : List Made) (part : List ℕ)
         → (login_of setting service user s).made ≡ whole ++ others
         → LoginLeads setting as_it_is (login_of setting service user s) result s t whole others part
-            → LoginLeads setting (ended_for setting) (login_of setting service user s) result s u whole others part
+        → LoginLeads setting (ended_for setting) (login_of setting service user s) result s u whole others part
     ended_to (Ok verdict) t u p q c none e whole others part among h =
         let all : whole ≡ (login_of setting service user s).made = sym (append-nil whole) ∙ ap (λ (x : List Made). whole ++ x) (sym h.0) ∙ sym among in
         let at : t ≡ state_behind s (login_of setting service user s).made = h.3 ∙ ap (state_behind s) all in

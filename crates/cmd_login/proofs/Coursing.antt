@@ -46,8 +46,11 @@ module _ (setting : Setting) where
     runs_stopped e stop t p q g =
         rw (due e)
         (elim (accepts c.accepted (code_in m.answer)) as (λ (b : Bool). MakesCourse setting (judged b m (course setting calls)) (Err stop) s t p q) [
-          | true ↦ record { denies = tt; goes = goes_stopped setting Answer (Option Code) stop (m ∷ [])
-              (course setting calls (code_in m.answer) m.state).made s t p q g }
+          | true ↦ record {
+            denies = tt;
+            goes = goes_stopped setting Answer (Option Code) stop (m ∷ [])
+                (course setting calls (code_in m.answer) m.state).made s t p q g;
+          }
           | false ↦ record { denies = tt; goes = goes_stopped setting Answer (Option Code) stop (m ∷ []) [] s t p q g }
         ])
 
@@ -70,7 +73,7 @@ module _ (setting : Setting) where
       -- it goes on after the first call
       pub runs_on : accepts c.accepted (code_in answer) ≡ true → (result : Result (Option Code) Stop) (u : RunState) (r : SinkState)
           → MakesCourse setting (course setting calls (code_in answer) t) result t u q r
-              → MakesCourse setting (course setting (c ∷ calls) last s) result s u p r
+          → MakesCourse setting (course setting (c ∷ calls) last s) result s u p r
       runs_on ok result u r more =
           let w = all_went setting (m ∷ []) answer s t p q g in
           let there : course setting calls (code_in answer) t ≡ course setting calls (code_in m.answer) m.state =
@@ -108,5 +111,5 @@ module _ (setting : Setting) (all : List LoginCall) (c : LoginCall) (calls : Lis
       told_on goes result u r g =
           let d = made (Ok answer) t p q m in
           let next : MakesCourse setting (course setting calls (code_in answer) t) result t u q r =
-                  subst (λ (x : Code). MakesCourse setting (course setting calls x t) result t u q r) code_is g in
+          subst (λ (x : Code). MakesCourse setting (course setting calls x t) result t u q r) code_is g in
           rw e (runs_on setting c calls last s answer t p q is_made d.answers d.goes (ap (accepts c.accepted) (sym code_is) ∙ goes) result u r next)

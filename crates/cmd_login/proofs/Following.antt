@@ -24,7 +24,7 @@ module _ (setting : Setting) where
   all_went xs done s t p q g =
       let is : g.whole ≡ xs = sym (append-nil g.whole) ∙ ap (λ (l : List Made). g.whole ++ l) (sym g.to.0) ∙ sym g.among in
       let text : lines_of_calls g.whole ++ g.part ≡ lines_of_calls xs = ap (λ (l : List ℕ). lines_of_calls g.whole ++ l) g.to.1
-              ∙ append-nil (lines_of_calls g.whole) ∙ ap lines_of_calls is in
+      ∙ append-nil (lines_of_calls g.whole) ∙ ap lines_of_calls is in
       record { written = rw (← text) g.written; at = rw (← is) g.to.2 }
 
   pub goes_all : {T : Type 0} (xs : List Made) (done : T) (s t : RunState) (p q : SinkState) → Went xs s t p q → MakesCalls {T = T} setting xs (Ok done) s t p q
@@ -55,7 +55,7 @@ module _ (setting : Setting) where
         e ∙ ap (λ (l : List ℕ). l ++ (lines_of_calls whole ++ part)) w.written
         ∙ append_assoc p.written (lines_of_calls xs) (lines_of_calls whole ++ part)
         ∙ ap (λ (l : List ℕ). p.written ++ l) (sym (append_assoc (lines_of_calls xs) (lines_of_calls whole) part)
-            ∙ ap (λ (l : List ℕ). l ++ part) (sym (lines-append xs whole)))
+        ∙ ap (λ (l : List ℕ). l ++ part) (sym (lines-append xs whole)))
 
     pub goes_then : {T : Type 0} (result : Result T Stop) (ys : List Made) (t : RunState) (r : SinkState) → MakesCalls {T = T} setting ys result m t q r
         → MakesCalls {T = T} setting (xs ++ ys) result s t p r

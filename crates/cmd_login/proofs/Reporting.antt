@@ -58,8 +58,11 @@ module _ {T U : Type 0} (Says : T → List ℕ → Type 0) (Tells : U → List �
 pub reports_so : {T : Type 0} (Says Tells : T → List ℕ → Type 0) (result : Result T Stop) (p q : SinkState) → Reports {T = T} Says result p q
     → ((t : T) (text : List ℕ) → Says t text → Tells t text) → Reports {T = T} Tells result p q
 reports_so Says Tells (Ok t) p q r so = record { text = r.text; written = r.written; says = so t r.text r.says }
-reports_so Says Tells (Err stop) p q r so = record { text = r.text; written = r.written;
-    says = (r.says.0, r.says.1, so r.says.0 (r.text ++ r.says.1) r.says.2) }
+reports_so Says Tells (Err stop) p q r so = record {
+  text = r.text;
+  written = r.written;
+  says = (r.says.0, r.says.1, so r.says.0 (r.text ++ r.says.1) r.says.2);
+}
 
 -- ---- one after the other
 
@@ -86,8 +89,14 @@ reports_then Says Next Tells t (Err stop) p q r a b so = record {
 -- a result that the library returned
 pub by_outcome : (call : AppCall) (slot next : Option PlainSlot) (o : Outcome) → AnswersBy (refusal slot call) call o.answer
     → TracesAt call slot next (plain_outcome o) → IsResult call o.answer
-by_outcome call slot next o answers traces = record { slot = slot; next = next; outcome = plain_outcome o; answer_is = refl; answers = answers;
-    traces = traces }
+by_outcome call slot next o answers traces = record {
+  slot = slot;
+  next = next;
+  outcome = plain_outcome o;
+  answer_is = refl;
+  answers = answers;
+  traces = traces;
+}
 
 -- a result that is always possible
 pub possible : (call : AppCall) → SaysResult call BadNumber (answer_line call BadNumber)
@@ -170,8 +179,13 @@ module _ (denied : Option Code) (call : AppCall) (is : call ≡ end_call (end_co
       → SaysLastLines denied verdict (text ++ last)
   says_last_lines verdict answer text last verdict_is last_is says =
       let mine : SaysResult (end_call (end_code denied)) answer text = subst (λ (x : AppCall). SaysResult x answer text) is says in
-      record { verdict_is = verdict_is; answer = answer; can = mine.0; text_is = ap (λ (x : List ℕ). x ++ last) mine.1
-          ∙ ap (λ (x : List ℕ). answer_line (end_call (end_code denied)) answer ++ x) last_is }
+      record {
+        verdict_is = verdict_is;
+        answer = answer;
+        can = mine.0;
+        text_is = ap (λ (x : List ℕ). x ++ last) mine.1
+            ∙ ap (λ (x : List ℕ). answer_line (end_call (end_code denied)) answer ++ x) last_is;
+      }
 
   pub said_end_stopped : (stop : Stop) (p q : SinkState) → Reports {T = Answer} (SaysResult call) (Err stop) p q
       → Reports {T = Verdict} (SaysLastLines denied) (Err stop) p q
@@ -185,7 +199,7 @@ module _ (denied : Option Code) (call : AppCall) (is : call ≡ end_call (end_co
 
   pub said_denial : (code : Code) → denied ≡ Some code → (answer : Answer) (result : Result Verdict Stop) (p q r : SinkState)
       → Reports {T = Answer} (SaysResult call) (Ok answer) p q → Reports {T = Verdict} (SaysDenial code) result q r
-          → Reports {T = Verdict} (SaysLastLines denied) result p r
+      → Reports {T = Verdict} (SaysLastLines denied) result p r
   said_denial code some answer result p q r a b = reports_then (SaysResult call) (SaysDenial code) (SaysLastLines denied) answer result p q r a b
       (λ verdict text last says is_last.
       says_last_lines verdict answer text last (is_last.0 ∙ sym (ap verdict_by some)) (is_last.1 ∙ ap last_line (sym is_last.0)) says)

@@ -40,8 +40,16 @@ place = closed (record { offers = []; waits = false; handed = [] })
 -- a service with a line of each type
 abbrev start : RunState
 start = state_of (place ∷ []) (record {
-  vault = record { files = record { path = codes "/r/etc/pam.d/t"; bytes =
-      codes "auth required p\naccount required p\npassword required p\nsession required p" } ∷ []; locks = no_locks; calls = 0; fails = [] };
+  vault = record {
+    files = record {
+      path = codes "/r/etc/pam.d/t";
+      bytes =
+          codes "auth required p\naccount required p\npassword required p\nsession required p";
+    } ∷ [];
+    locks = no_locks;
+    calls = 0;
+    fails = [];
+  };
   clock = record { moment = 0; word = 0; draws = 0 };
   nap = record { waits = 0; sum = 0 };
   process = record { ledger = record { births = []; filed = [] }; root = codes "/r"; caller = 0 };

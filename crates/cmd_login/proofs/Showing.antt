@@ -83,6 +83,11 @@ refused_said call (answers.Pending func) text e says = absurd cc
 
 pub shows_verdict : (result : Result Verdict Stop) (p q : SinkState) → WritesLines {T = Verdict} SaysEnd result p q
     → WritesLines {T = Verdict} SaysVerdict result p q
-shows_verdict (Ok verdict) p q s = record { text = s.text; written = s.written; calls = s.calls; calls_ok = s.calls_ok;
-    says = end_is_verdict verdict s.text s.says }
+shows_verdict (Ok verdict) p q s = record {
+  text = s.text;
+  written = s.written;
+  calls = s.calls;
+  calls_ok = s.calls_ok;
+  says = end_is_verdict verdict s.text s.says;
+}
 shows_verdict (Err stop) p q s = record { text = s.text; written = s.written; calls = s.calls; calls_ok = tt; says = tt }

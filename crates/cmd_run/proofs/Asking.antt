@@ -43,8 +43,15 @@ module _ {Kind : Type 0} (looked : Looks) (refuses : Refuses) (asked : Asking Ki
       → All (λ b. b < 256) item → (number status : ℕ) → IsEnd (asked n item) number status → HasEndAmong looked asked n text number status
   one_asks n text item behind first bytes number status a =
       let same : n ≡ n + length {A = List ℕ} [] = omega arith in
-      record { before = []; item = item; behind = behind; among = first; accepted = tt; asks = subst (λ (k : ℕ). IsEnd (asked k item) number status) same a;
-          bytes = bytes }
+      record {
+        before = [];
+        item = item;
+        behind = behind;
+        among = first;
+        accepted = tt;
+        asks = subst (λ (k : ℕ). IsEnd (asked k item) number status) same a;
+        bytes = bytes;
+      }
 
   module _ (found : Result NextItem Failed) (n item_size size : ℕ) (before held : List ℕ) (x y : SourceState) (is : IsItem looked n item_size size held)
       (finds : Finds looked refuses found n before held x y) where
@@ -56,8 +63,12 @@ module _ {Kind : Type 0} (looked : Looks) (refuses : Refuses) (asked : Asking Ki
 
     pub item_leads : All (λ b. b < 256) held → (line : Line) × (asked n (take item_size held) ≡ Ok line)
         → LeadsOn looked asked n (before ++ x.left) (n + 1) (drop size held ++ y.left)
-    item_leads all a = record { items = take item_size held ∷ []; number = refl; accepted = (record { line = a.0; asks = a.1; bytes = first_bytes all }, tt);
-        among = item_first }
+    item_leads all a = record {
+      items = take item_size held ∷ [];
+      number = refl;
+      accepted = (record { line = a.0; asks = a.1; bytes = first_bytes all }, tt);
+      among = item_first;
+    }
 
     pub item_asks : All (λ b. b < 256) held → (number status : ℕ) → IsEnd (asked n (take item_size held)) number status
         → HasEndAmong looked asked n (before ++ x.left) number status
@@ -145,8 +156,13 @@ pub by_line : AllLooked → (tells : Bool) (text : List ℕ) (number status : �
     → IsEndOfRun tells text number status
 by_line all tells text number status has told =
     let h : HasEndAmong looked_lines line_asked 0 text number status = has told in
-    let there : HasEnd text number status = record { line = h.item; before = h.before; behind = h.behind; among = sym (all 0 text) ∙ h.among;
-            asks = as_parsed _ h.item _ h.asks } in
+    let there : HasEnd text number status = record {
+      line = h.item;
+      before = h.before;
+      behind = h.behind;
+      among = sym (all 0 text) ∙ h.among;
+      asks = as_parsed _ h.item _ h.asks;
+    } in
     inr there
 
 -- ---- after the lines

@@ -60,7 +60,7 @@ module _ (setting : Setting) where
 
   slots-append : (xs ys : List Met) (slots : List PlainSlot)
       → slots_after setting.players setting.delay slots (xs ++ ys) ≡ slots_after setting.players setting.delay
-          (slots_after setting.players setting.delay slots xs) ys
+      (slots_after setting.players setting.delay slots xs) ys
   slots-append [] ys slots = refl
   slots-append (x ∷ xs) ys slots = slots-append xs ys (stepped setting.players setting.delay slots x.world x.step).slots
 
@@ -70,12 +70,12 @@ module _ (setting : Setting) where
 
   report-append : (xs ys : List Met) (slots : List PlainSlot)
       → report_of_steps setting slots (xs ++ ys) ≡ report_of_steps setting slots xs
-          ++ report_of_steps setting (slots_after setting.players setting.delay slots xs) ys
+      ++ report_of_steps setting (slots_after setting.players setting.delay slots xs) ys
   report-append [] ys slots = refl
   report-append (x ∷ xs) ys slots =
       let next : List PlainSlot = (stepped setting.players setting.delay slots x.world x.step).slots in
       ap (λ (t : List ℕ). told slots x ++ t) (report-append xs ys next)
-          ∙ sym (append_assoc (told slots x) (report_of_steps setting next xs) (report_of_steps setting (slots_after setting.players setting.delay next xs) ys))
+      ∙ sym (append_assoc (told slots x) (report_of_steps setting next xs) (report_of_steps setting (slots_after setting.players setting.delay next xs) ys))
 
   -- ---- many lines
 
@@ -88,7 +88,7 @@ module _ (setting : Setting) where
   slots_by n s l ls next (Ok x) e =
       slots-append (step_of s (parsed l)) (steps_in setting (n + 1) x.0 ls) s.slots
       ∙ ap (λ (slots : List PlainSlot). slots_after setting.players setting.delay slots (steps_in setting (n + 1) x.0 ls))
-          (one_slots s (parsed l) x (as_read n s l x e))
+      (one_slots s (parsed l) x (as_read n s l x e))
       ∙ next x.0
   slots_by n s l ls next (Err kind) e = refl
 
@@ -107,7 +107,7 @@ module _ (setting : Setting) where
       ap (λ (t : List ℕ). x.1 ++ t) (next x.0)
       ∙ ap (λ (t : List ℕ). t ++ report_of_steps setting x.0.slots behind) (sym (one_text s (parsed l) x read))
       ∙ ap (λ (slots : List PlainSlot). report_of_steps setting s.slots (step_of s (parsed l)) ++ report_of_steps setting slots behind)
-          (sym (one_slots s (parsed l) x read))
+      (sym (one_slots s (parsed l) x read))
       ∙ sym (report-append (step_of s (parsed l)) behind s.slots)
   text_by n s l ls next (Err kind) e = refl
 

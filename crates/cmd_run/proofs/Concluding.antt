@@ -33,14 +33,14 @@ pub runs_script : AllLooked → ((setting : Setting) → CallsStand setting) →
 runs_script all calls ends setting (Ok ending) start end x y p q r =
     ended_run setting start x y p r.between ending r.items r.last end q r.serves.runs tt r.ends
     (λ closed. run_stands all setting (ending_status ending) (calls setting) (ends setting (ending_status ending)) r.items start r.last end x.left _ p r.between
-        r.serves.served.1 r.few closed)
+    r.serves.served.1 r.few closed)
 runs_script all calls ends setting (Err stop) start end x y p q (inl r) =
     stopped_lines setting start x y p q all stop r.items r.last end r.serves.runs r.stops.closed
     (λ text written. cut_short setting all (calls setting) (stop_status stop) r.items start r.last end x.left text p q r.serves.served r.stops.closes written)
 runs_script all calls ends setting (Err stop) start end x y p q (inr r) =
     stopped_behind setting start x y p r.between r.ending r.items r.last r.middle q r.serves.runs stop end r.ends r.stops.closed
     (cut_behind setting all (calls setting) (ending_status r.ending) (stop_status stop) r.items start r.last end r.middle.world.process.ledger
-        (lists_of r.middle.slots) x.left p r.between
+    (lists_of r.middle.slots) x.left p r.between
     r.serves.served r.closes r.stops.closes)
 
 -- if only the source is

@@ -54,8 +54,11 @@ module _ {Kind : Type 0} (asked : Asking Kind) (wrapped : List ℕ → List ℕ)
 pub takes : (seen : Looks) (refuses : Refuses) (found : Result NextItem Failed) (n : ℕ) (before held : List ℕ) (x y : SourceState)
     → Finds seen refuses found n before held x y
     → All (λ b. b < 256) held → TakesBytes before x y
-takes seen refuses found n before held x y f all = record { got = f.got; source = f.source;
-    bytes = All-same (λ b. b < 256) (before ++ f.got) held (sym f.held_is) all }
+takes seen refuses found n before held x y f all = record {
+  got = f.got;
+  source = f.source;
+  bytes = All-same (λ b. b < 256) (before ++ f.got) held (sym f.held_is) all;
+}
 
 pub takes_none : (x : SourceState) → TakesBytes [] x x
 takes_none x = record { got = []; source = refl; bytes = λ k d lt. absurd (omega (arith, lt)) }
@@ -66,18 +69,33 @@ takes_on held x y z a b = record {
   source = a.source ∙ ap (λ (l : List ℕ). a.got ++ l) b.source ∙ sym (append_assoc a.got b.got z.left);
   bytes = All-append (λ n. n < 256) a.got b.got a.bytes
       (All-same (λ n. n < 256) b.got (drop (length held) (held ++ b.got)) (sym (drop-append_seam held b.got))
-          (All-drop (λ n. n < 256) (length held) (held ++ b.got) b.bytes));
+      (All-drop (λ n. n < 256) (length held) (held ++ b.got) b.bytes));
 }
 
 -- ---- a run
 
 pub script_read : (result : Result Ending Stop) (m : ℕ) (x y : SourceState) → ReadsAll looked (step_at line_read) result m x y → ReadsScript result x y
-script_read (Ok Done) m x y r = record { taken = r.runs.taken; source = r.runs.source; reads = r.runs.reads; ends = r.runs.ends;
-    by = (ap (λ (z : Run (Unit {0})). z.refused) r.runs.report.1, r.runs.report.0) }
-script_read (Ok ReadFault) m x y r = record { taken = r.runs.taken; source = r.runs.source; reads = r.runs.reads; ends = r.runs.ends;
-    by = ap (λ (z : Run (Unit {0})). z.refused) r.runs.report }
-script_read (Ok (Refused kind)) m x y r = record { taken = r.runs.taken; source = r.runs.source; reads = r.runs.reads; ends = r.runs.ends;
-    by = ap (λ (z : Run (Unit {0})). z.refused) r.runs.report.0 }
+script_read (Ok Done) m x y r = record {
+  taken = r.runs.taken;
+  source = r.runs.source;
+  reads = r.runs.reads;
+  ends = r.runs.ends;
+  by = (ap (λ (z : Run (Unit {0})). z.refused) r.runs.report.1, r.runs.report.0);
+}
+script_read (Ok ReadFault) m x y r = record {
+  taken = r.runs.taken;
+  source = r.runs.source;
+  reads = r.runs.reads;
+  ends = r.runs.ends;
+  by = ap (λ (z : Run (Unit {0})). z.refused) r.runs.report;
+}
+script_read (Ok (Refused kind)) m x y r = record {
+  taken = r.runs.taken;
+  source = r.runs.source;
+  reads = r.runs.reads;
+  ends = r.runs.ends;
+  by = ap (λ (z : Run (Unit {0})). z.refused) r.runs.report.0;
+}
 script_read (Err stop) m x y r = record { taken = r.runs.taken; source = r.runs.source; reads = r.runs.reads; ends = r.runs.ends; by = tt }
 
 pub script_left : (ending : Ending) (stop : Stop) (m : ℕ) (x y : SourceState) → ReadsAll looked (step_at line_read) (Ok ending) m x y

@@ -58,9 +58,12 @@ module _ (setting : Setting) (all_looked : AllLooked) (law : CallsStand setting)
   lines_then Is m s t u input others p q w g = λ events stand.
       let front = lines_stand setting law w.served m s t w.text w.lead events stand in
       let whole = law (notes_of setting.players) 17 g.went.calls t.world.process.ledger (lists_of t.slots) (events ++ line_events setting s w.served) front
-              g.went.moves in
-      rw (first_lines setting m s t input others p q all_looked w, ← append_assoc events (line_events setting s w.served)
-          (events_of t.world.process.ledger g.went.calls))
+      g.went.moves in
+      rw (
+        first_lines setting m s t input others p q all_looked w,
+        ← append_assoc events (line_events setting s w.served)
+            (events_of t.world.process.ledger g.went.calls),
+      )
       (rw (g.went.ledger, g.went.lists_are) at whole)
 
   pub cut_short : (status : Code) (m : ℕ) (s t u : RunState) (input text : List ℕ) (p q : SinkState)
@@ -70,7 +73,7 @@ module _ (setting : Setting) (all_looked : AllLooked) (law : CallsStand setting)
       let others : List (List ℕ) = drop m (lines_of input) in
       let behind : others ≡ b.others = last_lines setting m s b.middle input b.others p b.sink all_looked b.served in
       let line : Goes (IsLaterEnd status others) b.middle t = proceeds_so (FirstAsks line_asked m b.others) (IsLaterEnd status others)
-              (λ number ended a. inl (rw behind (first_asks m b.others number ended a))) _ _ _ _ _ b.later in
+      (λ number ended a. inl (rw behind (first_asks m b.others number ended a))) _ _ _ _ _ b.later in
       let last : Goes (IsLaterEnd status others) t u = proceeds_so (IsStatusOf status) (IsLaterEnd status others) (λ number ended h. inr h) _ _ _ _ _ closing in
       let all : Goes (IsLaterEnd status others) b.middle u = goes_on (IsLaterEnd status others) (notes_of setting.players) _ _ _ _ _ _ line last in
       let w = b.served in
@@ -94,7 +97,7 @@ module _ (setting : Setting) (all_looked : AllLooked) (law : CallsStand setting)
   cut_behind status stopped m s t v ledger lists input p q w a b =
       let Is : ℕ → ℕ → Type 0 = λ (number : ℕ) (ended : ℕ). IsStatusOf status number ended ⊎ IsStatusOf stopped number ended in
       let all : Goes Is t v = goes_on Is (notes_of setting.players) _ _ _ _ _ _ (proceeds_so (IsStatusOf status) Is (λ number ended h. inl h) _ _ _ _ _ a)
-              (proceeds_so (IsStatusOf stopped) Is (λ number ended h. inr h) _ _ _ _ _ b) in
+      (proceeds_so (IsStatusOf stopped) Is (λ number ended h. inr h) _ _ _ _ _ b) in
       record {
         later = events_of t.world.process.ledger all.went.calls;
         ends_are = events_are Is t.world.process.ledger all.went.calls all.ends_are;

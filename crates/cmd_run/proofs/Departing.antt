@@ -71,7 +71,7 @@ module _ (setting : Setting) (status : Code) where
 
   ends_place : (x : PlainSlot) (front slots : List PlainSlot) (w : PlainWorld)
       → by_place (suc (length front)) (state_of (front ++ x ∷ slots) w) (Some x)
-          ≡ state_of (front ++ left_behind x ∷ slots) (world_left setting.players status x w)
+      ≡ state_of (front ++ left_behind x ∷ slots) (world_left setting.players status x w)
   ends_place (closed conv) front slots w = ap (λ (l : List PlainSlot). state_of l w) (set_at_front front slots (closed conv) (closed conv))
   ends_place (opened h) front slots w = ap (λ (l : List PlainSlot). state_of l (world_behind setting.players status h w))
       (set_at_front front slots (opened h) (closed h.room.conv))
@@ -86,14 +86,14 @@ module _ (setting : Setting) (status : Code) where
   behind_all : (x : PlainSlot) (front slots : List PlainSlot) (w : PlainWorld) →
       last_state (state_of (front ++ x ∷ slots) w) (closings_behind setting.players status front (x ∷ slots) w)
       ≡ last_state (state_of ((front ++ left_behind x ∷ []) ++ slots) (world_left setting.players status x w))
-          (closings_behind setting.players status (front ++ left_behind x ∷ []) slots (world_left setting.players status x w))
+      (closings_behind setting.players status (front ++ left_behind x ∷ []) slots (world_left setting.players status x w))
   unfolding closings_behind
   behind_all (closed conv) front slots w =
       ap (λ (l : List PlainSlot). last_state (state_of l w) (closings_behind setting.players status (front ++ closed conv ∷ []) slots w))
-          (sym (append_assoc front (closed conv ∷ []) slots))
+      (sym (append_assoc front (closed conv ∷ []) slots))
   behind_all (opened h) front slots w =
       ap (λ (l : List PlainSlot). last_state (state_of l (world_behind setting.players status h w))
-          (closings_behind setting.players status (front ++ closed h.room.conv ∷ []) slots (world_behind setting.players status h w)))
+      (closings_behind setting.players status (front ++ closed h.room.conv ∷ []) slots (world_behind setting.players status h w)))
       (sym (append_assoc front (closed h.room.conv ∷ []) slots))
 
   closed_by_calls : (slots front : List PlainSlot) (i k : ℕ) (w : PlainWorld) → i ≡ length front → length slots ≤ k →
@@ -108,7 +108,7 @@ module _ (setting : Setting) (status : Code) where
       let v : PlainWorld = world_left setting.players status x w in
       let next : suc i ≡ length more = ap suc at ∙ sym (one_longer front (left_behind x)) in
       let rest : last_state (state_of (more ++ slots) v) (closings_behind setting.players status more slots v)
-              ≡ ends_from (suc i) k (state_of (more ++ slots) v) = closed_by_calls slots more (suc i) k v next (omega arith) in
+      ≡ ends_from (suc i) k (state_of (more ++ slots) v) = closed_by_calls slots more (suc i) k v next (omega arith) in
       behind_all x front slots w
       ∙ rest
       ∙ ap (λ (l : List PlainSlot). ends_from (suc i) k (state_of l v)) (append_assoc front (left_behind x ∷ []) slots)
@@ -144,13 +144,13 @@ module _ (setting : Setting) (status : Code) where
         let same : number ≡ m = grind (arith, nat_tests) in
         subst (λ (j : ℕ). AreAlike j (end_at m s).slots (end_at m s).world (end_at m t).slots (end_at m t).world) (sym same)
         (own setting.players setting.delay (end_step m) s.slots t.slots s.world t.world
-            (subst (λ (j : ℕ). AreAlike j s.slots s.world t.slots t.world) same h)).alike
+        (subst (λ (j : ℕ). AreAlike j s.slots s.world t.slots t.world) same h)).alike
     end_alike m s t false is h =
         let one : Alike setting number (end_at m s) t = other setting.players setting.delay number (end_step m) s.slots t.slots s.world t.world is h
-                (end_files m s) in
+        (end_files m s) in
         turned (end_at m t) (end_at m s)
         (other setting.players setting.delay number (end_step m) t.slots (end_at m s).slots t.world (end_at m s).world is (turned (end_at m s) t one)
-            (end_files m t))
+        (end_files m t))
 
     pub ends_alike : (k i : ℕ) (s t : RunState) → Alike setting number s t → Alike setting number (ends_from i k s) (ends_from i k t)
     unfolding ends_from

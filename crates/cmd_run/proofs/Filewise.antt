@@ -40,7 +40,7 @@ AllStepsLead = (players : List Player) (number_of : Code → ℕ → ℕ) (slots
 
 module _ (setting : Setting) (asks : AllStepsAsk) (at_once : AllStepsAskAtOnce) (step_leads : AllStepsLead)
     (together : (players : List Player) (first middle last : List File) (some others : List AskedLine) → LinesLead players first some middle
-        → LinesLead players middle others last → LinesLead players first (some ++ others) last) where
+    → LinesLead players middle others last → LinesLead players first (some ++ others) last) where
   -- some steps lead from a state to these files
   abbrev pub Leads : RunState → List Met → List File → Type 0
   Leads s met last = (asked : List AskedLine) × StepsAsk setting s.slots met asked × LinesLead setting.players s.world.vault.files asked last
@@ -71,12 +71,12 @@ module _ (setting : Setting) (asks : AllStepsAsk) (at_once : AllStepsAskAtOnce) 
   unfolding step_at line_step
   line_leads n s line =
       either s (parsed line) (nat_le 65536 n) (Err TooManyLines) _ tt (either s (parsed line) (nat_lt 513 (length line)) (Err LineTooLong) _ tt
-          (parsed_leads s (parsed line)))
+      (parsed_leads s (parsed line)))
 
   behind : (n : ℕ) (s : RunState) (l : List ℕ) (ls : List (List ℕ)) (r : Result (RunState × List ℕ) ScriptKind) → LineLeads s (parsed l) r
       → ((t : RunState) → Leads t (steps_in setting (n + 1) t ls) (run_lines (line_step setting) (n + 1) t ls).last.world.vault.files)
       → Leads s (steps_behind setting s l r (λ t. steps_in setting (n + 1) t ls))
-          (after n s r (λ t. run_lines (line_step setting) (n + 1) t ls)).last.world.vault.files
+      (after n s r (λ t. run_lines (line_step setting) (n + 1) t ls)).last.world.vault.files
   behind n s l ls (Ok x) leads more = leads (steps_in setting (n + 1) x.0 ls) _ (more x.0)
   behind n s l ls (Err kind) leads more = ([], refl, refl)
 
@@ -96,7 +96,7 @@ module _ (players : List Player) (status : Code) where
   closings_leave (closed conv ∷ slots) front w s same = closings_leave slots (front ++ closed conv ∷ []) w s same
   closings_leave (opened h ∷ slots) front w s same =
       closings_leave slots (front ++ closed h.room.conv ∷ []) (world_behind players status h w)
-          (state_of (front ++ closed h.room.conv ∷ slots) (world_behind players status h w)) refl
+      (state_of (front ++ closed h.room.conv ∷ slots) (world_behind players status h w)) refl
 
   pub all_closed_leave : (s : RunState) → (all_closed players status s).world.vault.files ≡ s.world.vault.files
   all_closed_leave s = closings_leave s.slots [] s.world s refl

@@ -24,7 +24,7 @@ module _ {Kind : Type 0} (wrapped : List ℕ → List ℕ) (last_text : Ending K
   -- the run stopped in the implicit ends
   cut_short : (stop : Stop) (s t : RunState) (whole others : List Closing) (part : List ℕ)
       → ClosesTo wrapped players (ending_status ending) (Err stop) s t whole others part
-          → EndsTo wrapped last_text players ending n (Err stop) s t whole others part
+      → EndsTo wrapped last_text players ending n (Err stop) s t whole others part
   cut_short stop s t whole [] part h = absurd h
   cut_short stop s t whole (c ∷ cs) part h = h
 
@@ -146,13 +146,18 @@ module _ {Kind : Type 0} (looked : Looks) (asked : Asking Kind) (wrapped : List 
       → TellsAll looked asked step fails setting (Err stop) items start last x y p q → TakesBytes [] x y
       → end ≡ all_closed setting.players (stop_status stop) last → ClosesBy setting.players (stop_status stop) last end
       → RunsOrStops looked asked wrapped last_text step fails setting (Err stop) start end x y p q
-  stops_early stop items last end q serves takes closed closes = inl (record { items = items; last = last; serves = serves; takes = takes;
-      stops = record { closed = closed; closes = closes } })
+  stops_early stop items last end q serves takes closed closes = inl (record {
+    items = items;
+    last = last;
+    serves = serves;
+    takes = takes;
+    stops = record { closed = closed; closes = closes };
+  })
 
   pub stops_late : (stop : Stop) (ending : Ending Kind) (items : ℕ) (last middle end : RunState) (between q : SinkState)
       → TellsAll looked asked step fails setting (Ok ending) items start last x y p between
       → TakesBytes [] x y → EndsWith wrapped last_text setting.players ending items (Err stop) last middle between q
-          → ClosesBy setting.players (ending_status ending) last middle
+      → ClosesBy setting.players (ending_status ending) last middle
       → end ≡ all_closed setting.players (stop_status stop) middle → ClosesBy setting.players (stop_status stop) middle end
       → RunsOrStops looked asked wrapped last_text step fails setting (Err stop) start end x y p q
   stops_late stop ending items last middle end between q serves takes ends before closed closes = inr (record {

@@ -74,7 +74,7 @@ pub went_once : (Is : ℕ → ℕ → Type 0) (a b : Seen) → b.players ≡ a.p
     → ((number : Code → ℕ → ℕ) → a.gives number → b.gives number)
     → ((number : Code → ℕ → ℕ) → b.gives number → a.gives number)
     → (ended : List Event) → Moves (notes_of a.players) 17 ended a.world.process.ledger (lists_of a.slots) b.world.process.ledger (lists_of b.slots)
-        → EndsAre Is ended → IsSoundIn b
+    → EndsAre Is ended → IsSoundIn b
     → Went Is a b
 went_once Is a b players tells world_tells gives no_other ended moves are sound = record {
   players = players;
@@ -94,4 +94,4 @@ pub went_as_asked : {Kind : Type 0} (asked : Result Line Kind) (step : Step) →
 went_as_asked asked step e a b players gives no_other k =
     went_so (IsEndStep step) (IsEnd asked) (λ number status is. e ∙ ap (λ (s : Step). Ok (lines.Step s)) is) a b
     (went_once (IsEndStep step) a b players k.tells k.world_tells gives no_other (ended_by step a) k.moves
-        (call_ends (slot_of step a) step.number step.call) k.sound)
+    (call_ends (slot_of step a) step.number step.call) k.sound)

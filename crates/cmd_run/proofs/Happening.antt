@@ -124,7 +124,7 @@ module _ (players : List Player) (code : Code) where
   abbrev pub EndStands : Type 0
   EndStands = (note : Notes) (limit handle status : ℕ) (events : List Event) (before after : PlainLedger) (lists next : Lists)
       → StandFor note limit before lists events → handle < limit → after ≡ ledger_after note status (reverse (lists handle).live) before
-          → next handle ≡ clean_list handle []
+      → next handle ≡ clean_list handle []
       → ((h : ℕ) → nat_eq h handle ≡ false → next h ≡ lists h) → StandFor note limit after next (events ++ ends handle status ∷ [])
 
   abbrev Stand : PlainWorld → List PlainSlot → List Event → Type 0
@@ -137,11 +137,11 @@ module _ (players : List Player) (code : Code) where
 
   one_end : EndStands → (front rest : List PlainSlot) (h : PlainHandle) (w : PlainWorld) (events : List Event) → length front + 1 < 17
       → Stand w (front ++ opened h ∷ rest) events → Stand (world_behind players code h w) (front ++ closed h.room.conv ∷ rest)
-          (events ++ ends (length front + 1) (number_of code) ∷ [])
+      (events ++ ends (length front + 1) (number_of code) ∷ [])
   one_end law front rest h w events few stand =
       let k : length front + 1 ≡ suc (length front) = omega arith in
       law (notes_of players) 17 (length front + 1) (number_of code) events w.process.ledger (world_behind players code h w).process.ledger
-          (lists_of (front ++ opened h ∷ rest)) (lists_of (front ++ closed h.room.conv ∷ rest))
+      (lists_of (front ++ opened h ∷ rest)) (lists_of (front ++ closed h.room.conv ∷ rest))
       stand few
       (rw (k, list_here front rest (opened h)) refl)
       (rw (k, list_here front rest (closed h.room.conv)) refl)
@@ -168,10 +168,14 @@ module _ (players : List Player) (code : Code) where
       let v : PlainWorld = world_behind players code h w in
       let more : List Event = events ++ ends (length front + 1) (number_of code) ∷ [] in
       let stand2 : Stand v (front2 ++ slots) more = subst (λ (l : List PlainSlot). Stand v l more) (sym (moved_over front slots x))
-              (one_end law front slots h w events (omega (arith, few)) stand) in
+      (one_end law front slots h w events (omega (arith, few)) stand) in
       let rest : Behind front2 slots v more = behind law slots front2 v more (omega (arith, few, one_longer front x)) stand2 in
-      rw (moved_over front slots x, one_longer front x, append_assoc events (ends (length front + 1) (number_of code) ∷ [])
-          (closing_events (length front + 1 + 1) (number_of code) slots)) at rest
+      rw (
+        moved_over front slots x,
+        one_longer front x,
+        append_assoc events (ends (length front + 1) (number_of code) ∷ [])
+            (closing_events (length front + 1 + 1) (number_of code) slots),
+      ) at rest
 
   pub closings_stand : EndStands → (s : RunState) → length s.slots ≤ 16
       → StandOn (notes_of players) (closing_events 1 (number_of code) s.slots) s (all_closed players code s)
@@ -186,5 +190,9 @@ pub run_stands : AllLooked → (setting : Setting) (code : Code) → CallsStand 
 run_stands all setting code calls law m s t end input others p q w few e = λ events stand.
     let front = lines_stand setting calls w.served m s t w.text w.lead events stand in
     let whole = closings_stand setting.players code law t few (events ++ line_events setting s w.served) front in
-    rw (e, first_lines setting m s t input others p q all w, ← append_assoc events (line_events setting s w.served)
-        (closing_events 1 (number_of code) t.slots)) whole
+    rw (
+      e,
+      first_lines setting m s t input others p q all w,
+      ← append_assoc events (line_events setting s w.served)
+          (closing_events 1 (number_of code) t.slots),
+    ) whole

@@ -67,9 +67,9 @@ parsed_alone : (number : ℕ) (l : List ℕ) → parsed (line_alone number l) �
 unfolding alone_as
 parsed_alone number l = elim (is_on_another number (step_in (parsed l))) as
     (λ (b : Bool). parsed (if b then [] else l) ≡ (if b then Ok lines.Blank else parsed l)) [
-  | true ↦ refl
-  | false ↦ refl
-]
+      | true ↦ refl
+      | false ↦ refl
+    ]
 
 -- what the results of both runs have in common
 pub record Seen : Type 0 where
@@ -148,16 +148,16 @@ module _ (setting : Setting) where
           let y : Stepped = stepped setting.players setting.delay t.slots t.world step in
           let same : number ≡ step.number = grind (arith, nat_tests) in
           let c : ComeToSame step.number x y = own setting.players setting.delay step s.slots t.slots s.world t.world
-                  (subst (λ (m : ℕ). AreAlike m s.slots s.world t.slots t.world) same h) in
+          (subst (λ (m : ℕ). AreAlike m s.slots s.world t.slots t.world) same h) in
           let alike : AreAlike number x.slots x.world y.slots y.world = subst (λ (m : ℕ). AreAlike m x.slots x.world y.slots y.world) (sym same) c.alike in
           let m : GoAlike (f (state_of x.slots x.world)) (g (state_of y.slots y.world)) (u (state_of x.slots x.world)) (v (state_of y.slots y.world)) =
           more (state_of x.slots x.world) (state_of y.slots y.world) alike stays.1 in
           let here : seen (made_step setting s step) ≡ seen (made_step setting t step) = λ i. record { step = step; told = c.told i; cleaned = c.cleaned i } in
           let own_here : made_steps setting number t (Some step) ≡ made_step setting t step ∷ [] =
-                  ap (λ (b : Bool). if b then made_step setting t step ∷ [] else []) is in
+          ap (λ (b : Bool). if b then made_step setting t step ∷ [] else []) is in
           subst (λ (cs : List MadeStep). GoAlike (made_step setting s step ∷ f (state_of x.slots x.world)) (cs ++ g (state_of y.slots y.world))
           (with_text (applied setting s (lines.Step step)).1 (u (state_of x.slots x.world)))
-              (with_text (applied setting t (lines.Step step)).1 (v (state_of y.slots y.world)))) (sym own_here)
+          (with_text (applied setting t (lines.Step step)).1 (v (state_of y.slots y.world)))) (sym own_here)
           (record {
             came = λ i. here i ∷ m.came i;
             last = m.last;
@@ -179,21 +179,21 @@ module _ (setting : Setting) where
       line_goes false s t (Ok (lines.Step step)) h stays = step_goes s t step (nat_eq step.number number) refl h stays
       line_goes false s t (Ok (lines.At moment)) h stays =
           silent (applied setting s (lines.At moment)).0 (applied setting t (lines.At moment)).0 [] []
-              (set_twins (λ (c : ClockState). record c { moment = moment }) (λ (x : Time). record x { moment = moment }) (λ c. refl) (λ (c : ℕ). c) s
-              t h) stays.1
+          (set_twins (λ (c : ClockState). record c { moment = moment }) (λ (x : Time). record x { moment = moment }) (λ c. refl) (λ (c : ℕ). c) s
+          t h) stays.1
       line_goes false s t (Ok (lines.Random word)) h stays =
           silent (applied setting s (lines.Random word)).0 (applied setting t (lines.Random word)).0 [] []
-              (set_twins (λ (c : ClockState). record c { word = word }) (λ (x : Time). record x { word = word }) (λ c. refl) (λ (c : ℕ). c) s t h) stays.1
+          (set_twins (λ (c : ClockState). record c { word = word }) (λ (x : Time). record x { word = word }) (λ c. refl) (λ (c : ℕ). c) s t h) stays.1
       line_goes false s t (Ok (lines.Caller caller)) h stays =
           silent (applied setting s (lines.Caller caller)).0 (applied setting t (lines.Caller caller)).0 [] []
-              (set_twins (λ (c : ClockState). c) (λ (x : Time). x) (λ c. refl) (λ (c : ℕ). caller) s t h) stays.1
+          (set_twins (λ (c : ClockState). c) (λ (x : Time). x) (λ c. refl) (λ (c : ℕ). caller) s t h) stays.1
 
     -- ---- all lines
 
     module _ (own : OwnCalls) (other : OtherCalls) where
       runs_alike : (n : ℕ) (s t : RunState) (script : List (List ℕ)) → Alike s t → LeaveFiles setting number n s script →
           GoAlike (steps_among setting number n s script) (steps_among setting number n t (alone number script)) (run_lines (line_step setting) n s script)
-              (run_lines (line_step setting) n t (alone number script))
+          (run_lines (line_step setting) n t (alone number script))
       unfolding run_items
       runs_alike n s t [] h stays = record { came = refl; last = h; lines = refl; refused = refl }
       runs_alike n s t (l ∷ ls) h stays =
@@ -209,25 +209,31 @@ module _ (setting : Setting) where
           step_is n t (line_alone number l) ∙ ap (λ (r : Result Line ScriptKind). counted many (applied_or_refused setting t r)) q in
           let stays' : LineStays many s p (λ x. LeaveFiles setting number (n + 1) x ls) =
           subst (λ (r : Result (RunState × List ℕ) ScriptKind). FilesStay r (is_on_another number (step_in p)) s (λ x. LeaveFiles setting number (n + 1) x ls))
-              first stays in
+          first stays in
           let main : GoAlike (line_came many s p f) (line_came many t (alone_as number p) g) (line_run many n s p u) (line_run many n t (alone_as number p) v) =
           line_goes own other n f g u v (λ x. LeaveFiles setting number (n + 1) x ls) (λ x y alike next. runs_alike (n + 1) x y ls alike next) many s t
-              p h stays' in
+          p h stays' in
           let back : (a : Result (RunState × List ℕ) ScriptKind) (b : Result (RunState × List ℕ) ScriptKind) (r : Result Line ScriptKind) → Type 0 =
           λ a b r. GoAlike (steps_then a (λ text. made_steps setting number s (step_in p)) f) (steps_then b (λ text. made_steps setting number t (step_in r)) g)
-              (after n s a u) (after n t b v) in
+          (after n s a u) (after n t b v) in
           subst (λ (a : Result (RunState × List ℕ) ScriptKind). back a (step_at (line_step setting) n t (line_alone number l))
-              (parsed (line_alone number l))) (sym first)
+          (parsed (line_alone number l))) (sym first)
           (subst (λ (r : Result Line ScriptKind). back (counted many (applied_or_refused setting s p))
-              (step_at (line_step setting) n t (line_alone number l)) r) (sym q)
+          (step_at (line_step setting) n t (line_alone number l)) r) (sym q)
           (subst (λ (b : Result (RunState × List ℕ) ScriptKind). back (counted many (applied_or_refused setting s p)) b (alone_as number p)) (sym second) main))
 
       pub from_start : (n : ℕ) (s : RunState) (script : List (List ℕ)) → IsQuietStart s → LeaveFiles setting number n s script →
           GoAlike (steps_among setting number n s script) (steps_among setting number n s (alone number script)) (run_lines (line_step setting) n s script)
-              (run_lines (line_step setting) n s (alone number script))
+          (run_lines (line_step setting) n s (alone number script))
       from_start n s script start stays =
-          runs_alike n s s script (record { place = refl; shown = refl; first_order = start.order; second_order = start.order; first_quiet = start.quiet;
-              second_quiet = start.quiet }) stays
+          runs_alike n s s script (record {
+            place = refl;
+            shown = refl;
+            first_order = start.order;
+            second_order = start.order;
+            first_quiet = start.quiet;
+            second_quiet = start.quiet;
+          }) stays
 
 -- ---- what follows for the runs
 
@@ -320,7 +326,7 @@ module _ (setting : Setting) (number : ℕ) where
       let t : RunState = (applied setting s (lines.Step step)).0 in
       let text : List ℕ = (applied setting s (lines.Step step)).1 in
       elim (nat_eq step.number number) as (λ (b : Bool). (if b then text ∷ [] else []) ++ f t
-          ≡ map (text_of names) ((if b then made_step setting s step ∷ [] else []) ++ g t)) [
+      ≡ map (text_of names) ((if b then made_step setting s step ∷ [] else []) ++ g t)) [
         | true ↦ ap (λ (ts : List (List ℕ)). text ∷ ts) (more t)
         | false ↦ more t
       ]
@@ -337,5 +343,5 @@ module _ (setting : Setting) (number : ℕ) where
       let g : RunState → List MadeStep = λ t. steps_among setting number (n + 1) t ls in
       subst (λ (r : Result (RunState × List ℕ) ScriptKind).
       steps_then r (λ text. if is_on number (step_in (parsed l)) then text ∷ [] else []) f
-          ≡ map (text_of names) (steps_then r (λ text. made_steps setting number s (step_in (parsed l))) g))
+      ≡ map (text_of names) (steps_then r (λ text. made_steps setting number s (step_in (parsed l))) g))
       (sym (step_is setting n s l)) (text_line (nat_le 65536 n) s (parsed l) f g (λ t. texts_are (n + 1) t ls))

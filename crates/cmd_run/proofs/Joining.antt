@@ -32,7 +32,7 @@ cut_lines [] = (tt, refl)
 cut_lines (b ∷ bs) =
     let more : AllByRecursion IsOneLine (cut bs).lines × IsOneLine (cut bs).rest = cut_lines bs in
     elim (b == 10) as (λ (x : Bool). (b == 10) ≡ x → AreLines (if x then record { lines = [] ∷ (cut bs).lines; rest = (cut bs).rest }
-        else onto b (cut bs).lines (cut bs).rest)) [
+    else onto b (cut bs).lines (cut bs).rest)) [
       | true ↦ λ e. ((refl, more.0), more.1)
       | false ↦ λ e. onto_lines b (cut bs).lines (cut bs).rest e more.0 more.1
     ] refl
@@ -44,9 +44,10 @@ with_last (l ∷ ls) rest each one = (each.0, with_last ls rest each.1 one)
 
 alone_lines : (number : ℕ) (ls : List (List ℕ)) → AllByRecursion IsOneLine ls → AllByRecursion IsOneLine (alone number ls)
 alone_lines number [] each = tt
-alone_lines number (l ∷ ls) each =
-    (elim (is_on_another number (step_in (parsed l))) as (λ (b : Bool). IsOneLine (if b then [] else l)) [ true ↦ refl | false ↦ each.0 ],
-        alone_lines number ls each.1)
+alone_lines number (l ∷ ls) each = (
+  elim (is_on_another number (step_in (parsed l))) as (λ (b : Bool). IsOneLine (if b then [] else l)) [ true ↦ refl | false ↦ each.0 ],
+  alone_lines number ls each.1,
+)
 
 pub script_lines : (number : ℕ) (text : List ℕ) → lines_of (script_alone number text) ≡ alone number (lines_of text)
 unfolding lines_of AreLines

@@ -69,16 +69,20 @@ module _ (players : List Player) (status : Code) where
   -- what is left once it was ended
   core : (before after : List PlainSlot) (h : PlainHandle) (w : PlainWorld)
       → ((front rest : List PlainSlot) (v : PlainWorld) → closings_behind players status front (before ++ rest) v
-          ≡ closings_behind players status (front ++ before) rest v)
+      ≡ closings_behind players status (front ++ before) rest v)
       → closings players status (state_of (before ++ opened h ∷ after) w)
-      ≡ record { text = text_of_end players status (length before + 1) w (world_behind players status h w);
-          state = state_of (before ++ closed h.room.conv ∷ after) (world_behind players status h w) }
+      ≡ record {
+        text = text_of_end players status (length before + 1) w (world_behind players status h w);
+        state = state_of (before ++ closed h.room.conv ∷ after) (world_behind players status h w);
+      }
       ∷ closings players status (state_of (before ++ closed h.room.conv ∷ after) (world_behind players status h w))
   unfolding closings_behind
   core before after h w skip =
       skip [] (opened h ∷ after) w
-      ∙ ap (λ (cs : List Closing). record { text = text_of_end players status (length before + 1) w (world_behind players status h w);
-          state = state_of (before ++ closed h.room.conv ∷ after) (world_behind players status h w) } ∷ cs)
+      ∙ ap (λ (cs : List Closing). record {
+        text = text_of_end players status (length before + 1) w (world_behind players status h w);
+        state = state_of (before ++ closed h.room.conv ∷ after) (world_behind players status h w);
+      } ∷ cs)
       (sym (skip [] (closed h.room.conv ∷ after) (world_behind players status h w)))
 
   abbrev ended : List PlainSlot → PlainWorld → ℕ × PlainHandle → ClosedOne
@@ -92,12 +96,15 @@ module _ (players : List Player) (status : Code) where
       let k : number ≡ suc (length o.before) = omega (arith, o.number_is) in
       let l : length o.before + 1 ≡ number = omega (arith, o.number_is) in
       let set : with_slot slots number (closed h.room.conv) ≡ o.before ++ closed h.room.conv ∷ o.after =
-              rw (k, o.parts) (set-behind o.before o.after (opened h) (closed h.room.conv)) in
+      rw (k, o.parts) (set-behind o.before o.after (opened h) (closed h.room.conv)) in
       record {
         first = rw (set, o.parts, ← l) (core o.before o.after h w o.skip);
         fewer = rw (set, o.parts) (count-behind o.before o.after h);
-        receipts = omega (arith, length-append w.process.ledger.filed (receipts_for (notes_of players) (number_of status) (length w.process.ledger.births)
-            (reverse h.room.transaction.datums.live)));
+        receipts = omega (
+          arith,
+          length-append w.process.ledger.filed (receipts_for (notes_of players) (number_of status) (length w.process.ledger.births)
+              (reverse h.room.transaction.datums.live)),
+        );
       }
 
   by_found : (slots : List PlainSlot) (w : PlainWorld) (c : ClosedOne) (o : Option (ℕ × PlainHandle)) → first_open 1 slots ≡ o

@@ -52,8 +52,13 @@ module _ (wrapped : List ℕ → List ℕ) (names : List (List ℕ)) where
       are_made = refl;
       part = w.1.front;
       written = w.1.written;
-      to = inr (record { call = call; first = refl; last = refl; made = record { answers = answers; traces = traces; others = others };
-          cut = (w.1.back, w.1.parts) });
+      to = inr (record {
+        call = call;
+        first = refl;
+        last = refl;
+        made = record { answers = answers; traces = traces; others = others };
+        cut = (w.1.back, w.1.parts);
+      });
     }
     made_cut {T} NoMemory same = subst (λ (s : SinkState). ReportsCalls wrapped names {T = T} (Err NoMemory) slots next p s) (sym same)
         (made_broken NoMemory slots next p)
@@ -72,7 +77,7 @@ module _ (wrapped : List ℕ → List ℕ) (names : List (List ℕ)) where
   joined w x y a b none =
       append_assoc w (reports_of wrapped names a ++ x) (reports_of wrapped names b ++ y)
       ∙ ap (λ (l : List ℕ). w ++ (l ++ (reports_of wrapped names b ++ y)))
-          (ap (λ (l : List ℕ). reports_of wrapped names a ++ l) none ∙ append-nil (reports_of wrapped names a))
+      (ap (λ (l : List ℕ). reports_of wrapped names a ++ l) none ∙ append-nil (reports_of wrapped names a))
       ∙ ap (λ (l : List ℕ). w ++ l) (sym (append_assoc (reports_of wrapped names a) (reports_of wrapped names b) y))
       ∙ ap (λ (l : List ℕ). w ++ (l ++ y)) (sym (flat_map-append (report_of wrapped names) a b))
 

@@ -61,14 +61,14 @@ module _ (setting : Setting) (status : Code) where
       let v : PlainWorld = world_left setting.players status x w in
       let next : suc i ≡ length more = ap suc at ∙ sym (one_longer front (left_behind setting status x)) in
       let rest : EndedUpTo (suc i) k (state_of (more ++ slots) v) (drop k slots) (world_after_places setting.players status (take k slots) v) =
-              ends_some k (suc i) more slots v next (omega arith) in
+      ends_some k (suc i) more slots v next (omega arith) in
       record {
         front = rest.front;
         long = omega (arith, rest.long);
         is =
             ap (ends_from setting status (suc i) k) (ends_next setting status x front slots i w at)
             ∙ ap (λ (l : List PlainSlot). ends_from setting status (suc i) k (state_of l v))
-                (sym (append_assoc front (left_behind setting status x ∷ []) slots))
+            (sym (append_assoc front (left_behind setting status x ∷ []) slots))
             ∙ rest.is;
       }
 
@@ -121,16 +121,16 @@ module _ (setting : Setting) (status : Code) where
         let a : Reached s (opened h) = reached s (opened h) first in
         let b : Reached t (opened g) = reached t (opened g) second in
         let ended : Alike setting (suc k) (ends_from setting status 0 k s) (ends_from setting status 0 k t) =
-                ends_alike setting status (suc k) own other k 0 s t alike in
+        ends_alike setting status (suc k) own other k 0 s t alike in
         let x : RunState = state_of (a.front ++ opened h ∷ drop (suc k) s.slots) (place_of s) in
         let y : RunState = state_of (b.front ++ opened g ∷ drop (suc k) t.slots) (place_of t) in
         let now : Alike setting (suc k) x y = subst (λ (z : RunState). Alike setting (suc k) x z) b.is
-                (subst (λ (z : RunState). Alike setting (suc k) z (ends_from setting status 0 k t)) a.is ended) in
+        (subst (λ (z : RunState). Alike setting (suc k) z (ends_from setting status 0 k t)) a.is ended) in
         let same : ComeToSame (suc k) (end_of k x.slots x.world) (end_of k y.slots y.world) =
-                own setting.players setting.delay (end_step setting status (suc k)) x.slots y.slots x.world y.world now in
+        own setting.players setting.delay (end_step setting status (suc k)) x.slots y.slots x.world y.world now in
         written k a.front (drop (suc k) s.slots) h (place_of s) a.long
         ∙ ap (λ (cs : List Cleaned). flat_map (cleaned_text (suc k) (names_of setting.players)) cs ++ words_text (suc k) (codes "closed") (code_words status))
-            same.cleaned
+        same.cleaned
         ∙ sym (written k b.front (drop (suc k) t.slots) g (place_of t) b.long)
 
     by_places : (s t : RunState) (p q : Option PlainSlot) → Alike setting (suc k) s t → slice_get s.slots k ≡ p → slice_get t.slots k ≡ q →
@@ -160,7 +160,7 @@ module _ (setting : Setting) (status : Code) where
   plain_words : (number : ℕ) (ledger : PlainLedger) (n : ℕ) →
       closing_text (names_of setting.players) number status ledger n
       ≡ flat_map (filed_text_with number_words number (names_of setting.players) ledger.births) (drop n ledger.filed)
-          ++ words_text number (codes "closed") (code_words status)
+      ++ words_text number (codes "closed") (code_words status)
   plain_words number ledger n =
       ap (λ (f : Filed → List ℕ). flat_map f (drop n ledger.filed) ++ words_text number (codes "closed") (code_words status))
       (fun_ext (λ (f : Filed). by f.receipt (slice_get ledger.births f.receipt.id)))
@@ -183,14 +183,14 @@ module _ (setting : Setting) (status : Code) where
   one_place : (i : ℕ) (x : PlainSlot) (front slots : List PlainSlot) (w : PlainWorld) → i ≡ length front →
       closings_text (closings_behind setting.players status front (x ∷ slots) w)
       ≡ place_text (suc i) w x ++ closings_text (closings_behind setting.players status (front ++ left_behind setting status x ∷ []) slots
-          (world_left setting.players status x w))
+      (world_left setting.players status x w))
   unfolding closings_behind
   one_place i (closed conv) front slots w at = refl
   one_place i (opened h) front slots w at =
       let after : PlainLedger = (world_behind setting.players status h w).process.ledger in
       let number : length front + 1 ≡ suc i = omega (arith, at) in
       let rest : List ℕ = closings_text (closings_behind setting.players status (front ++ closed h.room.conv ∷ []) slots
-              (world_behind setting.players status h w)) in
+      (world_behind setting.players status h w)) in
       ap (λ (m : ℕ). closing_text (names_of setting.players) m status after (length w.process.ledger.filed) ++ rest) number
       ∙ ap (λ (text : List ℕ). text ++ rest) (plain_words (suc i) after (length w.process.ledger.filed))
 
@@ -208,22 +208,22 @@ module _ (setting : Setting) (status : Code) where
       let found : slice_get all i ≡ Some x = subst (λ (j : ℕ). slice_get all j ≡ Some x) (sym behind) (at_front before slots x) in
       let here : closing_text_with setting.players status number_words (state_of all w) (suc i) ≡ place_text (suc i) now x =
       ap (λ (l : List PlainSlot). closed_text_with setting.players status number_words (suc i) (world_after_places setting.players status l w)
-          (slice_get all i)) taken
+      (slice_get all i)) taken
       ∙ ap (closed_text_with setting.players status number_words (suc i) now) found in
       let rest : closings_text (closings_behind setting.players status next slots (world_after_places setting.players status more w))
       ≡ flat_map (closing_text_with setting.players status number_words (state_of (more ++ slots) w)) (range_with_len (suc (suc i)) (length slots)) =
       texts_by_number slots next more (suc i) w (ap suc at ∙ sym (one_longer front (left_behind setting status x)))
-          (ap suc behind ∙ sym (one_longer before x)) in
+      (ap suc behind ∙ sym (one_longer before x)) in
       let one_more : suc (suc i) ≡ suc i + 1 = omega arith in
       one_place i x front slots now at
       ∙ ap (λ (v : PlainWorld). place_text (suc i) now x ++ closings_text (closings_behind setting.players status next slots v)) (sym (after_one before x w))
       ∙ ap (λ (text : List ℕ). place_text (suc i) now x ++ text) rest
       ∙ ap (λ (l : List PlainSlot). place_text (suc i) now x ++ flat_map (closing_text_with setting.players status number_words (state_of l w))
-          (range_with_len (suc (suc i)) (length slots))) (append_assoc before (x ∷ []) slots)
+      (range_with_len (suc (suc i)) (length slots))) (append_assoc before (x ∷ []) slots)
       ∙ ap (λ (m : ℕ). place_text (suc i) now x ++ flat_map (closing_text_with setting.players status number_words (state_of all w))
-          (range_with_len m (length slots))) one_more
+      (range_with_len m (length slots))) one_more
       ∙ ap (λ (text : List ℕ). text ++ flat_map (closing_text_with setting.players status number_words (state_of all w))
-          (range_with_len (suc i + 1) (length slots))) (sym here)
+      (range_with_len (suc i + 1) (length slots))) (sym here)
 
   pub closings_are : (s : RunState) → closings_text (closings setting.players status s) ≡ all_closing_texts setting.players status s
   unfolding world_after_places
@@ -239,9 +239,9 @@ goes_as_alone own other setting number n s script start stays =
     let x : RunState = state_behind setting n s script in
     let y : RunState = state_behind setting n s (alone number script) in
     let both : GoAlike setting number cs ds (run_lines (line_step setting) n s script) (run_lines (line_step setting) n s (alone number script)) =
-            from_start setting number own other n s script start stays in
+    from_start setting number own other n s script start stays in
     let ended : (status : Code) → Alike setting number (all_closed setting.players status x) (all_closed setting.players status y) =
-            λ status. closed_alike setting status number own other x y both.last in
+    λ status. closed_alike setting status number own other x y both.last in
     record {
       outcomes = outcomes_seen cs ds both.came;
       births = λ i. (both.last.shown i).births;

@@ -37,7 +37,7 @@ module _ (setting : Setting) where
   lines_agree [] n s = (refl, refl)
   lines_agree (line ∷ rest) n s =
       by_flags (leb 65536 n) (ltb 513 (length line)) n s line (λ t. run_items (step_at (line_step setting)) (n + 1) t rest)
-          (λ u. run_items (step_at line_read) (n + 1) u rest) (λ t. lines_agree rest (n + 1) t)
+      (λ u. run_items (step_at line_read) (n + 1) u rest) (λ t. lines_agree rest (n + 1) t)
 
   pub bytes_agree : (start : RunState) (bytes : List ℕ) (ended : Bool) → Agree (run_of (line_step setting) 0 start bytes ended)
       (run_of line_read 0 tt bytes ended)

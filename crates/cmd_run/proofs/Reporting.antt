@@ -39,9 +39,16 @@ module _ (wrapped : List ℕ → List ℕ) (players : List Player) (status : Cod
   -- an allocation for it failed
   pub one_unwritten : (number : ℕ) (s t : RunState) (p : SinkState) → EndsNext players status number s t
       → ClosesNext wrapped players status (Err NoMemory) s t p p
-  one_unwritten number s t p e =
-      ([], record { text = wrapped (text_of_end players status number s.world t.world); first = wrapped_first number s t e;
-          written = sym (append-nil p.written); calls = omega arith }, refl)
+  one_unwritten number s t p e = (
+    [],
+    record {
+      text = wrapped (text_of_end players status number s.world t.world);
+      first = wrapped_first number s t e;
+      written = sym (append-nil p.written);
+      calls = omega arith;
+    },
+    refl,
+  )
 
   -- it was ended, and its lines were to be written
   module _ (number : ℕ) (s t : RunState) (text : List ℕ) (names : List (List ℕ)) (filed : ℕ) (p q : SinkState) (e : EndsNext players status number s t)

@@ -79,8 +79,15 @@ abbrev sets_datum : Player
 sets_datum = record {
   name = codes "p";
   plays = λ (call : PlainCall) (room : SeenRoom) (datums : List NamedData) (sight : Sight).
-      record { code = Code.Success; room = room; births = record { name = codes "a"; payload = codes "x" } ∷ []; files = sight.files; locks = same_locks;
-      calls = 0; draws = 0 };
+      record {
+        code = Code.Success;
+        room = room;
+        births = record { name = codes "a"; payload = codes "x" } ∷ [];
+        files = sight.files;
+        locks = same_locks;
+        calls = 0;
+        draws = 0;
+      };
   note = length_note;
   breaks = never_breaks;
 }
@@ -94,11 +101,11 @@ service_files = record { path = codes "/r/etc/pam.d/t"; bytes = codes "auth requ
 abbrev with_service : RunState
 with_service = state_of (closed (record { offers = []; waits = false; handed = [] }) ∷ closed (record { offers = []; waits = false; handed = [] })
     ∷ []) (record {
-  vault = record { files = service_files; locks = no_locks; calls = 0; fails = [] };
-  clock = record { moment = 0; word = 0; draws = 0 };
-  nap = record { waits = 0; sum = 0 };
-  process = record { ledger = record { births = []; filed = [] }; root = codes "/r"; caller = 0 };
-})
+      vault = record { files = service_files; locks = no_locks; calls = 0; fails = [] };
+      clock = record { moment = 0; word = 0; draws = 0 };
+      nap = record { waits = 0; sum = 0 };
+      process = record { ledger = record { births = []; filed = [] }; root = codes "/r"; caller = 0 };
+    })
 
 abbrev interleaved : List (List ℕ)
 interleaved = codes "start 1 t" ∷ codes "start 2 t" ∷ codes "authenticate 2" ∷ codes "authenticate 1" ∷ codes "end 1 0" ∷ []

@@ -85,7 +85,7 @@ module _ {Kind : Type 0} (asked : Asking Kind) (wrapped : List ℕ → List ℕ)
 pub report_stopped : {Kind : Type 0} (step : ItemStep RunState Kind) (fails : RunState → List ℕ → RunState → Type 0) → WrittenIsServed step fails
     → BegunIsServed step fails
     → (stop : Stop) (n : ℕ) (item text : List ℕ) (c d : RunState) (p q : SinkState) → step n c item ≡ Ok (d, text) → WritesReport (Err stop) text p q
-        → ServesItem step fails (Err stop) n item c d p q
+    → ServesItem step fails (Err stop) n item c d p q
 report_stopped step fails written begun WriteFault n item text c d p q e w = written (Err w.0) n item text c d p q e w.1
 report_stopped step fails written begun NoMemory n item text c d p q e same =
     rw same (begun n item c d p (record { after = d; text = text; accepted = e; state = inl refl }))

@@ -27,16 +27,33 @@ module _ {Kind : Type 0} (looked : Looks) (asked : Asking Kind) (step : Setting 
   -- ---- none, or one
 
   pub none_served : (n : ℕ) (s : RunState) (input : List ℕ) (p : SinkState) → (others : List (List ℕ)) × ServedIn n n s s input others p p
-  none_served n s input p = (looked n input true, record { served = []; among = refl; number = omega arith; text = []; written = sym (append-nil p.written);
-      lead = (refl, refl, refl) })
+  none_served n s input p = (
+    looked n input true,
+    record {
+      served = [];
+      among = refl;
+      number = omega arith;
+      text = [];
+      written = sym (append-nil p.written);
+      lead = (refl, refl, refl);
+    },
+  )
 
   module _ (fails : RunState → List ℕ → RunState → Type 0) where
     pub refused_served : (kind : Kind) (n : ℕ) (item : List ℕ) (s t : RunState) (p q : SinkState) (input : List ℕ)
         → ServesItem (step setting) fails (Ok (Some kind)) n item s t p q
         → (others : List (List ℕ)) × ServedIn n n s t input others p q
-    refused_served kind n item s t p q input told =
-        (looked n input true, record { served = []; among = refl; number = omega arith; text = told.text; written = told.written;
-            lead = (refl, told.served.1, told.served.2) })
+    refused_served kind n item s t p q input told = (
+      looked n input true,
+      record {
+        served = [];
+        among = refl;
+        number = omega arith;
+        text = told.text;
+        written = told.written;
+        lead = (refl, told.served.1, told.served.2);
+      },
+    )
 
     pub one_served : (n : ℕ) (item : List ℕ) (s t : RunState) (p q : SinkState) (input : List ℕ) (others : List (List ℕ)) → looked n input true ≡ item ∷ others
         → ServesItem (step setting) fails (Ok None) n item s t p q
@@ -54,7 +71,7 @@ module _ {Kind : Type 0} (looked : Looks) (asked : Asking Kind) (step : Setting 
   -- one item was begun, or none
   pub broken_off : (n : ℕ) (s t : RunState) (input part : List ℕ) (p q : SinkState) → q.written ≡ p.written ++ part
       → ProceedsBy (FirstAsks asked n (looked n input true)) (notes_of setting.players) s.world.process.ledger (lists_of s.slots) t.world.process.ledger
-          (lists_of t.slots)
+      (lists_of t.slots)
       → BrokenIn n n s t input p q
   broken_off n s t input part p q written later = record {
     middle = s;
@@ -69,8 +86,14 @@ module _ {Kind : Type 0} (looked : Looks) (asked : Asking Kind) (step : Setting 
   -- ---- many
 
   pub nothing_served : (n : ℕ) (s : RunState) (input rest : List ℕ) (p : SinkState) → n ≡ 0 → rest ≡ input → ServedIn 0 n s s input (looked n rest true) p p
-  nothing_served n s input rest p zero same = record { served = []; among = rw (zero, same) refl; number = omega (arith, zero); text = [];
-      written = sym (append-nil p.written); lead = (zero, refl, refl) }
+  nothing_served n s input rest p zero same = record {
+    served = [];
+    among = rw (zero, same) refl;
+    number = omega (arith, zero);
+    text = [];
+    written = sym (append-nil p.written);
+    lead = (zero, refl, refl);
+  }
 
   pub served_on : (n m k : ℕ) (s t u : RunState) (input rest : List ℕ) (others : List (List ℕ)) (p q r : SinkState)
       → ServedIn n m s t input (looked m rest true) p q → ServedIn m k t u rest others q r → ServedIn n k s u input others p r

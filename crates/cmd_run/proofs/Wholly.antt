@@ -46,14 +46,20 @@ module _ (players : List Player) (ending : Ending) (n : ℕ) where
       → u ≡ all_closed players (stop_status stop) t → StopsClosing players stop ending n s u (closings_text w.whole ++ w.part)
   stops_closing stop s t u p q w e =
       let among = ended_as s w.whole w.others w.among in
-      record { whole = w.whole; others = w.others; among = among; part = w.part; written = refl;
-          stopped = stops_in stop s t u w.whole w.others w.part among w.to e }
+      record {
+        whole = w.whole;
+        others = w.others;
+        among = among;
+        part = w.part;
+        written = refl;
+        stopped = stops_in stop s t u w.whole w.others w.part among w.to e;
+      }
 
   pub words_whole : (s t : RunState) (p q : SinkState) (done : Unit {0}) → (w : EndsWith as_it_is script_last players ending n (Ok done) s t p q)
       → closings_text w.whole ++ w.part ≡ last_words players ending n s
   words_whole s t p q done w =
       let all : w.whole ≡ closings players (ending_status ending) s = sym (append-nil w.whole) ∙ ap (λ (x : List Closing). w.whole ++ x) (sym w.to.0)
-              ∙ sym (ended_as s w.whole w.others w.among) in
+      ∙ sym (ended_as s w.whole w.others w.among) in
       ap (λ (x : List ℕ). closings_text w.whole ++ x) w.to.1 ∙ ap (λ (x : List Closing). closings_text x ++ last_line ending n) all
 
   pub all_ended : (s t : RunState) (p q : SinkState) (done : Unit {0}) → EndsWith as_it_is script_last players ending n (Ok done) s t p q
@@ -76,7 +82,7 @@ module _ (setting : Setting) (start : RunState) (x y : SourceState) (p q : SinkS
   pub stopped_lines : AllLooked → (stop : Stop) (n : ℕ) (t u : RunState) → Runs (line_step setting) (Fails setting) (Err stop) n start t x y p q
       → u ≡ all_closed setting.players (stop_status stop) t
       → ((text : List ℕ) → q.written ≡ p.written ++ text → StandsCut setting (stop_status stop) n start u x.left text)
-          → RunsScript setting (Err stop) start u x y p q
+      → RunsScript setting (Err stop) start u x y p q
   stopped_lines all stop n t u r e stands = record {
     taken = r.taken;
     text = r.text;
@@ -106,7 +112,7 @@ module _ (setting : Setting) (start : RunState) (x y : SourceState) (p q : SinkS
 
     pub ended_run : (done : Unit {0}) → EndsWith as_it_is script_last setting.players ending n (Ok done) s t q z
         → ((t ≡ all_closed setting.players (ending_status ending) s) → StandOn (notes_of setting.players)
-            (run_events setting (ending_status ending) start x.left n s) start t)
+        (run_events setting (ending_status ending) start x.left n s) start t)
         → RunsScript setting (Ok ending) start t x y p z
     ended_run done w stands =
         let words = closings_text w.whole ++ w.part in

@@ -54,7 +54,7 @@ pub runs_frames : BytesSpell → ((setting : Setting) → RunIsOfSteps (answers 
     → RunsOrStops looked frame_asked answer_of nothing_last frame_step Fails setting result start end x y p q → RunsAnswered setting result start end x y p q
 runs_frames spell steps served setting (Ok ending) start end x y p q r =
     let closed : Closes setting.players (ending_status ending) (Ok tt) r.last end r.between q =
-            closes setting.players ending r.items r.last end r.between q (Ok tt) r.ends in
+    closes setting.players ending r.items r.last end r.between q (Ok tt) r.ends in
     record {
       told = ended setting start x y p ending r.items r.last end r.between q r.serves.runs tt closed;
       answered = answers_all setting spell (steps setting) start x y p ending r.items r.last end r.between q r.serves.runs r.takes tt closed;
@@ -65,7 +65,7 @@ runs_frames spell steps served setting (Err stop) start end x y p q (inl r) = re
 }
 runs_frames spell steps served setting (Err stop) start end x y p q (inr r) =
     let closed : Closes setting.players (ending_status r.ending) (Err stop) r.last r.middle r.between q =
-            closes setting.players r.ending r.items r.last r.middle r.between q (Err stop) r.ends in
+    closes setting.players r.ending r.items r.last r.middle r.between q (Err stop) r.ends in
     record {
       told = broken setting start x y p r.ending r.items r.last r.middle end r.between q r.serves.runs stop closed r.stops.closed;
       answered = inr (stops_behind setting spell (steps setting) start x y p r.ending r.items r.last end r.between q r.serves.runs r.takes stop r.middle closed

@@ -31,6 +31,12 @@ module _ (setting : Setting) (start : RunState) (x y : SourceState) (p : SinkSta
   pub broken : (ending : Ending FrameFault) (frames : ℕ) (last middle end : RunState) (between q : SinkState)
       → Runs looked (step_at (answers setting)) (Fails setting) (Ok ending) frames start last x y p between
       → (stop : Stop) → Closes setting.players (ending_status ending) (Err stop) last middle between q
-          → end ≡ all_closed setting.players (stop_status stop) middle → RunsFrames setting (Err stop) start end x y p q
-  broken ending frames last middle end between q r stop c e = record { served = Ok ending; frames = frames; last = last; between = between; runs = r;
-      behind = (middle, c, e) }
+      → end ≡ all_closed setting.players (stop_status stop) middle → RunsFrames setting (Err stop) start end x y p q
+  broken ending frames last middle end between q r stop c e = record {
+    served = Ok ending;
+    frames = frames;
+    last = last;
+    between = between;
+    runs = r;
+    behind = (middle, c, e);
+  }

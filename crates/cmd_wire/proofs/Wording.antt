@@ -88,11 +88,18 @@ module _ (spell : BytesSpell) (runs : RunIsOfSteps call_read) where
       let l = r.last in
       let bytes : AreBytes l.early =
       All-same (λ b. b < 256) l.early (take (length l.early) r.taken) (sym (ap (take (length l.early)) l.parts ∙ take-append_seam l.early l.late))
-          (All-take (λ b. b < 256) (length l.early) r.taken all) in
+      (All-take (λ b. b < 256) (length l.early) r.taken all) in
       let s = spell 0 l.early false (omega arith) bytes in
       let none : s.2 ≡ None = sym (ap (λ (z : Run (Unit {0}) FrameFault). z.refused) (runs 0 tt l.early false s.0 s.1 s.2 bytes s.3)) ∙ l.accepted in
-      record { early = l.early; late = l.late; parts = l.parts; room = l.room; steps = s.0; rest = s.1;
-          spells = subst (λ (f : Option FrameFault). Spells l.early false s.0 s.1 f) none s.3 }
+      record {
+        early = l.early;
+        late = l.late;
+        parts = l.parts;
+        room = l.room;
+        steps = s.0;
+        rest = s.1;
+        spells = subst (λ (f : Option FrameFault). Spells l.early false s.0 s.1 f) none s.3;
+      }
 
   pub frames_read : (result : Result (Ending FrameFault) Stop) (m : ℕ) (x y : SourceState) → ReadsAll result m x y → TakesBytes [] x y → ReadsFrames result x y
   frames_read (Ok ending) m x y r t =
@@ -149,7 +156,7 @@ module _ (setting : Setting) (spell : BytesSpell) (runs : RunIsOfSteps (answers 
         → AnswersAll setting ending start end x y p q
     answers_all done c =
         let whole : c.whole ≡ closings setting.players (ending_status ending) last = sym (append-nil c.whole)
-                ∙ ap (λ (z : List Closing). c.whole ++ z) (sym c.to.0) ∙ sym c.among in
+        ∙ ap (λ (z : List Closing). c.whole ++ z) (sym c.to.0) ∙ sym c.among in
         let words : closings_text c.whole ++ c.part ≡ closings_text (closings setting.players (ending_status ending) last) =
         ap (λ (z : List ℕ). closings_text c.whole ++ z) c.to.1 ∙ append-nil (closings_text c.whole) ∙ ap closings_text whole in
         record {
@@ -238,8 +245,8 @@ module _ (setting : Setting) (served : ServedAreSteps (answers setting)) where
   bytes_behind : (taken rest : List ℕ) (steps : List Step) → AreFramesOf taken steps rest → AreBytes taken → AreBytes rest
   bytes_behind taken rest steps f all =
       All-same (λ b. b < 256) rest (drop (length (frames_of steps)) taken)
-          (sym (ap (drop (length (frames_of steps))) f.parts ∙ drop-append_seam (frames_of steps) rest))
-          (All-drop (λ b. b < 256) (length (frames_of steps)) taken all)
+      (sym (ap (drop (length (frames_of steps))) f.parts ∙ drop-append_seam (frames_of steps) rest))
+      (All-drop (λ b. b < 256) (length (frames_of steps)) taken all)
 
   pub stops_among : (start last end : RunState) (x y : SourceState) (p q : SinkState) (stop : Stop) (m : ℕ)
       → Runs looked (step_at (answers setting)) (Fails setting) (Err stop) m start last x y p q → TakesBytes [] x y
@@ -248,7 +255,7 @@ module _ (setting : Setting) (served : ServedAreSteps (answers setting)) where
       let s = r.report in
       let all = taken_bytes x y r.taken r.source t in
       let f = served 0 m start s.middle r.taken s.ended s.served (begun_items s.begun ++ s.others_met) s.whole (omega arith) all
-              (s.among_met ∙ append_assoc s.served (begun_items s.begun) s.others_met) s.run in
+      (s.among_met ∙ append_assoc s.served (begun_items s.begun) s.others_met) s.run in
       record {
         taken = r.taken;
         source = r.source;
@@ -261,6 +268,6 @@ module _ (setting : Setting) (served : ServedAreSteps (answers setting)) where
         last = last;
         cut = subst (λ (z : RunState). IsCutIn setting stop f.rest z last s.part) f.state_is
             (cut_in stop m s.begun s.middle last f.rest s.part s.ended s.others_met f.few (bytes_behind r.taken f.rest f.steps f.frames all)
-                f.others s.stopped);
+            f.others s.stopped);
         closed = e;
       }

@@ -34,7 +34,7 @@ module _ (old new : VaultState) (root service : List ℕ) (before now : ℕ) whe
 
   pub given_by : {E : Type 0} (r : Result Output E) (report : Transcript) (left : List ℕ)
       → IsRead report left → IsShort report → RisesIf (is_unread report) before now
-          → IfOk r (λ e. ExplainsRead (λ w. IsExplained e w) report old root service new)
+      → IfOk r (λ e. ExplainsRead (λ w. IsExplained e w) report old root service new)
       → IfOk r (λ e. ExplainsInput (λ w. IsExplained e w) old root service left new before now)
   given_by (Ok e) (Whole text) left read short rises is = whole_input e text left read short is
   given_by (Ok e) TooLong left read short rises is =

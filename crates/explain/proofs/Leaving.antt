@@ -58,7 +58,7 @@ module _ (input_before input_now before now : ℕ) where
       → Causes e.status (Some place) input_before input_now before now
   stacks_status place e text stacks (inl by) =
       explained_status place e.status (differs stacks (lines_read read_line text)) (explained_from stacks by.sources all_shut [] (bare_lines text))
-          by.explained.status
+      by.explained.status
   stacks_status place e text stacks (inr failure) = unread_status place e.status failure.nothing.status (inr failure.failed)
 
   shown_status : (place : Asked) (e : Output) (text : List ℕ) → IsOutputOf e text before now → Causes e.status (Some place) input_before input_now before now

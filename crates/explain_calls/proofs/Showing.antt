@@ -123,7 +123,7 @@ module _ {State : Type 0} (kind : PassKind) (serve : Serving State) where
       rows kind serve 0 why (line rule rest) at entry opinion old
       ≡ row_of at rule (Ran served.answer served.deciding action (new_or_overrun action (count rest) new))
       ∷ rows kind serve (skip_of (next_of action (count rest) new) (count rest)) (why_by (next_of action (count rest) new) at) rest (at + 1) entry
-          (new_or_overrun action (count rest) new) served.state
+      (new_or_overrun action (count rest) new) served.state
   line_runs rule rest at entry opinion old why is = rw is refl
 
   line_is : (rule : Rule) (rest : Stack) (at : ℕ) (entry opinion : Opinion) (old new : State) (why : Fate) (answer deciding : Code)
@@ -149,31 +149,31 @@ module _ {State : Type 0} (kind : PassKind) (serve : Serving State) where
   runs rule rest at entry opinion old new why answer deciding action left acts turn row shown after served action_is acts_is counted opinion_is skip_is
       why_is made adds =
       ap (λ (xs : List Row). shown ++ xs) (line_is rule rest at entry opinion old new why answer deciding action left acts turn served action_is acts_is counted
-          opinion_is skip_is why_is)
+      opinion_is skip_is why_is)
       ∙ sym (append_assoc shown (row_of at rule (Ran answer deciding action turn.opinion) ∷ [])
-          (rows kind serve turn.skip turn.why rest (at + 1) entry turn.opinion new))
+      (rows kind serve turn.skip turn.why rest (at + 1) entry turn.opinion new))
       ∙ ap (λ (r : Row). (shown ++ r ∷ []) ++ rows kind serve turn.skip turn.why rest (at + 1) entry turn.opinion new) (sym made)
       ∙ ap (λ (xs : List Row). xs ++ rows kind serve turn.skip turn.why rest (at + 1) entry turn.opinion new) (sym adds)
 
   pub showing_line : (all : Stack) (first : ℕ) (entry : Opinion) (start : State) (reason : Fate) (before : List Row) (here rest : Stack) (rule : Rule)
       (skip at at' left' : ℕ) (opinion : Opinion) (state new : State) (why : Fate) (turn : Turn) (shown after : List Row)
       → IsShowing all first entry start reason before here skip at opinion state why shown → here ≡ line rule rest → skip ≡ 0 → at' ≡ at + 1
-          → count rest ≡ left'
+      → count rest ≡ left'
       → (count rest ≡ left' → shown ++ rows kind serve 0 why (line rule rest) (at + 1) entry opinion state
-          ≡ after ++ rows kind serve turn.skip turn.why rest (at + 1 + 1) entry turn.opinion new)
+      ≡ after ++ rows kind serve turn.skip turn.why rest (at + 1 + 1) entry turn.opinion new)
       → IsShowing all first entry start reason before rest turn.skip at' turn.opinion new turn.why after
   showing_line all first entry start reason before here rest rule skip at at' left' opinion state new why turn shown after was is none_over further counted
       goes = record {
-    shows = ap (λ n. after ++ rows kind serve turn.skip turn.why rest (n + 1) entry turn.opinion new) further ∙ sym (goes counted)
-        ∙ ap (λ (s : Stack). shown ++ rows kind serve 0 why s (at + 1) entry opinion state) (sym is)
-        ∙ ap (λ n. shown ++ rows kind serve n why here (at + 1) entry opinion state) (sym none_over) ∙ was.shows;
-  }
+        shows = ap (λ n. after ++ rows kind serve turn.skip turn.why rest (n + 1) entry turn.opinion new) further ∙ sym (goes counted)
+            ∙ ap (λ (s : Stack). shown ++ rows kind serve 0 why s (at + 1) entry opinion state) (sym is)
+            ∙ ap (λ n. shown ++ rows kind serve n why here (at + 1) entry opinion state) (sym none_over) ∙ was.shows;
+      }
 
   -- a line at which the walk waits, and the lines that weren't reached
   pub showing_waits : (all : Stack) (first : ℕ) (entry : Opinion) (start : State) (reason : Fate) (before : List Row) (here rest left : Stack) (rule : Rule)
       (skip at at' left' : ℕ) (opinion : Opinion) (state : State) (why : Fate) (shown after final : List Row)
       → IsShowing all first entry start reason before here skip at opinion state why shown → here ≡ line rule rest → skip ≡ 0 → count rest ≡ left'
-          → at' ≡ at + 1 → left ≡ rest
+      → at' ≡ at + 1 → left ≡ rest
       → (count rest ≡ left' → shown ++ rows kind serve 0 why (line rule rest) (at + 1) entry opinion state ≡ after ++ rows_over Unreached (at + 1 + 1) rest)
       → final ≡ after ++ rows_over Unreached (at' + 1) left
       → final ≡ before ++ rows kind serve 0 reason all (first + 1) entry entry start
@@ -216,7 +216,7 @@ module _ {State : Type 0} (kind : PassKind) (serve : Serving State) where
   pub sub_waits : (all : Stack) (first : ℕ) (entry : Opinion) (start : State) (reason : Fate) (before : List Row) (here inner rest left : Stack)
       (skip at at' : ℕ) (opinion : Opinion) (state new : State) (why : Fate) (shown after final : List Row)
       → IsShowing all first entry start reason before here skip at opinion state why shown → here ≡ sub inner rest → skip ≡ 0 → at' ≡ at + lines_in inner
-          → left ≡ rest
+      → left ≡ rest
       → WalkEnds (walk kind serve 0 inner (at + 1) opinion opinion state) None new
       → after ≡ shown ++ rows kind serve 0 why inner (at + 1) opinion opinion state
       → final ≡ after ++ rows_over Unreached (at' + 1) left
@@ -231,7 +231,7 @@ module _ {State : Type 0} (kind : PassKind) (serve : Serving State) where
       ∙ ap (λ (s : Stack). after ++ rows_over Unreached (at + 1 + lines_in inner) s) left_is
       ∙ ap (λ (xs : List Row). xs ++ over) adds ∙ append_assoc shown own over
       ∙ ap (λ (xs : List Row). shown ++ xs) (sym (on_halt inside own over
-          (rows kind serve 0 why rest (at + 1 + lines_in inner) entry inside.opinion inside.state) (ap (λ (v : Walked State). v.stopped) comes)))
+      (rows kind serve 0 why rest (at + 1 + lines_in inner) entry inside.opinion inside.state) (ap (λ (v : Walked State). v.stopped) comes)))
       ∙ ap (λ (s : Stack). shown ++ rows kind serve 0 why s (at + 1) entry opinion state) (sym is)
       ∙ ap (λ n. shown ++ rows kind serve n why here (at + 1) entry opinion state) (sym none_over) ∙ was.shows
 

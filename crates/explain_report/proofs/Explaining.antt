@@ -87,23 +87,23 @@ module _ (stacks : Stacks) (sources : Sources) where
 
   pub takes_fits : (old new : Explainer) (number : ℕ) (outcome : ReportedOutcome)
       → string_bytes new.text ≡ string_bytes old.text ++ block_text stacks sources number (place_at (map place_of old.places.items) number)
-          (visits_told (told_in old.told.items)) (result_of outcome)
+      (visits_told (told_in old.told.items)) (result_of outcome)
       → behind_block stacks (map place_of old.places.items) (block_of number (told_in old.told.items) (result_of outcome))
-          ≡ Some (map place_of new.places.items)
+      ≡ Some (map place_of new.places.items)
       → new.told.items ≡ [] → Takes stacks sources old (Some (results number (result_of outcome))) true new
   takes_fits old new number outcome adds fits none = λ lines.
       result_fits number (map place_of old.places.items) (map place_of new.places.items) (told_in old.told.items) (result_of outcome) (string_bytes old.text)
-          (string_bytes new.text) lines adds fits
+      (string_bytes new.text) lines adds fits
       ∙ ap (λ (ts : List (Option Seen)). string_bytes new.text ++ explained_from stacks sources (map place_of new.places.items) (told_in ts) lines) (sym none)
 
   pub takes_differs : (old new : Explainer) (number : ℕ) (outcome : ReportedOutcome)
       → string_bytes new.text ≡ string_bytes old.text ++ block_text stacks sources number (place_at (map place_of old.places.items) number)
-          (visits_told (told_in old.told.items)) (result_of outcome)
+      (visits_told (told_in old.told.items)) (result_of outcome)
       → behind_block stacks (map place_of old.places.items) (block_of number (told_in old.told.items) (result_of outcome)) ≡ None
       → Takes stacks sources old (Some (results number (result_of outcome))) false new
   takes_differs old new number outcome adds differs = λ lines.
       result_differs number (map place_of old.places.items) (told_in old.told.items) (result_of outcome) (string_bytes old.text) (string_bytes new.text) lines
-          adds differs
+      adds differs
 
   -- ---- a stack call
 

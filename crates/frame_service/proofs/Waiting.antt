@@ -43,6 +43,6 @@ module _ (asked : Option Command) (status : ℕ) (players : List Player) (slots 
   -- the same for modules that are known
   pub served_as : (others : List Player) → ServesFrames asked status (setup_of players slots (IsNumberGiven Post) tells) world input output
       → IsNumberGiven Post served_wait → players ≡ others → ServesFrames asked status (setup_of others slots (λ number. number ≡ served_wait) tells) world
-          input output
+      input output
   served_as others s given same =
       subst (λ ps. ServesFrames asked status (setup_of ps slots (λ number. number ≡ served_wait) tells) world input output) same (served_with s given)

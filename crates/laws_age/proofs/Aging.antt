@@ -41,7 +41,7 @@ age_more age more (Some m) None inactive a b = absurd (true≢false (sym b))
 age_more age more (Some m) (Some l) inactive a b =
     let k : l ≤ m = leb-true l m b in
     by_tests (is_past age m inactive) (nat_lt m age) (is_past more l inactive) (nat_lt l more) (later_past m age l more inactive k a)
-        (later_lt m age l more k a)
+    (later_lt m age l more k a)
 
 age_bound : (age : ℕ) (max inactive : Option ℕ) → step (code_at_age age max inactive) ≤ 2
 age_bound age None inactive = omega arith
@@ -104,7 +104,7 @@ pub longer_maximum : LongerMaximum
 unfolding aged
 longer_maximum today entry more is =
     aged_by (is_reached entry.expire today) (is_reached entry.expire today) (code_after_change today entry.last_change more entry.inactive)
-        (code_after_change today entry.last_change entry.max entry.inactive) (λ e. e)
+    (code_after_change today entry.last_change entry.max entry.inactive) (λ e. e)
     (change_bound today entry.last_change more entry.inactive) (change_more today today entry.last_change more entry.max entry.inactive (omega arith) is)
 
 pub only_ages : OnlyAges
@@ -113,7 +113,7 @@ only_ages today later entry is = (
   aged_by (is_reached entry.expire today) (is_reached entry.expire later) (code_after_change today entry.last_change entry.max entry.inactive)
       (code_after_change later entry.last_change entry.max entry.inactive)
       (reached_later entry.expire today later is) (change_bound today entry.last_change entry.max entry.inactive)
-          (change_more today later entry.last_change entry.max entry.max entry.inactive is (same_max entry.max)),
+      (change_more today later entry.last_change entry.max entry.max entry.inactive is (same_max entry.max)),
   aged_bound (is_reached entry.expire later) (code_after_change later entry.last_change entry.max entry.inactive)
       (change_bound later entry.last_change entry.max entry.inactive),
 )
@@ -132,10 +132,10 @@ pub accounts_expire : AccountsExpire
 unfolding aged
 accounts_expire today entry =
     let from : is_reached entry.expire today ≡ true → aged today entry ≡ returns.AcctExpired =
-            expires (is_reached entry.expire today) (code_after_change today entry.last_change entry.max entry.inactive) in
+    expires (is_reached entry.expire today) (code_after_change today entry.last_change entry.max entry.inactive) in
     let before : aged today entry ≡ returns.AcctExpired → is_reached entry.expire today ≡ true =
     has_expired (is_reached entry.expire today) (code_after_change today entry.last_change entry.max entry.inactive)
-        (change_bound today entry.last_change entry.max entry.inactive) in
+    (change_bound today entry.last_change entry.max entry.inactive) in
     record {
       from_its_day = from;
       not_before = before;
@@ -176,4 +176,4 @@ pub new_is_not_too_old : NewIsNotTooOld
 unfolding aged
 new_is_not_too_old today entry is e =
     either (is_reached entry.expire today) (code_after_change today entry.last_change entry.max entry.inactive)
-        (changed_today today entry.last_change entry.max entry.inactive is e)
+    (changed_today today entry.last_change entry.max entry.inactive is e)

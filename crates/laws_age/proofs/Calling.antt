@@ -48,7 +48,7 @@ module _ (user : List ℕ) (entry : Shadow) (stage : Stage) (fine : (n : ℕ) �
   found_in_shadow : shadow_in user (content_seen (codes "/etc/shadow") account_limit first.sight) ≡ Shadowed entry
   found_in_shadow =
       ap (λ (c : Content). shadow_in user c) (read_so (stage.sight.failing 1) (file_at (path_of stage.sight.root (codes "/etc/shadow")) stage.sight.files)
-          h.shadow (fine 1) h.shadow_is h.shadow_fits)
+      h.shadow (fine 1) h.shadow_is h.shadow_fits)
       ∙ ap (λ (r : Result (List Shadow) DbFault). shadow_among user r) h.entries_are
       ∙ ap (λ (o : Option Shadow). shadowed o) h.entry_is
 

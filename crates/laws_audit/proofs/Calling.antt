@@ -62,7 +62,7 @@ module _ (players : List Player) (number : Code → ℕ → ℕ) (flags : ℕ) w
       let p : Passed = passed players Authenticate flags kinds.Keep h.authenticated h.stacks.auth past (state_of r w) in
       let behind : Leaves p.code (record h { room = p.state.room; authenticated = p.kept; pending = pending_after Authenticate None p.paused }) _ =
       authenticated_leaves number p.paused p.code (record h { room = p.state.room; authenticated = p.kept; pending = pending_after Authenticate None p.paused })
-          p.state.world in
+      p.state.world in
       record { begun = state_of r w; trail = same; code = behind.code_is; held = behind.held_is; told = behind.trail_is; stacks = behind.stacks_is }
 
   credentials_go : (past : List Code) (first : Option KeptAnswers) (h : PlainHandle) (w : PlainWorld)
@@ -112,7 +112,7 @@ module _ (players : List Player) (number : Code → ℕ → ℕ) (flags : ℕ) w
 
   behind_changes : (code : Code) (paused : Option (List Code)) (kept : Option KeptAnswers) (h : PlainHandle) (w : PlainWorld)
       → Changes h (calls.behind_check (asking_by players flags) h.stacks code kept (held_in h) (state_of h.room w))
-          (behind_check players flags code paused kept h w)
+      (behind_check players flags code paused kept h w)
   behind_changes codes.Success paused kept h w = update_changes kept [] h w
   behind_changes code paused kept h w = rest_changes code paused h w
 
@@ -122,7 +122,7 @@ module _ (players : List Player) (number : Code → ℕ → ℕ) (flags : ℕ) w
       let p : Passed = passed players ChAuthTok (bit_or flags prelim_check) kinds.Keep None h.stacks.password past (state_of r w) in
       let h' : PlainHandle = record h { room = p.state.room; pending = pending_after ChAuthTok None p.paused } in
       let behind : Changes h' (calls.behind_check (asking_by players flags) h.stacks p.code p.kept (held_in h') p.state)
-              (behind_check players flags p.code p.paused p.kept h' p.state.world) =
+      (behind_check players flags p.code p.paused p.kept h' p.state.world) =
       behind_changes p.code p.paused p.kept h' p.state.world in
       record { code = behind.code; held = behind.held; told = behind.told; stacks = behind.stacks }
 
@@ -150,16 +150,16 @@ module _ (players : List Player) (number : Code → ℕ → ℕ) (flags : ℕ) w
       (authentication_goes [] None h (tokens_cleared h).room w refl) (λ p. authentication_goes p.past p.first h h.room w refl)
   goes SetCred h w flagged own =
       goes_or_begins h.pending SetCred _ _ _ (λ past first c. GoesAs players SetCred flags past first h c) own (credentials_go [] None h w)
-          (λ p. credentials_go p.past p.first h w)
+      (λ p. credentials_go p.past p.first h w)
   goes AcctMgmt h w flagged own =
       goes_or_begins h.pending AcctMgmt _ _ _ (λ past first c. GoesAs players AcctMgmt flags past first h c) own (account_goes [] None h w)
-          (λ p. account_goes p.past p.first h w)
+      (λ p. account_goes p.past p.first h w)
   goes OpenSession h w flagged own =
       goes_or_begins h.pending OpenSession _ _ _ (λ past first c. GoesAs players OpenSession flags past first h c) own (opening_goes [] None h w)
-          (λ p. opening_goes p.past p.first h w)
+      (λ p. opening_goes p.past p.first h w)
   goes CloseSession h w flagged own =
       goes_or_begins h.pending CloseSession _ _ _ (λ past first c. GoesAs players CloseSession flags past first h c) own (closing_goes [] None h w)
-          (λ p. closing_goes p.past p.first h w)
+      (λ p. closing_goes p.past p.first h w)
   goes ChAuthTok h w flagged own =
       unless_flagged (has_pass_flag flags) _ _ (λ c. GoesAs players ChAuthTok flags (past_in h.pending) (first_in h.pending) h c) flagged
       (goes_or_begins h.pending ChAuthTok _ _ _ (λ past first c. GoesAs players ChAuthTok flags past first h c) own

@@ -75,7 +75,7 @@ module _ (players : List Player) (status : Code) (stacks : Stacks) where
       let b : Block = closing_reported (names_of players) (length front + 1) status v.process.ledger (length w.process.ledger.filed) in
       ap (behind_at stacks (places_of slots') b) (place_at-of slots' (length front + 1) ∙ ap (option_map place_of) (slot_behind front (opened h) slots))
       ∙ ap (λ (vs : List Seen). with_behind stacks (places_of slots') (length front + 1)
-          (behind_result stacks (running (held_in h)) vs (closed_by_program status)))
+      (behind_result stacks (running (held_in h)) vs (closed_by_program status)))
       (filed_visits (names_of players) v.process.ledger.births (drop (length w.process.ledger.filed) v.process.ledger.filed))
       ∙ ap (λ (p : SlotLog). Some (with_place (places_of slots') (length front + 1) p)) (sym is)
       ∙ ap (λ (x : List SlotLog). Some x) (with_place-of slots' (length front + 1) y ∙ ap places_of (with_behind_slot front (opened h) y slots))
@@ -87,7 +87,7 @@ module _ (players : List Player) (status : Code) (stacks : Stacks) where
       let v : PlainWorld = world_behind players status h w in
       let y : PlainSlot = closed h.room.conv in
       let rest : FitsOn (places_of (front ++ y ∷ slots)) (closing_blocks players status (front ++ y ∷ []) slots v) =
-              moved front slots y _ (closings_fit (front ++ y ∷ []) slots v) in
+      moved front slots y _ (closings_fit (front ++ y ∷ []) slots v) in
       record {
         behind = rest.behind;
         fits = ap (λ (x : Option (List SlotLog)). fold_on stacks x (λ p. fold stacks p (closing_blocks players status (front ++ y ∷ []) slots v)))
@@ -125,7 +125,7 @@ last_prints by Done n = refl
 last_prints by ReadFault n = refl
 last_prints by (Refused kind) n =
     sym (ap (λ (l : List ℕ). codes "script " ++ (l ++ (codes " " ++ (script_fault_name kind
-        ++ (codes " " ++ (decimal (script_fault_number kind) ++ codes "\n")))))) (by.long (n + 1)))
+    ++ (codes " " ++ (decimal (script_fault_number kind) ++ codes "\n")))))) (by.long (n + 1)))
 
 last_ends : (ending : Ending) (n : ℕ) → IsLast (last_of ending n)
 last_ends Done n = tt
@@ -153,31 +153,31 @@ runs_fit AreSuch prints setting stacks ending start end input taken left text e 
     let have : HaveStacks stacks start.slots = shut_stacks stacks start.slots 16 shuts in
     let sound : AreSound stacks (places_of start.slots) = subst (AreSound stacks) (sym shuts) (sound_shut stacks 16) in
     let r : LinesFit by setting stacks start (run_lines (line_step setting) 0 start ls) (run_blocks setting 0 start ls) =
-            lines_fit by setting stacks 0 start ls have sound (starts_have setting stacks 0 start ls have finds) in
+    lines_fit by setting stacks 0 start ls have sound (starts_have setting stacks 0 start ls have finds) in
     let first : fold stacks all_shut (run_blocks setting 0 start ls) ≡ Some (places_of e.last.slots) =
     ap (λ (p : List SlotLog). fold stacks p (run_blocks setting 0 start ls)) (sym shuts) ∙ r.fits
-        ∙ ap (λ (x : Run RunState). Some (places_of x.last.slots)) c.is in
+    ∙ ap (λ (x : Run RunState). Some (places_of x.last.slots)) c.is in
     let body : blocks_text (run_blocks setting 0 start ls) ≡ e.body = r.text ∙ ap (λ (x : Run RunState). x.text) c.is in
     let closes : List Block = closing_blocks setting.players (ending_status ending) [] e.last.slots e.last.world in
     let f : FitsOn setting.players (ending_status ending) stacks (places_of e.last.slots) closes =
-            closings_fit setting.players (ending_status ending) stacks [] e.last.slots e.last.world in
+    closings_fit setting.players (ending_status ending) stacks [] e.last.slots e.last.world in
     let printed : blocks_text (run_blocks setting 0 start ls ++ closes) ≡ e.body ++ closings_text (closings setting.players (ending_status ending) e.last) =
     flat_map-append block_text (run_blocks setting 0 start ls) closes ∙ ap (λ (t : List ℕ). t ++ blocks_text closes) body
     ∙ ap (λ (t : List ℕ). e.body ++ t) (closings_print_all setting.players (ending_status ending) stacks by [] e.last.slots e.last.world) in
     let sixteen : length e.last.slots ≡ 16 = sym (length-map e.last.slots place_of)
-            ∙ fold_length stacks all_shut (run_blocks setting 0 start ls) (places_of e.last.slots) first in
+    ∙ fold_length stacks all_shut (run_blocks setting 0 start ls) (places_of e.last.slots) first in
     let whole : fold stacks all_shut (run_blocks setting 0 start ls ++ closes) ≡ Some f.behind =
-            fold-append stacks all_shut (run_blocks setting 0 start ls) closes (places_of e.last.slots) first ∙ f.fits in
+    fold-append stacks all_shut (run_blocks setting 0 start ls) closes (places_of e.last.slots) first ∙ f.fits in
     let all_formed : AreBlocks (run_blocks setting 0 start ls ++ closes) =
     blocks_whole (run_blocks setting 0 start ls ++ closes) (both_formed (run_blocks setting 0 start ls) closes (run_formed setting 0 start ls)
-        (closings_formed setting.players (ending_status ending) [] e.last.slots e.last.world 16 sixteen (omega arith)))
-        (fits_seen stacks all_shut (run_blocks setting 0 start ls ++ closes) f.behind printable whole) in
+    (closings_formed setting.players (ending_status ending) [] e.last.slots e.last.world 16 sixteen (omega arith)))
+    (fits_seen stacks all_shut (run_blocks setting 0 start ls ++ closes) f.behind printable whole) in
     record {
       blocks = run_blocks setting 0 start ls ++ closes;
       last = last_of ending e.lines;
       printed = e.whole ∙ sym (append_assoc e.body (closings_text (closings setting.players (ending_status ending) e.last)) (last_line ending e.lines))
           ∙ ap (λ (t : List ℕ). t ++ last_line ending e.lines) (sym printed)
-              ∙ ap (λ (t : List ℕ). blocks_text (run_blocks setting 0 start ls ++ closes) ++ t) (last_prints by ending e.lines);
+          ∙ ap (λ (t : List ℕ). blocks_text (run_blocks setting 0 start ls ++ closes) ++ t) (last_prints by ending e.lines);
       formed = all_formed;
       ended = last_ends ending e.lines;
       places = f.behind;

@@ -83,7 +83,7 @@ module _ (path : List ℕ) where
   second_read true args conf = texts_set conf (Some [])
   second_read false args conf =
       reading path (unwrap_or (value_among (codes "envfile=") args) (codes "/etc/environment")) env_limit (λ content. sets_by_texts conf (text_in content))
-          (λ content. texts_set conf (text_in content))
+      (λ content. texts_set conf (text_in content))
 
   first_read : (args : List (List ℕ)) (conf : Option (List ℕ)) → Still (after_conf args conf)
   first_read args (Some conf) = second_read (is_zero (value_among (codes "readenv=") args)) args conf
@@ -92,4 +92,4 @@ module _ (path : List ℕ) where
   pub env_leaves : (call : PlainCall) → Still (env_act call)
   env_leaves call = unless path (at_once call.func) (reads_first call.args)
       (reading path (unwrap_or (value_among (codes "conffile=") call.args) (codes "/etc/security/pam_env.conf")) env_limit
-          (λ content. after_conf call.args (text_in content)) (λ content. first_read call.args (text_in content)))
+      (λ content. after_conf call.args (text_in content)) (λ content. first_read call.args (text_in content)))

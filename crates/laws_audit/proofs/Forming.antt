@@ -73,8 +73,10 @@ told_whole (t ∷ told) all seen = (all.0, told_whole told all.1 seen)
 
 pub blocks_whole : (blocks : List Block) → AreBlocksBut blocks → AreSeen blocks → AreBlocks blocks
 blocks_whole [] all seen = tt
-blocks_whole (b ∷ blocks) all seen = (record { number = all.0.number; told = told_whole b.told all.0.told seen.0; result = all.0.result },
-    blocks_whole blocks all.1 seen.1)
+blocks_whole (b ∷ blocks) all seen = (
+  record { number = all.0.number; told = told_whole b.told all.0.told seen.0; result = all.0.result },
+  blocks_whole blocks all.1 seen.1,
+)
 
 are_long : (n : ℕ) → IsLong (long_of n)
 are_long n = mod_below n (2 ^ 64) (omega arith)
@@ -98,8 +100,16 @@ visits_formed [] = tt
 visits_formed (v ∷ trail) = (tt, visits_formed trail)
 
 receipt_formed : (names : List (List ℕ)) (receipt : Receipt) (birth : Option Birth) → AllByRecursion IsToldBut (receipt_told names receipt birth)
-receipt_formed names receipt (Some birth) = ((are_long receipt.id, mod_below receipt.status (2 ^ 32) (omega arith), are_long receipt.note,
-    are_bytes (unwrap_or (slice_get names birth.owner) []), are_bytes birth.name), tt)
+receipt_formed names receipt (Some birth) = (
+  (
+    are_long receipt.id,
+    mod_below receipt.status (2 ^ 32) (omega arith),
+    are_long receipt.note,
+    are_bytes (unwrap_or (slice_get names birth.owner) []),
+    are_bytes birth.name,
+  ),
+  tt,
+)
 receipt_formed names receipt None = tt
 
 filed_formed : (names : List (List ℕ)) (births : List Birth) (filed : List Filed) → AllByRecursion IsToldBut (flat_map (filed_told names births) filed)
@@ -128,9 +138,10 @@ AreVariables answer = Unit {0}
 variables_formed : (variables : List (List ℕ)) → AllByRecursion IsOne variables → AllByRecursion IsToldBut (map variable_told variables)
 variables_formed [] all = tt
 variables_formed (text ∷ variables) all =
-    let v : Variable = all.0.0 in
-    (record { name = bytes_of v.name; value = bytes_of v.value; is = ap bytes_of all.0.1 ∙ map-append byte_of v.name (61 ∷ v.value); bytes = are_bytes text },
-        variables_formed variables all.1)
+    let v : Variable = all.0.0 in (
+      record { name = bytes_of v.name; value = bytes_of v.value; is = ap bytes_of all.0.1 ∙ map-append byte_of v.name (61 ∷ v.value); bytes = are_bytes text },
+      variables_formed variables all.1,
+    )
 
 answer_formed : (answer : Answer) → AreVariables answer → AllByRecursion IsToldBut (variables_told answer)
 answer_formed (answers.List variables) all = variables_formed variables all
@@ -231,8 +242,8 @@ module _ (setting : Setting) where
   asked_formed : (s : RunState) (line : List ℕ) (read : Result Line ScriptKind) → parsed line ≡ read → AreBlocksBut (blocks_asked setting s read)
   asked_formed s line (Ok (lines.Step step)) is =
       reported_formed (names_of setting.players) step (stepped setting.players setting.delay s.slots s.world step).outcome
-          (stepped setting.players setting.delay s.slots s.world step).world.process.ledger (reads_numbers line step is)
-          (step_lists setting.players setting.delay s.slots s.world step)
+      (stepped setting.players setting.delay s.slots s.world step).world.process.ledger (reads_numbers line step is)
+      (step_lists setting.players setting.delay s.slots s.world step)
   asked_formed s line (Ok lines.Blank) is = tt
   asked_formed s line (Ok (lines.At moment)) is = tt
   asked_formed s line (Ok (lines.Random word)) is = tt
@@ -264,11 +275,15 @@ closings_formed players status front (closed conv ∷ slots) w n is small =
     closings_formed players status (front ++ closed conv ∷ []) slots w n (ap length (append_assoc front (closed conv ∷ []) slots) ∙ is) small
 closings_formed players status front (opened h ∷ slots) w n is small =
     let within : length front + 1 < 2 ^ 32 = omega (arith, is, length-append front (opened h ∷ slots)) in (
-      record { number = within; told = filed_formed (names_of players) (world_behind players status h w).process.ledger.births
-          (drop (length w.process.ledger.filed) (world_behind players status h w).process.ledger.filed); result = tt },
+      record {
+        number = within;
+        told = filed_formed (names_of players) (world_behind players status h w).process.ledger.births
+            (drop (length w.process.ledger.filed) (world_behind players status h w).process.ledger.filed);
+        result = tt;
+      },
       closings_formed players status (front ++ closed h.room.conv ∷ []) slots (world_behind players status h w) n
           (ap length (append_assoc front (closed h.room.conv ∷ []) slots) ∙ length-append front (closed h.room.conv ∷ slots)
-              ∙ sym (length-append front (opened h ∷ slots)) ∙ is) small,
+          ∙ sym (length-append front (opened h ∷ slots)) ∙ is) small,
     )
 
 -- ---- how many places
@@ -303,7 +318,7 @@ module _ (stacks : Stacks) where
   fold_many places [] n is = is
   fold_many places (b ∷ blocks) n is =
       on_many n (behind_block stacks places b) _ (subst (λ (m : ℕ). SoMany m (behind_block stacks places b)) is (at_many places b (place_at places b.number)))
-          (λ next is'. fold_many next blocks n is')
+      (λ next is'. fold_many next blocks n is')
 
   pub fold_length : (places : List SlotLog) (blocks : List Block) (next : List SlotLog) → fold stacks places blocks ≡ Some next → length next ≡ length places
   fold_length places blocks next is = subst (SoMany (length places)) is (fold_many places blocks (length places) refl)

@@ -127,7 +127,7 @@ module _ (setting : Setting) (stacks : Stacks) where
   found_have slots w step None there have finds = have
   found_have slots w step (Some slot) there have finds =
       have_with slots step.number _ have (slot_has step.call step.number slot w
-          (have_in setting.players setting.delay stacks slots step.number slot have there) finds)
+      (have_in setting.players setting.delay stacks slots step.number slot have there) finds)
 
   step_has : (slots : List PlainSlot) (w : PlainWorld) (step : Asked) → HaveStacks stacks slots
       → StartFinds setting stacks w step.call (stepped setting.players setting.delay slots w step).outcome.answer
@@ -168,4 +168,4 @@ module _ (setting : Setting) (stacks : Stacks) where
   starts_have n s [] have finds = tt
   starts_have n s (l ∷ ls) have finds =
       on_each (step_at (line_step setting) n s l) (AskedFinds setting stacks s (parsed l)) _ (λ t. HaveAlong setting stacks (n + 1) t ls) (line_has n s l have)
-          (λ t have' finds'. starts_have (n + 1) t ls have' finds') finds
+      (λ t have' finds'. starts_have (n + 1) t ls have' finds') finds

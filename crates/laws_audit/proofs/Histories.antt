@@ -44,7 +44,7 @@ module _ (path : List ℕ) where
       (λ user. reading_passwds path (λ passwds. unless_answered (code_by_passwds args caller user passwds) (groups_read user passwds))
       (λ passwds. unless path (code_by_passwds args caller user passwds) (groups_read user passwds)
       (reading_groups path (λ groups. answers (code_by_groups args caller passwds groups))
-          (λ groups. answering path (code_by_groups args caller passwds groups)))))
+      (λ groups. answering path (code_by_groups args caller passwds groups)))))
 
   pub wheel_leaves : (call : PlainCall) → Still (wheel_act call)
   wheel_leaves call = unless path (code_unchecked call.func returns.Success) (sees_caller (checks_wheel call.args))

@@ -148,7 +148,7 @@ module _ (texts : List ℕ → Option (List ℕ)) (fails : List ℕ) (type : Rul
 
   control_adds : (silent : Bool) (control : Result (List Action) ControlFault) (ts : List Token)
       → OnGood (λ c. (name : List ℕ) (n : ℕ) → AddsAll texts fails (content_items deeper name n c) (lines_in (content_nodes stacks c)))
-          (with_control silent control ts)
+      (with_control silent control ts)
   control_adds silent (Ok control) [] = tt
   control_adds silent (Ok control) (t ∷ ts) = λ name n. as_line name n
   control_adds silent (Err fault) ts = tt
@@ -158,18 +158,18 @@ module _ (texts : List ℕ → Option (List ℕ)) (fails : List ℕ) (type : Rul
   behind_adds silent [] = tt
   behind_adds silent (t ∷ []) =
       good_if (λ c. (name : List ℕ) (n : ℕ) → AddsAll texts fails (content_items deeper name n c) (lines_in (content_nodes stacks c)))
-          (is_word (codes "include") t) _ _ tt
+      (is_word (codes "include") t) _ _ tt
       (good_if (λ c. (name : List ℕ) (n : ℕ) → AddsAll texts fails (content_items deeper name n c) (lines_in (content_nodes stacks c)))
-          (is_word (codes "substack") t) _ _ tt
+      (is_word (codes "substack") t) _ _ tt
       (control_adds silent (control_of t.bracketed t.text) []))
   behind_adds silent (t ∷ u ∷ us) =
       good_if (λ c. (name : List ℕ) (n : ℕ) → AddsAll texts fails (content_items deeper name n c) (lines_in (content_nodes stacks c)))
-          (is_word (codes "include") t) _ _
+      (is_word (codes "include") t) _ _
       (λ name n. adds (by_rule name n) (named_file u.text))
       (good_if (λ c. (name : List ℕ) (n : ℕ) → AddsAll texts fails (content_items deeper name n c) (lines_in (content_nodes stacks c)))
-          (is_word (codes "substack") t) _ _
+      (is_word (codes "substack") t) _ _
       (λ name n. as_substack (deeper (by_rule name n) (plain_file (named_file u.text))) (stacks (named_file u.text))
-          (adds (by_rule name n) (named_file u.text)))
+      (adds (by_rule name n) (named_file u.text)))
       (control_adds silent (control_of t.bracketed t.text) (u ∷ us)))
 
   entry_adds : (n : ℕ) (own : Option RuleType) (content : _)
@@ -185,15 +185,15 @@ module _ (texts : List ℕ → Option (List ℕ)) (fails : List ℕ) (type : Rul
 
   tokens_add : (n : ℕ) (in_folder : Bool) (ts : List Token)
       → OnGood (λ e. (name : List ℕ) → AddsAll texts fails (entry_items deeper type name e) (lines_in (entry_nodes stacks type e)))
-          (entry_of_tokens n in_folder ts)
+      (entry_of_tokens n in_folder ts)
   tokens_add n in_folder [] = tt
   tokens_add n true (t ∷ []) =
       good_if (λ e. (name : List ℕ) → AddsAll texts fails (entry_items deeper type name e) (lines_in (entry_nodes stacks type e)))
-          (is_word (codes "@include") t) _ _ tt
+      (is_word (codes "@include") t) _ _ tt
       (typed_adds n (type_field_of t) [])
   tokens_add n true (t ∷ u ∷ us) =
       good_if (λ e. (name : List ℕ) → AddsAll texts fails (entry_items deeper type name e) (lines_in (entry_nodes stacks type e)))
-          (is_word (codes "@include") t) _ _
+      (is_word (codes "@include") t) _ _
       (λ name. adds (by_rule name n) (named_file u.text)) (typed_adds n (type_field_of t) (u ∷ us))
   tokens_add n false (t ∷ ts) = typed_adds n (type_field_of t) ts
 
@@ -204,11 +204,11 @@ module _ (texts : List ℕ → Option (List ℕ)) (fails : List ℕ) (type : Rul
 
   rules_are_counted : (in_folder : Bool) (rules : List RawRule)
       → AllByRecursion (λ e. (name : List ℕ) → AddsAll texts fails (entry_items deeper type name e) (lines_in (entry_nodes stacks type e)))
-          (entries_of in_folder rules)
+      (entries_of in_folder rules)
   rules_are_counted in_folder [] = tt
   rules_are_counted in_folder (r ∷ rs) =
       kept_good (λ e. (name : List ℕ) → AddsAll texts fails (entry_items deeper type name e) (lines_in (entry_nodes stacks type e))) (entry_of in_folder r)
-          (entries_of in_folder rs)
+      (entries_of in_folder rs)
       (rule_is_counted in_folder r) (rules_are_counted in_folder rs)
 
   entries_add : (name : List ℕ) (es : _) → AllByRecursion (λ e. (name : List ℕ)
@@ -217,7 +217,7 @@ module _ (texts : List ℕ → Option (List ℕ)) (fails : List ℕ) (type : Rul
   entries_add name [] a = nothing_added texts fails
   entries_add name (e ∷ es) a =
       same_number texts fails (entry_items deeper type name e ++ items_of deeper type name es) _ _
-          (sym (lines_joined (entry_nodes stacks type e) (nodes_of stacks type es)))
+      (sym (lines_joined (entry_nodes stacks type e) (nodes_of stacks type es)))
       (all_add texts fails (entry_items deeper type name e) (items_of deeper type name es) _ _ (a.0 name) (entries_add name es a.1))
 
   file_adds : (file : _) (rules : List RawRule)
@@ -237,11 +237,11 @@ module _ (texts : List ℕ → Option (List ℕ)) (fails : List ℕ) where
       let stacks : List ℕ → Stack = λ name. nodes texts levels type (plain_file name) in
       let n : ℕ = lines_in (nodes_of stacks type (entries_of (is_in_folder file) (rules_held (held texts file)))) in
       same_number texts fails (opening file (16 - levels) opener ∷ file_items (items texts levels type) type file (rules_held (held texts file))) (0 + n) n
-          (omega arith)
+      (omega arith)
       (item_adds texts fails (opening file (16 - levels) opener) (file_items (items texts levels type) type file (rules_held (held texts file))) 0 n
       (opening_adds texts fails file (16 - levels) opener)
       (file_adds texts fails type (items texts levels type) stacks (λ why name. items_add levels type why (plain_file name)) file
-          (rules_held (held texts file))))
+      (rules_held (held texts file))))
 
   -- ---- a tree
 

@@ -116,7 +116,7 @@ module _ (path : List ℕ) where
       members_read name None = applied Unknown
       members_read name (Some entries) =
           reading_groups path (λ groups. if_applies error s user (applies_groups name user (entry_of user entries) groups))
-              (λ groups. applied (applies_groups name user (entry_of user entries) groups))
+          (λ groups. applied (applies_groups name user (entry_of user entries) groups))
 
       list_applies : (a : PlainApply) → Still (applies a user (if_applies error s user))
       list_applies everyone = applied Yes

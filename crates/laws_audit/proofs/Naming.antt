@@ -89,9 +89,10 @@ piece_of_bytes (comment text) a = tt
 
 pieces_of_bytes : (ps : List Piece) → AreBytes (spelling ps) → AllByRecursion IsPiece ps
 pieces_of_bytes [] a = tt
-pieces_of_bytes (p ∷ ps) a =
-    (piece_of_bytes p (left_all (λ (b : ℕ). b < 256) (piece_bytes p) (spelling ps) a),
-        pieces_of_bytes ps (right_all (λ (b : ℕ). b < 256) (piece_bytes p) (spelling ps) a))
+pieces_of_bytes (p ∷ ps) a = (
+  piece_of_bytes p (left_all (λ (b : ℕ). b < 256) (piece_bytes p) (spelling ps) a),
+  pieces_of_bytes ps (right_all (λ (b : ℕ). b < 256) (piece_bytes p) (spelling ps) a),
+)
 
 abbrev pub IsLine : JoinedLine → Type 0
 IsLine l = AllByRecursion IsPiece l.pieces
@@ -279,7 +280,7 @@ module _ (deeper : List ℕ → Stack) (named : (name : List ℕ) → AreNamed (
       (typed_named n (type_field_of t) [] tt)
   tokens_named n true (t ∷ u ∷ us) a =
       good_if (λ e. AreNamed (entry_nodes deeper type e)) (is_word (codes "@include") t) _ _ (named (named_file u.text))
-          (typed_named n (type_field_of t) (u ∷ us) a.1)
+      (typed_named n (type_field_of t) (u ∷ us) a.1)
   tokens_named n false (t ∷ ts) a = typed_named n (type_field_of t) ts a.1
 
   rule_named : (in_folder : Bool) (r : RawRule) → IsRule r → OnGood (λ e. AreNamed (entry_nodes deeper type e)) (entry_of in_folder r)
@@ -291,7 +292,7 @@ module _ (deeper : List ℕ → Stack) (named : (name : List ℕ) → AreNamed (
   rules_named in_folder [] a = tt
   rules_named in_folder (r ∷ rs) a =
       kept_good (λ e. AreNamed (entry_nodes deeper type e)) (entry_of in_folder r) (entries_of in_folder rs) (rule_named in_folder r a.0)
-          (rules_named in_folder rs a.1)
+      (rules_named in_folder rs a.1)
 
   entries_named : (es : _) → AllByRecursion (λ e. AreNamed (entry_nodes deeper type e)) es → AreNamed (nodes_of deeper type es)
   entries_named [] a = tt

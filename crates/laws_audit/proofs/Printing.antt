@@ -41,7 +41,7 @@ use Rattle.laws_audit.specs.Report.{variables_told, all_told, command_of, shown_
 joined : (n : ℕ) (one two : List Told) (r x y : List ℕ) → all_told_text n one ≡ x → all_told_text n two ++ r ≡ y → all_told_text n (one ++ two) ++ r ≡ x ++ y
 joined n one two r x y is_x is_y =
     ap (λ (t : List ℕ). t ++ r) (flat_map-append (told_text n) one two) ∙ append_assoc (all_told_text n one) (all_told_text n two) r
-        ∙ ap (λ (t : List ℕ). t ++ (all_told_text n two ++ r)) is_x ∙ ap (λ (t : List ℕ). x ++ t) is_y
+    ∙ ap (λ (t : List ℕ). t ++ (all_told_text n two ++ r)) is_x ∙ ap (λ (t : List ℕ). x ++ t) is_y
 
 pub word_is : (call : AppCall) → command_word (command_of call) ≡ word_of_call call
 word_is (calls.Start service user) = refl
@@ -71,7 +71,7 @@ module _ (by : ByRemainders) where
   messages_print n [] = refl
   messages_print n (m ∷ said) =
       ap (λ (q : List ℕ). (decimal n ++ (codes " say " ++ (decimal (style_number m.style) ++ (codes " " ++ (q ++ codes "\n")))))
-          ++ all_told_text n (map message_told said)) (by.quoted m.text)
+      ++ all_told_text n (map message_told said)) (by.quoted m.text)
       ∙ ap (λ (t : List ℕ). message_text n m ++ t) (messages_print n said)
 
   missing_print : (n : ℕ) (names : List (List ℕ)) → all_told_text n (map missing_told names) ≡ all_missing_text n names
@@ -87,19 +87,24 @@ module _ (by : ByRemainders) where
       ∙ ap (λ (t : List ℕ). variable_text n v ++ t) (variables_print n variables)
 
   cleanup_prints : (n : ℕ) (receipt : Receipt) (owner datum : List ℕ)
-      → told_text n (told_cleanup (record { id = long_of receipt.id; status = word_of receipt.status; note = long_of receipt.note; owner = bytes_of owner;
-          datum = bytes_of datum })) ≡ cleanup_text n receipt owner datum
+      → told_text n (told_cleanup (record {
+        id = long_of receipt.id;
+        status = word_of receipt.status;
+        note = long_of receipt.note;
+        owner = bytes_of owner;
+        datum = bytes_of datum;
+      })) ≡ cleanup_text n receipt owner datum
   cleanup_prints n receipt owner datum =
       let text : List ℕ → List ℕ → List ℕ → List ℕ → List ℕ → List ℕ = λ i s e o d. decimal n
-              ++ (codes " clean " ++ (i ++ (codes " " ++ (s ++ (codes " " ++ (e ++ (codes " " ++ (o ++ (codes " " ++ (d ++ codes "\n")))))))))) in
+      ++ (codes " clean " ++ (i ++ (codes " " ++ (s ++ (codes " " ++ (e ++ (codes " " ++ (o ++ (codes " " ++ (d ++ codes "\n")))))))))) in
       ap (λ (i : List ℕ). text i (status_words (word_of receipt.status)) (number_words (long_of receipt.note)) (quoted_text (bytes_of owner))
-          (quoted_text (bytes_of datum))) (by.long receipt.id)
+      (quoted_text (bytes_of datum))) (by.long receipt.id)
       ∙ ap (λ (s : List ℕ). text (number_words receipt.id) s (number_words (long_of receipt.note)) (quoted_text (bytes_of owner))
-          (quoted_text (bytes_of datum))) (by.status receipt.status)
+      (quoted_text (bytes_of datum))) (by.status receipt.status)
       ∙ ap (λ (e : List ℕ). text (number_words receipt.id) (status_words receipt.status) e (quoted_text (bytes_of owner)) (quoted_text (bytes_of datum)))
-          (by.long receipt.note)
+      (by.long receipt.note)
       ∙ ap (λ (o : List ℕ). text (number_words receipt.id) (status_words receipt.status) (number_words receipt.note) o (quoted_text (bytes_of datum)))
-          (by.quoted owner)
+      (by.quoted owner)
       ∙ ap (λ (d : List ℕ). text (number_words receipt.id) (status_words receipt.status) (number_words receipt.note) (quoted_text owner) d) (by.quoted datum)
 
   receipt_prints : (n : ℕ) (names : List (List ℕ)) (receipt : Receipt) (birth : Option Birth)
@@ -118,20 +123,20 @@ module _ (by : ByRemainders) where
   waited_prints : (n : ℕ) (wait : Option Wait) → all_told_text n (waited_told wait) ≡ waited_text n wait
   waited_prints n (Some wait) =
       let text : List ℕ → List ℕ → List ℕ = λ a m. decimal n ++ (codes " wait "
-              ++ (code_words wait.code ++ (codes " " ++ (a ++ (codes " " ++ (m ++ codes "\n")))))) in
+      ++ (code_words wait.code ++ (codes " " ++ (a ++ (codes " " ++ (m ++ codes "\n")))))) in
       append-nil (text (number_words (long_of wait.asked)) (number_words (long_of wait.wait)))
       ∙ ap (λ (a : List ℕ). text a (number_words (long_of wait.wait))) (by.long wait.asked)
-          ∙ ap (λ (m : List ℕ). text (number_words wait.asked) m) (by.long wait.wait)
+      ∙ ap (λ (m : List ℕ). text (number_words wait.asked) m) (by.long wait.wait)
   waited_prints n None = refl
 
   answer_prints : (n : ℕ) (command : List ℕ) (answer : Answer) → answer_prints_as n command answer (shown_of answer) ≡ answer_text n command answer
   answer_prints n command (answers.Code code) = refl
   answer_prints n command (answers.Refused fault) =
       ap (λ (q : List ℕ). words_text n command (codes "refused " ++ (q ++
-          (codes " " ++ (number_words (long_of fault.line) ++ (codes " " ++ (fault_name fault.kind ++ (codes " " ++ decimal (fault_number fault.kind)))))))))
-          (by.quoted fault.file)
+      (codes " " ++ (number_words (long_of fault.line) ++ (codes " " ++ (fault_name fault.kind ++ (codes " " ++ decimal (fault_number fault.kind)))))))))
+      (by.quoted fault.file)
       ∙ ap (λ (l : List ℕ). words_text n command (codes "refused " ++ (quoted_text fault.file
-          ++ (codes " " ++ (l ++ (codes " " ++ (fault_name fault.kind ++ (codes " " ++ decimal (fault_number fault.kind))))))))) (by.long fault.line)
+      ++ (codes " " ++ (l ++ (codes " " ++ (fault_name fault.kind ++ (codes " " ++ decimal (fault_number fault.kind))))))))) (by.long fault.line)
   answer_prints n command (answers.Value (Some text)) = ap (λ (q : List ℕ). words_text n command (codes "set " ++ q)) (by.quoted text)
   answer_prints n command (answers.Value None) = refl
   answer_prints n command (answers.List variables) = ap (λ (t : List ℕ). t ++ words_text n command (number_words (long_of (length variables))))
@@ -146,7 +151,7 @@ module _ (by : ByRemainders) where
   -- a step's text, if it has a result
   shown_prints : (names : List (List ℕ)) (step : Step) (outcome : PlainOutcome) (ledger : PlainLedger) (shown : Option Shown) (x : Shown)
       → shown ≡ Some x → answer_prints_as step.number (command_word (command_of step.call)) outcome.answer shown
-          ≡ answer_text step.number (command_word (command_of step.call)) outcome.answer
+      ≡ answer_text step.number (command_word (command_of step.call)) outcome.answer
       → blocks_text (blocks_by step.number (command_of step.call) (all_told names outcome ledger) shown) ≡ step_text names step outcome ledger
   shown_prints names step outcome ledger None x is prints = absurd (cc)
   shown_prints names step outcome ledger (Some shown) x is prints =
@@ -159,8 +164,8 @@ module _ (by : ByRemainders) where
       (joined n _ _ _ _ _ (waited_prints n outcome.wait)
       (joined n _ _ _ _ _ (missing_print n outcome.missing) prints))))
       ∙ ap (λ (command : List ℕ). messages_text n outcome.said ++ (visits_text n outcome.trail
-          ++ (cleanups_text n names ledger outcome.filed_from ++ (waited_text n outcome.wait
-          ++ (all_missing_text n outcome.missing ++ answer_text n command outcome.answer)))))
+      ++ (cleanups_text n names ledger outcome.filed_from ++ (waited_text n outcome.wait
+      ++ (all_missing_text n outcome.missing ++ answer_text n command outcome.answer)))))
       (word_is step.call)
 
   -- A step with a result is reported by its block.

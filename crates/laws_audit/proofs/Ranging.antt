@@ -12,7 +12,7 @@ quoted_is : (text : List ℕ) → quoted_text (bytes_of text) ≡ quoted_text te
 quoted_is [] = refl
 quoted_is (b ∷ text) =
     ap (λ (c : ℕ). quoted_byte c ++ quoted_text (bytes_of text)) (mod-eq_of_lt (mod_below b 256 (omega arith)))
-        ∙ ap (λ (t : List ℕ). quoted_byte (b % 256) ++ t) (quoted_is text)
+    ∙ ap (λ (t : List ℕ). quoted_byte (b % 256) ++ t) (quoted_is text)
 
 pub by_remainders : ByRemainders
 by_remainders = record {

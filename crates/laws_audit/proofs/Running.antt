@@ -197,7 +197,7 @@ module _ (by : ByRemainders) (setting : Setting) (stacks : Stacks) where
       record { fits = ap (λ (bs : List Block). fold stacks (places_of s.slots) bs) none; text = ap blocks_text none }
   lines_on n s (Ok x) blocks next rest Along fits sound have each =
       let behind : LinesFit x.0 (next x.0) (rest x.0) = each x.0 have.0
-              (folds_sound stacks (places_of s.slots) blocks (places_of x.0.slots) sound fits.0) have.1 in
+      (folds_sound stacks (places_of s.slots) blocks (places_of x.0.slots) sound fits.0) have.1 in
       record {
         fits = fold-append stacks (places_of s.slots) blocks (rest x.0) (places_of x.0.slots) fits.0 ∙ behind.fits;
         text = flat_map-append block_text blocks (rest x.0) ∙ ap (λ (t : List ℕ). t ++ blocks_text (rest x.0)) fits.1
@@ -211,6 +211,6 @@ module _ (by : ByRemainders) (setting : Setting) (stacks : Stacks) where
   lines_fit n s [] have sound along = record { fits = refl; text = refl }
   lines_fit n s (l ∷ ls) have sound along =
       lines_on n s (step_at (line_step setting) n s l) (line_blocks setting n s l) (λ t. run_lines (line_step setting) (n + 1) t ls)
-          (λ t. run_blocks setting (n + 1) t ls)
+      (λ t. run_blocks setting (n + 1) t ls)
       (λ t. HaveAlong setting stacks (n + 1) t ls) (line_fits n s l have sound) sound along
-          (λ t have' sound' along'. lines_fit (n + 1) t ls have' sound' along')
+      (λ t have' sound' along'. lines_fit (n + 1) t ls have' sound' along')

@@ -112,11 +112,11 @@ block_visits names outcome ledger =
     none_before (map message_told outcome.said) _ _ (messages_visits outcome.said)
     (visits_of-append (map visit_told outcome.trail) _
     ∙ ap (λ (xs : List Seen). xs ++ visits_told (cleanups_told names ledger outcome.filed_from
-        ++ (waited_told outcome.wait ++ (map missing_told outcome.missing ++ variables_told outcome.answer)))) (visits_visits outcome.trail)
+    ++ (waited_told outcome.wait ++ (map missing_told outcome.missing ++ variables_told outcome.answer)))) (visits_visits outcome.trail)
     ∙ ap (λ (xs : List Seen). map seen_of outcome.trail ++ xs)
     (none_before (cleanups_told names ledger outcome.filed_from) _ [] (filed_visits names ledger.births (drop outcome.filed_from ledger.filed))
     (none_before (waited_told outcome.wait) _ [] (waited_visits outcome.wait)
-        (none_before (map missing_told outcome.missing) _ [] (missing_visits outcome.missing) (answer_visits outcome.answer))))
+    (none_before (map missing_told outcome.missing) _ [] (missing_visits outcome.missing) (answer_visits outcome.answer))))
     ∙ append-nil (map seen_of outcome.trail))
 
 -- ---- places
@@ -210,7 +210,7 @@ module _ (stacks : Stacks) where
       → Asks stacks h h.pending → is_other_pending h.pending func ≡ false → is_refused_change func code vs ≡ false
   isnt_refused funcs.ChAuthTok code [] h w is same straight asks own = not_true (same_code code codes.SystemErr) (λ system.
       nothing_is_retold stacks h asks own (ap (λ (x : Went Telling). x.state.astray) is ∙ straight)
-          (ap (λ (x : Went Telling). x.code) is ∙ sym same ∙ same_system code system))
+      (ap (λ (x : Went Telling). x.code) is ∙ sym same ∙ same_system code system))
   isnt_refused func code vs h w is same straight asks own = refl
 
   at_call_if : (a b : Bool) (x y : Option SlotLog) → a ≡ false → b ≡ false → (if a then x else if b then None else y) ≡ y
@@ -225,7 +225,7 @@ module _ (stacks : Stacks) where
       → Asks stacks h h.pending → is_other_pending h.pending func ≡ false → at_call stacks func code vs h ≡ Some (running next)
   call_fits func code vs h next is asks own =
       at_call_if (is_refused_change func code vs) (is_other_pending h.pending func) (Some (running h))
-          (behind_call code (goes as_told stacks func h (telling vs)))
+      (behind_call code (goes as_told stacks func h (telling vs)))
       (isnt_refused func code vs h (went code next (telling [])) is refl refl asks own) own
       ∙ ap (behind_call code) is ∙ retold_is code next
 
@@ -233,23 +233,23 @@ module _ (players : List Player) (number_of : Code → ℕ → ℕ) (stacks : St
   ran_fits : (func : Func) (flags : ℕ) (h : PlainHandle) (w : PlainWorld) → h.stacks ≡ stacks → h.room.transaction.trail ≡ []
       → is_refused_for_flags func flags ≡ false → Asks stacks (held_in h) h.pending → is_other_pending h.pending func ≡ false
       → (let c = stack_call players number_of func flags h w in SlotFits stacks (running (held_in h)) (runs func)
-          (told_by (filed_in w) (answers.Code c.code) c))
+      (told_by (filed_in w) (answers.Code c.code) c))
   ran_fits func flags h w have none flagged asks own =
       let c : Called = stack_call players number_of func flags h w in
       let g : GoesAs players func flags (past_in h.pending) (first_in h.pending) h c = library_calls_go players number_of func flags h w flagged own in
       let r : Retold trail_in (asking_by players flags) h.stacks func (held_in h) g.begun =
-              calls_are_retold State trail_in (asking_by players flags) (trails players flags) h.stacks func (held_in h) g.begun in
+      calls_are_retold State trail_in (asking_by players flags) (trails players flags) h.stacks func (held_in h) g.begun in
       let empty : trail_in g.begun ≡ [] = ap (map seen_of) (g.trail ∙ none) in
       let vs : map seen_of c.handle.room.transaction.trail ≡ r.news =
       ap (map seen_of) g.told ∙ r.adds ∙ ap (λ (xs : List Seen). xs ++ r.news) empty in
       let replayed : goes as_told h.stacks func (held_in h) (telling (map seen_of c.handle.room.transaction.trail))
-              ≡ went c.code (held_in c.handle) (telling []) =
+      ≡ went c.code (held_in c.handle) (telling []) =
       ap (λ (xs : List Seen). goes as_told h.stacks func (held_in h) (telling xs)) (vs ∙ sym (append-nil r.news)) ∙ r.same []
       ∙ ap (λ (code : Code). went code (goes (asking_by players flags) h.stacks func (held_in h) g.begun).held (telling [])) (sym g.code)
       ∙ ap (λ (x : Held). went c.code x (telling [])) (sym g.held) in
       call_fits stacks func c.code (map seen_of c.handle.room.transaction.trail) (held_in h) (held_in c.handle)
       (subst (λ (x : Stacks). goes as_told x func (held_in h) (telling (map seen_of c.handle.room.transaction.trail))
-          ≡ went c.code (held_in c.handle) (telling [])) have replayed) asks own
+      ≡ went c.code (held_in c.handle) (telling [])) have replayed) asks own
 
   unless_fits : (found : Option Func) (func : Func) (flags : ℕ) (h : PlainHandle) (w : PlainWorld) (s : SlotStepped) → other_pending h.pending func ≡ found
       → (other_pending h.pending func ≡ None → SlotFits stacks (running (held_in h)) (runs func) s)
@@ -303,7 +303,7 @@ module _ (players : List Player) (number_of : Code → ℕ → ℕ) (stacks : St
       → SlotFits stacks shut (command_of call) (closed_step players number_of place conv w call)
   closed_fits (calls.Start service user) place conv w =
       start_fits (names_of players) conv (filed_in w) (new_handle place service user conv (names_of players)) (loaded w.vault w.process.root service)
-          (stacks_under w.vault w.process.root service) w (λ x. refl) refl
+      (stacks_under w.vault w.process.root service) w (λ x. refl) refl
   closed_fits (calls.End status) place conv w = refl
   closed_fits (calls.Authenticate flags) place conv w = refl
   closed_fits (calls.SetCred flags) place conv w = refl
@@ -333,7 +333,7 @@ module _ (players : List Player) (number_of : Code → ℕ → ℕ) (stacks : St
   -- what is shown of a step on a place that is there
   shown_fits : (slots : List PlainSlot) (number : ℕ) (call : AppCall) (slot : PlainSlot) (s : SlotStepped) (told : List Told) (shown : Option Shown)
       → slot_at slots number ≡ Some slot → visits_told told ≡ map seen_of s.outcome.trail
-          → FitsBy stacks (place_of slot) (map seen_of s.outcome.trail) (command_of call) shown (place_of s.slot)
+      → FitsBy stacks (place_of slot) (map seen_of s.outcome.trail) (command_of call) shown (place_of s.slot)
       → fold stacks (places_of slots) (blocks_by number (command_of call) told shown) ≡ Some (places_of (with_slot slots number s.slot))
   shown_fits slots number call slot s told None there vs is =
       ap (λ (x : List SlotLog). Some x) (sym (with_same (places_of slots) number (place_of slot) (place_at-of slots number ∙ ap (option_map place_of) there))
@@ -343,7 +343,7 @@ module _ (players : List Player) (number_of : Code → ℕ → ℕ) (stacks : St
       on_behind (places_of slots) (places_of (with_slot slots number s.slot)) b
       (ap (behind_at stacks (places_of slots) b) (place_at-of slots number ∙ ap (option_map place_of) there)
       ∙ ap (with_behind stacks (places_of slots) number) (ap (λ (xs : List Seen). behind_result stacks (place_of slot) xs
-          (answers_with (command_of call) shown)) vs ∙ is)
+      (answers_with (command_of call) shown)) vs ∙ is)
       ∙ ap (λ (x : List SlotLog). Some x) (with_place-of slots number s.slot))
 
   have_at : (slots : List PlainSlot) (i : ℕ) (slot : PlainSlot) → HaveStacks stacks slots → slice_get slots i ≡ Some slot → HasStacks stacks slot
@@ -381,7 +381,7 @@ module _ (players : List Player) (number_of : Code → ℕ → ℕ) (stacks : St
       let s : SlotStepped = slot_step players number_of step.number slot w step.call in
       shown_fits slots step.number step.call slot s (all_told (names_of players) s.outcome s.world.process.ledger) (shown_of s.outcome.answer) there
       (block_visits (names_of players) s.outcome s.world.process.ledger)
-          (slot_fits step.call step.number slot w (have_in slots step.number slot have there) (sound_in slots step.number slot sound there))
+      (slot_fits step.call step.number slot w (have_in slots step.number slot have there) (sound_in slots step.number slot sound there))
 
 pub steps_fit : StepsFit
 unfolding stepped

@@ -179,7 +179,7 @@ module _ (path : List ℕ) where
   -- another file is set, if the call doesn't fail
   put_by : (fails : Bool) (name bytes : List ℕ) (act : Bool → Act) → ((root : List ℕ) → path_of root name ≡ path → ⊥) → ((done : Bool) → Leaves (act done))
       → (stage : Stage) → Left stage.sight (called (act (not fails) (record stage
-          { sight = replaced fails (path_of stage.sight.root name) bytes stage.sight })))
+      { sight = replaced fails (path_of stage.sight.root name) bytes stage.sight })))
   put_by true name bytes act apart next stage = next false (record stage { sight = replaced true (path_of stage.sight.root name) bytes stage.sight })
   put_by false name bytes act apart next stage =
       next true (record stage { sight = replaced false (path_of stage.sight.root name) bytes stage.sight })

@@ -18,9 +18,9 @@ use Rattle.laws_audit.specs.Tallied.{Tallies, calls_in, counted, line_in, passed
 
 module _ (path : List ℕ) (players : List Player) (alone : FaillockAloneWrites path players)
     (one : (path : List ℕ) (call : PlainCall) (room : SeenRoom) (held : List NamedData) (sight : Sight) → (deed : Deed)
-        × Does path call sight (faillock_plays call room held sight) deed)
+    × Does path call sight (faillock_plays call room held sight) deed)
     (writable : (moment : ℕ) (items : ItemTexts) → moment < 10 ^ 13 → IsText items.rhost → IsText items.tty → IsText items.service
-        → unwrap_or items.service [] ≢ [] → IsFailure (new_failure moment items)) where
+    → unwrap_or items.service [] ≢ [] → IsFailure (new_failure moment items)) where
   -- lines run, each with what it did, that lead the file from one state to another
   pub record Led (before : Option (List ℕ)) (asked : List AskedLine) (after : Option (List ℕ)) : Type 0 where
     pub lines : List TalliedLine
@@ -39,9 +39,11 @@ module _ (path : List ℕ) (players : List Player) (alone : FaillockAloneWrites 
       → IsWith interval deed
   recorded_with interval a left d can = tt
   recorded_with interval a (recorded i failure) d can =
-      let items : ItemTexts = (faillock_plays a.call a.room a.held a.sight).room.items in
-      (d.interval_is ∙ can.interval_is, subst IsFailure (sym d.failure_is)
-          (writable a.sight.clock.moment items can.moment can.rhost can.tty can.service can.named))
+      let items : ItemTexts = (faillock_plays a.call a.room a.held a.sight).room.items in (
+        d.interval_is ∙ can.interval_is,
+        subst IsFailure (sym d.failure_is)
+            (writable a.sight.clock.moment items can.moment can.rhost can.tty can.service can.named),
+      )
   recorded_with interval a cleared d can = tt
 
   -- a line that leaves the file, and what follows
@@ -77,7 +79,7 @@ module _ (path : List ℕ) (players : List Player) (alone : FaillockAloneWrites 
   by_plays : (p : Player) (a : AskedLine) (rest : List AskedLine) (before last : List File) → module_of_path players a.visit.path ≡ Some p
       → (p.plays ≡ faillock_plays) ⊎ LeavesFile path p.plays
       → LineLeads (Some p) a before (λ files. LinesLead players files rest last)
-          → ((files : List File) → LinesLead players files rest last → Led (file_at path files) rest (file_at path last))
+      → ((files : List File) → LinesLead players files rest last → Led (file_at path files) rest (file_at path last))
       → Led (file_at path before) (a ∷ rest) (file_at path last)
   by_plays p a rest before last e (inl same) v more =
       let got : Asked = a.asked in
@@ -91,7 +93,7 @@ module _ (path : List ℕ) (players : List Player) (alone : FaillockAloneWrites 
 
   by_module : (o : Option Player) (a : AskedLine) (rest : List AskedLine) (before last : List File) → module_of_path players a.visit.path ≡ o
       → LineLeads o a before (λ files. LinesLead players files rest last)
-          → ((files : List File) → LinesLead players files rest last → Led (file_at path files) rest (file_at path last))
+      → ((files : List File) → LinesLead players files rest last → Led (file_at path files) rest (file_at path last))
       → Led (file_at path before) (a ∷ rest) (file_at path last)
   by_module None a rest before last e v more = passes a rest _ _ _ (subst (λ (o : Option Player). LeavesFileIf path o) (sym e) tt) refl (more before v.1)
   by_module (Some p) a rest before last e v more = by_plays p a rest before last e

@@ -26,6 +26,6 @@ pub trails : (players : List Player) (flags : ℕ) → Trails State trail_in (as
 trails players flags func second rule place s =
     let added : List Visit = record { place = place; path = rule.path; answer = (asking_by players flags func second rule place s).answer } ∷ [] in
     map-append seen_of (served players (module_of (names_of players) rule) (call_of func (flags_seen func second flags) rule)
-        s).state.room.transaction.trail added
+    s).state.room.transaction.trail added
     ∙ ap (λ (vs : List Visit). map seen_of vs ++ map seen_of added) (served_trail players (module_of (names_of players) rule)
-        (call_of func (flags_seen func second flags) rule) s)
+    (call_of func (flags_seen func second flags) rule) s)

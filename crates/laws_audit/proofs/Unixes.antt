@@ -189,7 +189,7 @@ module _ (path : List ℕ) where
     unfolding changes_locked
     locked user hash today =
         reading path (codes "/etc/shadow") account_limit (λ c. replaces_shadow (changed_shadow user hash today c) (λ code. lets_go true (act code)))
-            (λ c. text_set (changed_shadow user hash today c))
+        (λ c. text_set (changed_shadow user hash today c))
 
     by_held : (user hash : List ℕ) (today : ℕ) (held : Bool) → Still (if_locked user hash today act held)
     by_held user hash today true = locked user hash today

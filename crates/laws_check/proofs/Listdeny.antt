@@ -81,7 +81,7 @@ module _ (args : List (List ℕ)) (strict : is_succeed (value_among (codes "oner
         let wanted = text_value s.item user ∷ [] in
         let l : is_listed wanted text ≡ false = listed_by (is_listed wanted text) (sym (set.allows (is_listed wanted text)) ∙ e) in
         let here : file_at (path_of sight.root file) sight.files ≡ Some text = ap (λ (f : List ℕ). file_at (path_of sight.root f) sight.files) (sym set.file_is)
-                ∙ is text refl in
+        ∙ is text refl in
         record {
           user = user;
           user_is = u;
@@ -92,11 +92,11 @@ module _ (args : List (List ℕ)) (strict : is_succeed (value_among (codes "oner
 
     by_root : (b : Bool) (user : List ℕ) → (user_asked room).room.items.user ≡ Some user
         → (reads_if b s.file account_limit (λ c. answers (file_verdict (error_answer args) s.sense (text_value s.item user ∷ []) c)) asked_stage).code
-            ≡ returns.Success → Done
+        ≡ returns.Success → Done
     unfolding answers
     by_root true user u e =
         by_file user (content_seen s.file account_limit sight) u (λ text k. holds (sight.failing 0) account_limit
-            (file_at (path_of sight.root s.file) sight.files) text k) e
+        (file_at (path_of sight.root s.file) sight.files) text k) e
     by_root false user u e = absurd (no_error e)
 
     by_text : (o : Option (List ℕ)) (user : List ℕ) → (user_asked room).room.items.user ≡ Some user → (user_asked room).room.items.user ≡ o
@@ -129,11 +129,11 @@ module _ (args : List (List ℕ)) (strict : is_succeed (value_among (codes "oner
       → (checks_list (error_answer args) args (settings_of args) start).code ≡ returns.Success → Done
   checked i n f e =
       let is : settings_of args ≡ with_settings (option_and_then list_item_of (Some (codes "user"))) (option_and_then sense_of (Some (codes "deny")))
-              (Some file) =
+      (Some file) =
       ap (λ (o : Option (List ℕ)). with_settings (option_and_then list_item_of o) (option_and_then sense_of (value_among (codes "sense=") args))
-          (value_among (codes "file=") args)) i
+      (value_among (codes "file=") args)) i
       ∙ ap (λ (o : Option (List ℕ)). with_settings (option_and_then list_item_of (Some (codes "user"))) (option_and_then sense_of o)
-          (value_among (codes "file=") args)) n
+      (value_among (codes "file=") args)) n
       ∙ ap (λ (o : Option (List ℕ)). with_settings (option_and_then list_item_of (Some (codes "user"))) (option_and_then sense_of (Some (codes "deny"))) o) f in
       by_set (settings_of args) (subst AreSet (sym is) are_set) e
 

@@ -72,11 +72,11 @@ module _ (args : List (List ℕ)) (strict : is_succeed (value_among (codes "oner
 
     by_root : (b : Bool) (user : List ℕ) → (user_asked room).room.items.user ≡ Some user
         → (reads_if b s.file account_limit (λ c. answers (file_verdict (error_answer args) s.sense (text_value s.item user ∷ []) c)) asked_stage).code
-            ≡ returns.Success → Done
+        ≡ returns.Success → Done
     unfolding answers
     by_root true user u e =
         by_file user (content_seen s.file account_limit sight) u (λ text k. holds (sight.failing 0) account_limit
-            (file_at (path_of sight.root s.file) sight.files) text k) e
+        (file_at (path_of sight.root s.file) sight.files) text k) e
     by_root false user u e = absurd (no_error e)
 
     by_text : (o : Option (List ℕ)) → (user_asked room).room.items.user ≡ o
@@ -109,13 +109,13 @@ module _ (args : List (List ℕ)) (strict : is_succeed (value_among (codes "oner
       → (checks_list (error_answer args) args (settings_of args) start).code ≡ returns.Success → Done
   checked i n f e =
       let is : settings_of args ≡ with_settings (option_and_then list_item_of (Some (codes "user"))) (option_and_then sense_of (Some (codes "allow")))
-              (Some file) =
+      (Some file) =
       ap (λ (o : Option (List ℕ)). with_settings (option_and_then list_item_of o) (option_and_then sense_of (value_among (codes "sense=") args))
-          (value_among (codes "file=") args)) i
+      (value_among (codes "file=") args)) i
       ∙ ap (λ (o : Option (List ℕ)). with_settings (option_and_then list_item_of (Some (codes "user"))) (option_and_then sense_of o)
-          (value_among (codes "file=") args)) n
+      (value_among (codes "file=") args)) n
       ∙ ap (λ (o : Option (List ℕ)). with_settings (option_and_then list_item_of (Some (codes "user")))
-          (option_and_then sense_of (Some (codes "allow"))) o) f in
+      (option_and_then sense_of (Some (codes "allow"))) o) f in
       by_set (settings_of args) (subst AreSet (sym is) are_set) e
 
   by_func : (f : Func) → f ≢ SetCred → value_among (codes "item=") args ≡ Some (codes "user") → value_among (codes "sense=") args ≡ Some (codes "allow")

@@ -63,7 +63,7 @@ user_or None room is e =
     let messages = record { style = EchoOn; text = login_prompt room.items.user_prompt } ∷ [] in
     let text = first_text (ready_replies room.conv.offers) in
     filled (user_or_ask None room).room.items.user text (user_by (has_replies room.conv messages) (room.conv.waits || starts_with_mark room.conv.offers) text
-        (speak messages room).room e)
+    (speak messages room).room e)
 
 by_refused : (code : Code) (G : Type 0) (act : List ℕ → Act) (refused : Bool) (a : Asked) (stage : Stage) → (returns.ConvErr ≡ code → ⊥) → a.refused ≡ refused
     → (cond refused (answered returns.ConvErr a.room stage.sight) (act (unwrap_or a.room.items.user []) (in_room a.room stage))).code ≡ code
@@ -82,7 +82,7 @@ user_given code G act stage not e then_so =
 
 module _ (code : Code) (G : Type 0) (user : List ℕ) (act : Account → Act) (room : SeenRoom) (held : List NamedData) (sight : Sight)
     (yes : (account : Passwd) (known : Known) → HasAccount sight.root sight.files user account
-        → (act (found account) (record { room = room; held = held; known = known; sight = later sight })).code ≡ code → G)
+    → (act (found account) (record { room = room; held = held; known = known; sight = later sight })).code ≡ code → G)
     (no : (known : Known) → (act missing (record { room = room; held = held; known = known; sight = later sight })).code ≡ code → ⊥)
     (bad : (known : Known) → (act unreadable (record { room = room; held = held; known = known; sight = later sight })).code ≡ code → ⊥) where
   abbrev at : Known → Stage

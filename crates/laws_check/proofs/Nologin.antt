@@ -60,12 +60,22 @@ module_ignore : returns.ModuleUnknown ≡ returns.Ignore → ⊥
 module_ignore e = absurd cc
 
 success_goes_on : GoesOn returns.Success
-success_goes_on = record { not_service = service_success; not_auth = auth_success; not_unknown = unknown_success; not_conv = conv_success;
-    not_module = module_success }
+success_goes_on = record {
+  not_service = service_success;
+  not_auth = auth_success;
+  not_unknown = unknown_success;
+  not_conv = conv_success;
+  not_module = module_success;
+}
 
 ignore_goes_on : GoesOn returns.Ignore
-ignore_goes_on = record { not_service = service_ignore; not_auth = auth_ignore; not_unknown = unknown_ignore; not_conv = conv_ignore;
-    not_module = module_ignore }
+ignore_goes_on = record {
+  not_service = service_ignore;
+  not_auth = auth_ignore;
+  not_unknown = unknown_ignore;
+  not_conv = conv_ignore;
+  not_module = module_ignore;
+}
 
 module _ (code plain : Code) (goes : GoesOn code) (room : SeenRoom) (held : List NamedData) where
   module _ (user : List ℕ) (user_is : (user_asked room).room.items.user ≡ Some user) where
@@ -92,8 +102,12 @@ module _ (code plain : Code) (goes : GoesOn code) (room : SeenRoom) (held : List
       unfolding answers
       not_unreadable known e = goes.not_service e
 
-      is_root : (finds_account user (notice_for_account plain notice) (record { room = (user_asked room).room; held = held; known = nothing_known;
-          sight = sight })).code ≡ code → IsRoot sight.root sight.files room
+      is_root : (finds_account user (notice_for_account plain notice) (record {
+        room = (user_asked room).room;
+        held = held;
+        known = nothing_known;
+        sight = sight;
+      })).code ≡ code → IsRoot sight.root sight.files room
       is_root e = account_found code (IsRoot sight.root sight.files room) user (notice_for_account plain notice) (user_asked room).room held sight is_found
           not_missing not_unreadable e
 

@@ -27,7 +27,7 @@ use Rattle.laws_check.proofs.Looking.{absent, account_found, holds, user_given}
 
 tty_by : (has again : Bool) (text : List ℕ) (room : SeenRoom)
     → (asked_by User (if has then Ok (record { text = text } ∷ []) else if again then Err faults.Again else Err faults.Gone) room).room.items.tty
-        ≡ room.items.tty
+    ≡ room.items.tty
 tty_by true again text room = refl
 tty_by false true text room = refl
 tty_by false false text room = refl
@@ -37,7 +37,7 @@ tty_stays (Some user) room = refl
 tty_stays None room =
     let messages = record { style = EchoOn; text = login_prompt room.items.user_prompt } ∷ [] in
     tty_by (has_replies room.conv messages) (room.conv.waits || starts_with_mark room.conv.offers) (first_text (ready_replies room.conv.offers))
-        (speak messages room).room
+    (speak messages room).room
 
 -- ---- the account
 
@@ -57,8 +57,15 @@ module _ (room : SeenRoom) (held : List NamedData) (sight : Sight) where
     by_content tty content.Absent is none some e = record { tty = tty; tty_is = is; secure = inl (none refl) }
     by_content tty content.Unreadable is none some e = absurd cc
     by_content tty (content.Holds text) is none some e =
-        record { tty = tty; tty_is = is; secure = inr (record { list = text; list_is = some text refl;
-            listed = listed_by (is_secure (terminal_name tty) text) e }) }
+        record {
+          tty = tty;
+          tty_is = is;
+          secure = inr (record {
+            list = text;
+            list_is = some text refl;
+            listed = listed_by (is_secure (terminal_name tty) text) e;
+          });
+        }
 
     at_terminal : (name : Option (List ℕ)) (known : Known) → room.items.tty ≡ name → (looks_up_terminal name (at known)).code ≡ returns.Success
         → IsSecure sight.root sight.files room

@@ -42,19 +42,27 @@ module _ (room : SeenRoom) (held : List NamedData) (sight : Sight) where
 
     shells_read : (account : Passwd) (known : Known) → HasAccount sight.root sight.files user account
         → (checks_login_shell (found account) (record { room = (user_asked room).room; held = held; known = known; sight = later sight })).code
-            ≡ returns.Success → HasListedShell sight.root sight.files room
+        ≡ returns.Success → HasListedShell sight.root sight.files room
     unfolding reads_shells reads_file answers
     shells_read account known h e =
         by_content account (content_seen (codes "/etc/shells") account_limit (later sight)) h
         (λ text k. holds (sight.failing 1) account_limit (file_at (path_of sight.root (codes "/etc/shells")) sight.files) text k) e
 
-    not_missing : (known : Known) → (checks_login_shell missing (record { room = (user_asked room).room; held = held; known = known;
-        sight = later sight })).code ≡ returns.Success → ⊥
+    not_missing : (known : Known) → (checks_login_shell missing (record {
+      room = (user_asked room).room;
+      held = held;
+      known = known;
+      sight = later sight;
+    })).code ≡ returns.Success → ⊥
     unfolding answers
     not_missing known e = absurd cc
 
-    not_unreadable : (known : Known) → (checks_login_shell unreadable (record { room = (user_asked room).room; held = held; known = known;
-        sight = later sight })).code ≡ returns.Success → ⊥
+    not_unreadable : (known : Known) → (checks_login_shell unreadable (record {
+      room = (user_asked room).room;
+      held = held;
+      known = known;
+      sight = later sight;
+    })).code ≡ returns.Success → ⊥
     unfolding answers
     not_unreadable known e = absurd cc
 

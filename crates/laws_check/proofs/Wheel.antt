@@ -68,12 +68,22 @@ module_ignore : returns.ModuleUnknown ≡ returns.Ignore → ⊥
 module_ignore e = absurd cc
 
 success_goes_on : GoesOn returns.Success
-success_goes_on = record { not_service = service_success; not_perm = perm_success; not_unknown = unknown_success; not_conv = conv_success;
-    not_module = module_success }
+success_goes_on = record {
+  not_service = service_success;
+  not_perm = perm_success;
+  not_unknown = unknown_success;
+  not_conv = conv_success;
+  not_module = module_success;
+}
 
 ignore_goes_on : GoesOn returns.Ignore
-ignore_goes_on = record { not_service = service_ignore; not_perm = perm_ignore; not_unknown = unknown_ignore; not_conv = conv_ignore;
-    not_module = module_ignore }
+ignore_goes_on = record {
+  not_service = service_ignore;
+  not_perm = perm_ignore;
+  not_unknown = unknown_ignore;
+  not_conv = conv_ignore;
+  not_module = module_ignore;
+}
 
 -- the entry is a member of this group
 record MemberOf (entry : Passwd) (chosen : Option Group) : Type 0 where
@@ -90,8 +100,11 @@ module _ (code : Code) (goes : GoesOn code) where
   group_by : (deny trust : Bool) (entry : Passwd) (chosen : Option Group) → deny ≡ false → group_code deny trust entry chosen ≡ code → MemberOf entry chosen
   group_by true trust entry None d e = absurd (true≢false d)
   group_by false trust entry None d e = absurd (goes.not_perm e)
-  group_by deny trust entry (Some group) d e = record { group = group; group_is = refl;
-      member = member_by deny trust (is_member entry.name (Some entry) group) d e }
+  group_by deny trust entry (Some group) d e = record {
+    group = group;
+    group_is = refl;
+    member = member_by deny trust (is_member entry.name (Some entry) group) d e;
+  }
 
   answered_later : (o : Option Code) (act : Act) (stage : Stage) → ((k : Code) → o ≡ Some k → k ≡ code → ⊥) → (unless_answered o act stage).code ≡ code
       → (act stage).code ≡ code
@@ -124,7 +137,7 @@ module _ (code : Code) (goes : GoesOn code) where
         by_caller None g gs there gare caller e = absurd (goes.not_unknown e)
         by_caller (Some entry) g gs there gare caller e =
             let m = group_by (has_argument (codes "deny") args) (has_argument (codes "trust") args) entry
-                    (wheel_group (value_among (codes "group=") args) gs) denies e in
+            (wheel_group (value_among (codes "group=") args) gs) denies e in
             record {
               passwd = text;
               passwd_is = is;

@@ -150,7 +150,7 @@ by_function CloseSession call = answering (λ c. IsOneOf c (unix_codes CloseSess
 by_function ChAuthTok call =
     let P : Code → Type 0 = λ c. IsOneOf c unix_change in
     changed P (inl refl) (inr (inr (inl refl))) (inr (inl refl)) (inr (inr (inr (inl refl)))) (inr (inr (inr (inr (inl refl))))) call answers
-        (inr (inr (inr (inr (inr (inl refl)))))) (answering P)
+    (inr (inr (inr (inr (inr (inl refl)))))) (answering P)
 
 pub passwords : ReturnsOf unix_plays unix_codes
 passwords call room held sight = by_function call.func call _

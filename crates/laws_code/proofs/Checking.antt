@@ -68,7 +68,7 @@ notice_checked : (P : Code → Type 0) (args : List (List ℕ)) → P (nologin.p
     → P returns.UserUnknown → P returns.ConvErr → Gives P (nologin.checks_notice args)
 notice_checked P args ends denied failed unknown silent =
     asking P _ silent (λ user. read_notice P (nologin.plain_answer args) ends denied failed unknown silent (value_among (codes "file=") args) _
-        (noticed P (nologin.plain_answer args) ends denied failed unknown silent user))
+    (noticed P (nologin.plain_answer args) ends denied failed unknown silent user))
 
 plain_in : (b : Bool) (rest : List Code) → IsOneOf (cond b returns.Success returns.Ignore) (returns.Success ∷ returns.Ignore ∷ rest)
 plain_in true rest = inl refl
@@ -78,9 +78,9 @@ pub nologins : ReturnsOf nologin.nologin_plays nologin_codes
 nologins call room held sight =
     let told = has_argument (codes "successok") call.args in
     checked call.func (nologin.plain_answer call.args) (nologin.checks_notice call.args) nologin_check (returns.Success ∷ returns.Ignore ∷ [])
-        (plain_in told [])
+    (plain_in told [])
     (notice_checked (λ c. IsOneOf c nologin_check) call.args (plain_in told (returns.AuthErr ∷ returns.ConvErr ∷ returns.ServiceErr ∷ returns.UserUnknown ∷ []))
-        (inr (inr (inl refl))) (inr (inr (inr (inr (inl refl))))) (inr (inr (inr (inr (inr (inl refl)))))) (inr (inr (inr (inl refl))))) _
+    (inr (inr (inl refl))) (inr (inr (inr (inr (inl refl))))) (inr (inr (inr (inr (inr (inl refl)))))) (inr (inr (inr (inl refl))))) _
 
 plainly : (b : Bool) → cond b returns.Success returns.Ignore ≡ returns.Success → b ≡ true
 plainly true e = refl
@@ -151,7 +151,7 @@ pub terminals : ReturnsOf securetty.securetty_plays securetty_codes
 terminals call room held sight =
     checked call.func returns.Success securetty.checks_terminal securetty_check (returns.Success ∷ []) (inl refl)
     (terminal_checked (λ c. IsOneOf c securetty_check) (inl refl) (inr (inl refl)) (inr (inr (inr (inl refl)))) (inr (inr (inr (inr (inl refl)))))
-        (inr (inr (inl refl)))) _
+    (inr (inr (inl refl)))) _
 
 -- ---- pam_wheel
 
@@ -213,11 +213,11 @@ trust_alone call room held sight other =
     let P : Code → Type 0 = λ c. c ≡ returns.Success → has_argument (codes "trust") call.args ≡ true in
     told_by call.func P returns.Success (sees_caller (wheel.checks_wheel call.args)) (λ f. absurd (other f)) (λ e. absurd cc)
     (wheel_checked P call.args (trusting (has_argument (codes "trust") call.args)) (λ e. absurd cc) (λ e. absurd cc) (λ e. absurd cc) (λ e. absurd cc)
-        (λ e. absurd cc)) _
+    (λ e. absurd cc)) _
 
 pub wheels : ReturnsOf wheel.wheel_plays wheel_codes
 wheels call room held sight =
     checked call.func returns.Success (sees_caller (wheel.checks_wheel call.args)) wheel_check (returns.Success ∷ []) (inl refl)
     (wheel_checked (λ c. IsOneOf c wheel_check) call.args (trusted_in (has_argument (codes "trust") call.args)
-        (returns.PermDenied ∷ returns.ConvErr ∷ returns.ServiceErr ∷ returns.UserUnknown ∷ [])) (inr (inl refl)) (inr (inr (inl refl)))
-        (inr (inr (inr (inr (inl refl))))) (inr (inr (inr (inr (inr (inl refl)))))) (inr (inr (inr (inl refl))))) _
+    (returns.PermDenied ∷ returns.ConvErr ∷ returns.ServiceErr ∷ returns.UserUnknown ∷ [])) (inr (inl refl)) (inr (inr (inl refl)))
+    (inr (inr (inr (inr (inl refl))))) (inr (inr (inr (inr (inr (inl refl)))))) (inr (inr (inr (inl refl))))) _

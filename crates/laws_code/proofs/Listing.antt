@@ -98,9 +98,9 @@ lists call room held sight =
     let P : Code → Type 0 = λ c. IsOneOf c listfile_rest in
     let error = listfile.error_answer call.args in
     let failed = either P (listfile.is_succeed (value_among (codes "onerr=") call.args)) returns.Success returns.ServiceErr (inl refl)
-            (inr (inr (inr (inr (inl refl))))) in
+    (inr (inr (inr (inr (inl refl))))) in
     listed_so call.func _ (list_checked P error failed (inl refl) (inr (inl refl)) (inr (inr (inl refl))) (inr (inr (inr (inl refl)))) call.args
-        (settings_of call.args)) _
+    (settings_of call.args)) _
 
 -- ---- pam_succeed_if
 
@@ -151,4 +151,4 @@ pub conditions : ReturnsOf succeed.succeed_if_plays succeed_if_codes
 conditions call room held sight =
     let P : Code → Type 0 = λ c. IsOneOf c succeed_if_rest in
     succeeded_so call.func _ (conditions_checked P (inl refl) (inr (inl refl)) (inr (inr (inr (inl refl)))) (inr (inr (inr (inr (inl refl)))))
-        (inr (inr (inl refl))) call.args (succeed.uses_uid call.args)) _
+    (inr (inr (inl refl))) call.args (succeed.uses_uid call.args)) _

@@ -138,4 +138,4 @@ pub histories : ReturnsOf pwhistory_plays pwhistory_codes
 histories call room held sight =
     let P : Code → Type 0 = λ c. IsOneOf c pwhistory_change in
     by_function call.func call.flags (checks_token call answers) (checked P (inl refl) (inr (inl refl)) call answers (answering P) (inr (inr (inr (inl refl))))
-        (inr (inr (inl refl)))) _
+    (inr (inr (inl refl)))) _

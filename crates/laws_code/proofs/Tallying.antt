@@ -85,8 +85,11 @@ module _ (P : Code → Type 0) where
   filed task s file lock act d r = read_so file (task_if_readable task s file lock act) (tallied task s file lock act d r)
 
   let_go : (b : Bool) (act : Code → Act) → Rest act → Rest (λ code. lets_go b (act code))
-  let_go b act r = record { ends = letting_go P b (act returns.Success) r.ends; passed = letting_go P b (act returns.Ignore) r.passed;
-      failed = letting_go P b (act returns.ServiceErr) r.failed }
+  let_go b act r = record {
+    ends = letting_go P b (act returns.Success) r.ends;
+    passed = letting_go P b (act returns.Ignore) r.passed;
+    failed = letting_go P b (act returns.ServiceErr) r.failed;
+  }
 
   refused_later : (b : Bool) (task : Task) (act : Code → Act) → Refuses task act → Refuses task (λ code. lets_go b (act code))
   refused_later b Preauth act d = letting_go P b (act returns.AuthErr) d
@@ -152,7 +155,7 @@ given None s = answering (λ c. IsOneOf c faillock_auth) returns.ServiceErr (inr
 given (Some task) s =
     let P : Code → Type 0 = λ c. IsOneOf c faillock_auth in
     tally_checked P (inl refl) (inr (inl refl)) (inr (inr (inr (inr (inl refl))))) (inr (inr (inr (inr (inr (inl refl)))))) (inr (inr (inr (inl refl)))) task s
-        (refusing P (inr (inr (inl refl))) task)
+    (refusing P (inr (inr (inl refl))) task)
 
 missing_so : Gives (λ c. IsOneOf c (returns.ModuleUnknown ∷ [])) (answers returns.ModuleUnknown)
 missing_so = answering (λ c. IsOneOf c (returns.ModuleUnknown ∷ [])) returns.ModuleUnknown (inl refl)

@@ -36,7 +36,7 @@ module _ (locked : LockedIsRefused) where
       let answering = answers_by players Authenticate flags in
       let answer = gate_answers players flags rule s user gate is l in
       let e = failing_first_line_ends State kinds.Keep kept answering rule rest s gate.control (ap is_failure answer) (ap is_failure answer)
-              (ap is_incomplete answer) in
+      (ap is_incomplete answer) in
       record {
         code_is = e.code_is ∙ answer;
         ran = e.ran ∙ ap (λ (c : Code). visit 1 c ∷ []) answer;

@@ -51,7 +51,7 @@ module _ (State : Type 0) (kept : KeptAnswers) (answering : Answering State) whe
   step : (rule : Rule) (rest : Stack) (at : ℕ) (o : Opinion) (visits : List Visit) (s : State) (action : Action) (a : Answered State)
       → answering rule at s ≡ a → action_at rule.control a.answer ≡ action → is_incomplete a.answer ≡ false
       → walk kinds.Keep (serving kinds.Keep kept answering) 0 (line rule rest) at opening o (pass_state [] visits s)
-          ≡ behind action rest at o (ran false at visits a)
+      ≡ behind action rest at o (ran false at visits a)
   step rule rest at o visits s action a is acts whole =
       ap (λ (x : Answered State). behind (action_at rule.control x.answer) rest at o (served_now kinds.Keep kept at visits x)) is
       ∙ ap (λ (x : Action). behind x rest at o (served_now kinds.Keep kept at visits a)) acts
@@ -76,7 +76,7 @@ module _ (State : Type 0) (kept : KeptAnswers) (answering : Answering State) whe
         step first (line second (line third rest)) 1 opening [] s actions.Ok (record { answer = returns.Success; state = s1 }) one ok refl
         ∙ step second (line third rest) 2 good (visit 1 returns.Success ∷ []) s1 actions.Bad (record { answer = refusal; state = s2 }) two bads whole
         ∙ step third rest 3 denied (visit 1 returns.Success ∷ visit 2 refusal ∷ []) s2 actions.Die (record { answer = returns.Ignore; state = s3 })
-            three die refl in
+        three die refl in
         record {
           denied = λ e. negative_denies at_end.status
               (ap (λ (i : Impression). verdict_at i at_end.status) (sym (bad_is denied.impression denied.status returns.Ignore)) ∙ sym (ap code_of all) ∙ e);

@@ -70,7 +70,7 @@ refused_is_recorded records players flags kept first second third rest s user fa
     let shows = line_shows records players flags third b.state user failures usual.faillock usual.authfail is can in
     let ends = three_lines State kept answering first second third rest s a.state b.state c.state b.answer (with_code a returns.Success passes) refl
     (with_code c returns.Ignore shows.answer) (ap (λ (control : List Action). action_at control returns.Success) usual.gate.control)
-        (usual.refuses b.answer refuses)
+    (usual.refuses b.answer refuses)
     (usual.dies returns.Ignore) whole in
     record {
       denied = ends.denied;

@@ -73,7 +73,7 @@ module _ (s : PlainSettings) where
         → (b : Bool) (tally : List ℕ) (failures : List Failure) (stage : Stage) → b ≡ false → is_rooted s.folder ≡ true
         → content_seen (tally_name s.folder user) tally_limit stage.sight ≡ content.Holds tally
         → failures_of tally ≡ Some failures → LockedAt stage failures → unless_spared b task s user stage
-            ≡ called (answered returns.AuthErr stage.room stage.sight)
+        ≡ called (answered returns.AuthErr stage.room stage.sight)
     unfolding reads_file
     unspared task locks first true tally failures stage is folder seen are locked = absurd (true≢false is)
     unspared task locks first false tally failures stage is folder seen are locked =
@@ -87,7 +87,7 @@ module _ (s : PlainSettings) where
         → entry_of user entries ≡ Some entry → account_in user (passwds_in c) ≡ found entry
     found_so entries entry text c is are there =
         ap (λ (x : Content). account_in user (passwds_in x)) is ∙ ap (λ (r : Result (List Passwd) DbFault). account_in user (result_ok r)) are
-            ∙ ap account_or_missing there
+        ∙ ap account_or_missing there
 
     named_so : (task : _) → Locks (task_on_failures task s) → ReadsFirst (does_task task s) (task_on_file task s) → (b : Bool) (stage : Stage) → b ≡ false
         → stage.known ≡ nothing_known → IsLocked s stage.sight user → unless_no_file b task s user stage
@@ -100,19 +100,19 @@ module _ (s : PlainSettings) where
         let next : Stage = record stage { known = record stage.known { passwds = Some entries }; sight = later stage.sight } in
         let passwd_seen : text ≡ content.Holds l.passwd =
         read_whole (stage.sight.failing 0) account_limit (file_at (path_of stage.sight.root (codes "/etc/passwd")) stage.sight.files) l.passwd (l.none_fails 0)
-            l.passwd_is l.passwd_fits in
+        l.passwd_is l.passwd_fits in
         let tally_seen : content_seen (tally_name s.folder user) tally_limit next.sight ≡ content.Holds l.tally =
         read_whole (stage.sight.failing 1) tally_limit (file_at (path_of stage.sight.root (tally_name s.folder user)) stage.sight.files) l.tally
-            (l.none_fails 1) l.tally_is l.tally_fits in
+        (l.none_fails 1) l.tally_is l.tally_fits in
         ap (λ (k : Known). passwds_by k.passwds (λ es. task_for_account task s user (account_in user es)) stage) known
         ∙ ap (λ (a : Account). called (task_for_account task s user a next)) (found_so l.entries l.entry l.passwd text passwd_seen l.entries_are l.entry_is)
         ∙ ap called (unspared task locks first (l.entry.uid == 0 && not s.locks_root) l.tally l.failures next l.lockable l.folder tally_seen
-            l.failures_are l.locked)
+        l.failures_are l.locked)
 
     asked : (task : _) → Locks (task_on_failures task s) → ReadsFirst (does_task task s) (task_on_file task s) → (known_user : Option (List ℕ)) (stage : Stage)
         → known_user ≡ Some user → stage.room.items.user ≡ Some user → stage.known ≡ nothing_known → IsLocked s stage.sight user
         → with_user (user_or_ask known_user stage.room) (λ u. unless_no_file (is_no_file u) task s u) stage
-            ≡ called (called (answered returns.AuthErr stage.room stage.sight))
+        ≡ called (called (answered returns.AuthErr stage.room stage.sight))
     asked task locks first None stage is there known l = absurd cc
     asked task locks first (Some u) stage is there known l =
         let who : unwrap_or stage.room.items.user [] ≡ user = ap (λ (o : Option (List ℕ)). unwrap_or o []) there in
@@ -123,7 +123,7 @@ asked_task : (s : PlainSettings) (user : List ℕ) (stage : Stage) → stage.roo
 unfolding asks_user sees_moment
 asked_task s user stage is known l =
     asked s user _ (λ file lock failures at locked. refused (is_locked s.deny s.interval s.unlock at.sight.clock.moment failures) (tries_lock lock) at locked)
-        (λ file lock at. refl) stage.room.items.user stage is is known l
+    (λ file lock at. refl) stage.room.items.user stage is is known l
 
 pub locked_is_refused : LockedIsRefused
 locked_is_refused call room held sight user func mode is l =

@@ -91,7 +91,7 @@ module _ (State : Type 0) (kind : PassKind) (kept : KeptAnswers) (answering : An
   told (sub inner t) (suc n) at entry o g pre post is there spoils =
       told t n (at + lines_in inner) entry o g (pre ++ controls inner) post
       (is ∙ ap (λ (xs : List (List Action)). pre ++ xs) (append_assoc (controls inner) (controls t) post)
-          ∙ sym (append_assoc pre (controls inner) (controls t ++ post)))
+      ∙ sym (append_assoc pre (controls inner) (controls t ++ post)))
       (let l = length-append pre (controls inner) in let k = controls-count inner in omega (arith, there, l, k)) spoils
   told (line rule t) zero at entry o g pre post is there spoils =
       let left : ℕ = count t in
@@ -105,13 +105,13 @@ module _ (State : Type 0) (kind : PassKind) (kept : KeptAnswers) (answering : An
       ap (λ (c : List Action). action_at c (decides kind kept at v.answer)) (control_here all pre (controls t ++ post) rule.control at is there)
       ∙ ap (action_at rule.control) (sym added.decided) in
       if_told v.stopped (halted o v.state) (onward (next_of a left new) (λ n. walk kind (serving kind kept answering) n t (at + 1) entry last v.state)
-          (walked last v.state)) g.visits
+      (walked last v.state)) g.visits
       (λ stops. none_new g.visits (halted o v.state) (added.stays stops) spoils)
       (λ goes.
       let grown : v.state.visits ≡ g.visits ++ this ∷ [] = added.adds goes in
       let spoils' : Spoils last v.state.visits = λ e. settled_spoiled kind a left v.answer v.deciding entry o (marked g.visits) spoils
       (ap (λ (x : Action). spoiled_by kind x v.answer (marked g.visits)) (sym is_action)
-          ∙ sym (spoilt-append kind (action_of kind kept all) false g.visits (this ∷ []))
+      ∙ sym (spoilt-append kind (action_of kind kept all) false g.visits (this ∷ []))
       ∙ sym (ap marked grown) ∙ e) in
       later g.visits (this ∷ []) v.state.visits _ grown
       (onward_told (next_of a left new) (λ n. walk kind (serving kind kept answering) n t (at + 1) entry last v.state) (walked last v.state) v.state.visits
@@ -121,13 +121,13 @@ module _ (State : Type 0) (kind : PassKind) (kept : KeptAnswers) (answering : An
   told (sub inner t) zero at entry o g pre post is there spoils =
       let inside : Walked (PassState State) = walk kind (serving kind kept answering) zero inner at o o g in
       let split : controls all ≡ pre ++ (controls inner ++ (controls t ++ post)) = is
-              ∙ ap (λ (xs : List (List Action)). pre ++ xs) (append_assoc (controls inner) (controls t) post) in
+      ∙ ap (λ (xs : List (List Action)). pre ++ xs) (append_assoc (controls inner) (controls t) post) in
       let d : Told g.visits inside = told inner zero at o o g pre (controls t ++ post) split there spoils in
       if_told inside.stopped inside (walk kind (serving kind kept answering) zero t (at + lines_in inner) entry inside.opinion inside.state) g.visits
       (λ e. d)
       (λ e. later g.visits d.news inside.state.visits _ d.adds
       (told t zero (at + lines_in inner) entry inside.opinion inside.state (pre ++ controls inner) post
-          (split ∙ sym (append_assoc pre (controls inner) (controls t ++ post)))
+      (split ∙ sym (append_assoc pre (controls inner) (controls t ++ post)))
       (let l = length-append pre (controls inner) in let k = controls-count inner in omega (arith, there, l, k)) d.spoils))
 
   pub pass_told : (past : List Code) (s : State) → Told [] (pass_after kind kept answering all past s)

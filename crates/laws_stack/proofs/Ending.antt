@@ -41,8 +41,8 @@ module _ (State : Type 0) (kind : PassKind) where
       → stopped ≡ false → action ≡ actions.Die → is_failure answer ≡ true
       → Ends answer st (if stopped then halted opening st
       else onward (next_of action left (acted kind action answer deciding opening opening))
-          (f (new_or_overrun action left (acted kind action answer deciding opening opening)))
-          (walked (new_or_overrun action left (acted kind action answer deciding opening opening)) st))
+      (f (new_or_overrun action left (acted kind action answer deciding opening opening)))
+      (walked (new_or_overrun action left (acted kind action answer deciding opening opening)) st))
   ends true action answer deciding left st f goes is failed = absurd (true≢false goes)
   ends false actions.Die answer deciding left st f goes is failed = record { code_is = own_code answer failed; state_is = refl }
   ends false actions.Ignore answer deciding left st f goes is failed = absurd cc
@@ -59,7 +59,7 @@ failing_first_line_ends State kind kept answering rule rest s control failed dec
     let is : action_at rule.control (decides kind kept 1 a.answer) ≡ actions.Die =
     ap (λ (c : List Action). action_at c (decides kind kept 1 a.answer)) control ∙ dies (decides kind kept 1 a.answer) decided in
     let e = ends State kind (is_incomplete a.answer) (action_at rule.control (decides kind kept 1 a.answer)) a.answer (decides kind kept 1 a.answer)
-            (count rest) st
+    (count rest) st
     (λ last n. walk kind (serving kind kept answering) n rest (1 + 1) opening last st) whole is failed in
     record {
       code_is = e.code_is;

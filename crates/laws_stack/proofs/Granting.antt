@@ -159,7 +159,7 @@ module _ (State : Type 0) (kind : PassKind) (kept : KeptAnswers) where
     due (sub inner t) (suc n) at entry o g pre post is there first backed denied =
         due t n (at + lines_in inner) entry o g (pre ++ controls inner) post
         (is ∙ ap (λ (xs : List (List Action)). pre ++ xs) (append_assoc (controls inner) (controls t) post)
-            ∙ sym (append_assoc pre (controls inner) (controls t ++ post)))
+        ∙ sym (append_assoc pre (controls inner) (controls t ++ post)))
         (let l = length-append pre (controls inner) in let k = controls-count inner in omega (arith, there, l, k)) first backed denied
     due (line rule t) zero at entry o g pre post is there first backed denied =
         let left : ℕ = count t in
@@ -173,7 +173,7 @@ module _ (State : Type 0) (kind : PassKind) (kept : KeptAnswers) where
         ap (λ (c : List Action). action_at c (decides kind kept at v.answer)) (control_here all pre (controls t ++ post) rule.control at is there)
         ∙ ap (action_at rule.control) (sym added.decided) in
         if_due v.stopped (halted o v.state) (onward (next_of a left new) (λ n. walk kind (serving kind kept answering) n t (at + 1) entry last v.state)
-            (walked last v.state)) g.visits
+        (walked last v.state)) g.visits
         (λ stops. none_new g.visits (halted o v.state) (added.stays stops) backed denied)
         (λ goes.
         let grown : v.state.visits ≡ g.visits ++ this ∷ [] = added.adds goes in
@@ -187,10 +187,10 @@ module _ (State : Type 0) (kind : PassKind) (kept : KeptAnswers) where
           counts = ap (λ (c : Code). grants kind (acts (visit at c))) (sym e) ∙ ap (grants kind) is_action ∙ f;
         } in
         let backed' : Backed last v.state.visits = settled_from (Granted kind acts v.state.visits) kind a left v.answer v.deciding entry o before'
-                first' here in
+        first' here in
         let denied' : Denied last v.state.visits = λ e. settled_doomed kind a left v.answer v.deciding entry o (doomed acts false g.visits) denied
         (ap (λ (x : Action). doomed_by x (doomed acts false g.visits)) (sym is_action) ∙ sym (doomed-append acts false g.visits (this ∷ []))
-            ∙ sym (ap (doomed acts false) grown) ∙ e) in
+        ∙ sym (ap (doomed acts false) grown) ∙ e) in
         later g.visits (this ∷ []) v.state.visits _ grown
         (onward_due (next_of a left new) (λ n. walk kind (serving kind kept answering) n t (at + 1) entry last v.state) (walked last v.state) v.state.visits
         (λ n. due t n (at + 1) entry last v.state (pre ++ rule.control ∷ []) post (is ∙ sym (append_assoc pre (rule.control ∷ []) (controls t ++ post)))
@@ -199,13 +199,13 @@ module _ (State : Type 0) (kind : PassKind) (kept : KeptAnswers) where
     due (sub inner t) zero at entry o g pre post is there first backed denied =
         let inside : Walked (PassState State) = walk kind (serving kind kept answering) zero inner at o o g in
         let split : controls all ≡ pre ++ (controls inner ++ (controls t ++ post)) = is
-                ∙ ap (λ (xs : List (List Action)). pre ++ xs) (append_assoc (controls inner) (controls t) post) in
+        ∙ ap (λ (xs : List (List Action)). pre ++ xs) (append_assoc (controls inner) (controls t) post) in
         let d : Due g.visits inside = due inner zero at o o g pre (controls t ++ post) split there backed backed denied in
         if_due inside.stopped inside (walk kind (serving kind kept answering) zero t (at + lines_in inner) entry inside.opinion inside.state) g.visits
         (λ e. d)
         (λ e. later g.visits d.news inside.state.visits _ d.adds
         (due t zero (at + lines_in inner) entry inside.opinion inside.state (pre ++ controls inner) post
-            (split ∙ sym (append_assoc pre (controls inner) (controls t ++ post)))
+        (split ∙ sym (append_assoc pre (controls inner) (controls t ++ post)))
         (let l = length-append pre (controls inner) in let k = controls-count inner in omega (arith, there, l, k))
         (λ e. granted_still kind acts g.visits d.news inside.state.visits d.adds (first e)) d.backed d.denied))
 
@@ -252,4 +252,4 @@ either_denies control code (inr is) e = ap (λ (c : List Action). denies (action
 pub failed_required_denies : (State : Type 0) → FailedRequiredDenies State
 failed_required_denies State kind kept answering stack past s before more v split control failed calm =
     failed_line_denies State kind kept answering stack past s before more v split
-        (either_denies (control_of stack v.place) (deciding_of kind kept v) control failed) calm
+    (either_denies (control_of stack v.place) (deciding_of kind kept v) control failed) calm

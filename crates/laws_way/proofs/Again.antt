@@ -40,9 +40,9 @@ module _ (State : Type 0) (answering : Answering State) (stack : Stack) where
       has_all kept stack 0 1 false false (λ place is. keeps_complete State before answering stack past s runs place ∙ is) in
       let one : Goes (PassState State) seen [] (route_from kept 0 stack 1 false false) first =
       along (PassState State) kinds.Keep (serving kinds.Keep before answering) kept seen (Below State) (Agrees State kept)
-          (keep_tells State kept before answering)
+      (keep_tells State kept before answering)
       stack 0 1 opening opening (pass_state past [] s) false false refl refl (λ place le. refl) (λ place k is. is)
-          (inr (keep_finds State kept before answering)) in
+      (inr (keep_finds State kept before answering)) in
       let two : Goes (PassState State) seen [] (route_from kept 0 stack 1 false false) w =
       along (PassState State) kinds.Follow (serving kinds.Follow kept answering) kept seen (Any_at State) (Any State) (follow_tells State kept answering)
       stack 0 1 opening opening (pass_state later_past [] later) false false refl refl tt tt (inl has) in

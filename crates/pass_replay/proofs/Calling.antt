@@ -22,7 +22,7 @@ module _ {State : Type 0} (asking : Asking State) (stacks : Stacks) where
   pub called : (func : Func) (past : List Code) (h left : Held) (s : State) (kept : Option KeptAnswers) (p : Passed State) (w : Went State)
       → kept ≡ cached_for func h → held_behind func None p left ≡ held_behind func None p h
       → p ≡ passes asking stacks func false (kind_of func kept) kept (stack_for func stacks) past s → w ≡ went p.code (held_behind func None p left) p.state
-          → w ≡ one_pass asking stacks func past h s
+      → w ≡ one_pass asking stacks func past h s
   called func past h left s kept p w k r e f =
       let first : p ≡ first_pass asking stacks func past h s = e ∙ rw k (first_by func past h s) in
       f ∙ ap (λ (x : Held). went p.code x p.state) r ∙ ap (λ (q : Passed State). went q.code (held_behind func None q h) q.state) first

@@ -21,7 +21,7 @@ pub given : (kind : PassKind) (kept : KeptAnswers) (rule : Rule) (past : List Co
     (old new : Replay) (answer : Code) → slice_get past old.used ≡ Some answer
     → new ≡ record old { used = old.used + 1; visits = old.visits ++ record { place = old.at + 1; answer = answer } ∷ [] }
     → ServedAs (serving kind kept replaying rule (old.at + 1) (state_in past told old)) answer (decides kind kept (old.at + 1) answer) false
-        (state_in past told new)
+    (state_in past told new)
 given kind kept rule past told old new answer is new_is =
     let at : ℕ = old.at + 1 in
     let visits : List Visit = visits_of old.visits in
@@ -61,7 +61,7 @@ pub asked : (kind : PassKind) (kept : KeptAnswers) (rule : Rule) (past : List Co
     → mid ≡ record old { next = mid.next; astray = mid.astray } → is_incomplete answer ≡ false
     → new ≡ record mid { visits = mid.visits ++ record { place = mid.at + 1; answer = answer } ∷ [] }
     → ServedAs (serving kind kept replaying rule (old.at + 1) (state_in past told old)) answer (decides kind kept (old.at + 1) answer) false
-        (state_in past told new)
+    (state_in past told new)
 asked kind kept rule past told old mid new answer is answers mid_is goes new_is =
     let at : ℕ = old.at + 1 in
     let visits : List Visit = visits_of old.visits in
@@ -78,7 +78,7 @@ asked kind kept rule past told old mid new answer is answers mid_is goes new_is 
     ∙ ap (λ n. pass_state (drop n past) (visits ++ visit at answer ∷ []) later) used
     ∙ ap (λ (left : List Code). pass_state left (visits ++ visit at answer ∷ []) later) none_left in
     subst (λ (s : PassState Telling). ServedAs (serving kind kept replaying rule at (state_in past told old)) answer (decides kind kept at answer) false
-        s) (sym state)
+    s) (sym state)
     (subst (λ (left : List Code). ServedAs (served_past kind kept replaying rule at left visits telling) answer (decides kind kept at answer) false
-        (pass_state [] (visits ++ visit at answer ∷ []) later)) (sym none_left)
+    (pass_state [] (visits ++ visit at answer ∷ []) later)) (sym none_left)
     (asked_once kind kept at visits (replaying rule at telling) answer later answers goes))

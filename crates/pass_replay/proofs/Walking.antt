@@ -24,7 +24,7 @@ module _ {State : Type 0} (kind : PassKind) (serve : Serving State) where
 
   goes_on : (next : Next) (rest : Stack) (at : ℕ) (entry opinion : Opinion) (state : State)
       → onto next (λ n. walk kind serve n rest at entry opinion state) (walked opinion state)
-          ≡ walk kind serve (skip_of next (count rest)) rest at entry opinion state
+      ≡ walk kind serve (skip_of next (count rest)) rest at entry opinion state
   goes_on (after n) rest at entry opinion state = refl
   goes_on stop rest at entry opinion state = sym (skip_all rest at entry opinion state)
 
@@ -65,7 +65,7 @@ module _ {State : Type 0} (kind : PassKind) (serve : Serving State) where
 
   skipped : (node : Node) (rest : Stack) (skip at : ℕ) (entry opinion : Opinion) (state : State)
       → walk kind serve (suc skip) (node_on node rest) at entry opinion state
-          ≡ walk kind serve skip rest (at + lines_in (node_on node none)) entry opinion state
+      ≡ walk kind serve skip rest (at + lines_in (node_on node none)) entry opinion state
   skipped (Line rule) rest skip at entry opinion state = refl
   skipped (Sub' shape all) rest skip at entry opinion state =
       ap (λ n. walk kind serve skip rest (at + n) entry opinion state) (sym (add-zero (lines_in (row_stack all))))
@@ -73,7 +73,7 @@ module _ {State : Type 0} (kind : PassKind) (serve : Serving State) where
   pub walking_skip : (all : Stack) (first : ℕ) (entry : Opinion) (start : State) (here rest : Stack) (node : Node) (skip at left skip' at' left' : ℕ)
       (opinion : Opinion) (state : State)
       → IsWalking all first entry start here skip at left opinion state → here ≡ node_on node rest → 0 < skip → skip' ≡ skip - 1
-          → at' ≡ at + lines_in (node_on node none) → left' ≡ left - 1
+      → at' ≡ at + lines_in (node_on node none) → left' ≡ left - 1
       → IsWalking all first entry start rest skip' at' left' opinion state
   walking_skip all first entry start here rest node skip at left skip' at' left' opinion state was is some less further fewer =
       let whole : skip ≡ suc skip' = omega (arith, some, less) in
@@ -81,7 +81,7 @@ module _ {State : Type 0} (kind : PassKind) (serve : Serving State) where
       record {
         goes = ap (λ n. walk kind serve skip' rest n entry opinion state) place ∙ sym (skipped node rest skip' (at + 1) entry opinion state)
             ∙ ap (λ (s : Stack). walk kind serve (suc skip') s (at + 1) entry opinion state) (sym is)
-                ∙ ap (λ n. walk kind serve n here (at + 1) entry opinion state) (sym whole) ∙ was.goes;
+            ∙ ap (λ n. walk kind serve n here (at + 1) entry opinion state) (sym whole) ∙ was.goes;
         placed = omega (arith, was.placed, ap lines_in is, lines_node node rest, further);
         counted = omega (arith, was.counted, ap count is, count_node node rest, fewer);
         shallow = omega (arith, was.shallow, ap depth is, depth_node node rest);
@@ -97,7 +97,7 @@ module _ {State : Type 0} (kind : PassKind) (serve : Serving State) where
       record {
         goes = ap (λ n. walk kind serve on.skip rest (n + 1) entry on.opinion new) further ∙ sym (goes counted)
             ∙ ap (λ (s : Stack). walk kind serve 0 s (at + 1) entry opinion state) (sym is)
-                ∙ ap (λ n. walk kind serve n here (at + 1) entry opinion state) (sym none_over) ∙ was.goes;
+            ∙ ap (λ n. walk kind serve n here (at + 1) entry opinion state) (sym none_over) ∙ was.goes;
         placed = omega (arith, was.placed, ap lines_in is, further);
         counted = sym counted;
         shallow = omega (arith, was.shallow, ap depth is);
@@ -119,7 +119,7 @@ module _ {State : Type 0} (kind : PassKind) (serve : Serving State) where
       record {
         goes = ap (λ n. walk kind serve 0 rest n entry inside new) place ∙ sym (sub_goes inner rest (at + 1) entry opinion inside state new goes)
             ∙ ap (λ (s : Stack). walk kind serve 0 s (at + 1) entry opinion state) (sym is)
-                ∙ ap (λ n. walk kind serve n here (at + 1) entry opinion state) (sym none_over) ∙ was.goes;
+            ∙ ap (λ n. walk kind serve n here (at + 1) entry opinion state) (sym none_over) ∙ was.goes;
         placed = omega (arith, was.placed, ap lines_in is, further);
         counted = omega (arith, was.counted, ap count is, fewer);
         shallow = omega (arith, was.shallow, ap depth is);
@@ -147,5 +147,5 @@ module _ {State : Type 0} (kind : PassKind) (serve : Serving State) where
   sub_put_off all first entry start here inner rest skip at left opinion state new was is none_over goes =
       put_off _ _ new
       (sym was.goes ∙ ap (λ n. walk kind serve n here (at + 1) entry opinion state) none_over
-          ∙ ap (λ (s : Stack). walk kind serve 0 s (at + 1) entry opinion state) is
+      ∙ ap (λ (s : Stack). walk kind serve 0 s (at + 1) entry opinion state) is
       ∙ sub_halts inner rest (at + 1) entry opinion state new goes)

@@ -202,8 +202,10 @@ offered = refl
 -- ---- a refused line of the script
 
 abbrev credentials : PlainLedger
-credentials = record { births = record { id = 0; handle = 2; owner = 2; name = codes "unix_setcred_return"; payload = 0 ∷ [] } ∷ [];
-    filed = filed 0 26 1 1 ∷ [] }
+credentials = record {
+  births = record { id = 0; handle = 2; owner = 2; name = codes "unix_setcred_return"; payload = 0 ∷ [] } ∷ [];
+  filed = filed 0 26 1 1 ∷ [];
+}
 
 stopped : closing_text names 2 Abort credentials 0 ++ script_text 8 BadWord
     ≡ codes "2 clean 0 0000001a 1 pam_unix unix_setcred_return\n2 closed ABORT 26\nscript 8 BadWord 1\n"

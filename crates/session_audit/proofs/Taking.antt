@@ -74,7 +74,7 @@ module _ (stacks : Stacks) where
       let b : Block = block_of number told result in
       result_goes places g n number told result lines follows are
       ∙ ap (λ (x : Option (List SlotLog)). behind_or stacks x (n + 1 - length b.told + bad_line stacks (place_at places b.number) b)
-          (λ behind. differs_from stacks behind nothing_yet (n + 1) lines)) fits
+      (λ behind. differs_from stacks behind nothing_yet (n + 1) lines)) fits
 
   pub result_named : (places : List SlotLog) (g : Gathered) (n number line : ℕ) (told : List Told) (result : Result) (lines : List (Option Says))
       → may_follow g number ≡ true → told ≡ told_so_far g
@@ -84,7 +84,7 @@ module _ (stacks : Stacks) where
       let b : Block = block_of number told result in
       result_goes places g n number told result lines follows are
       ∙ ap (λ (x : Option (List SlotLog)). behind_or stacks x (n + 1 - length b.told + bad_line stacks (place_at places b.number) b)
-          (λ behind. differs_from stacks behind nothing_yet (n + 1) lines)) fits
+      (λ behind. differs_from stacks behind nothing_yet (n + 1) lines)) fits
       ∙ ap (λ (k : ℕ). Some (n + 1 - length told + k)) (sym is)
 
   -- ---- a block of the transaction of its number

@@ -21,9 +21,9 @@ pub returns-in-Ok-clause-generate : goal.returns-in-Ok-clause-generate
 returns-in-Ok-clause-generate g c = record {
   generated = λ number given sink both.
       generated _ _ _ _ _ _ _ _ _ number _ _ c.generate-generated.result _ c.in-Ok.ensures.players c.in-Ok.ensures.slots
-          (ap exit_status c.generate_exit.ensures)
+      (ap exit_status c.generate_exit.ensures)
       (c.generate-generated.ensures.told number (c.in-Ok.ensures.delay number given)
-          (both_true _ _ (c.in-Ok.ensures.tells (both_right _ _ both)) (both_left _ _ both)) sink);
+      (both_true _ _ (c.in-Ok.ensures.tells (both_right _ _ both)) (both_left _ _ both)) sink);
   generate_writes = λ sink. c.generate-generated.ensures.writes sink;
   generate_statuses = (c.generate-generated.result, ap exit_status c.generate_exit.ensures);
 }
@@ -33,4 +33,4 @@ returns-in-Ok-clause-cleaned_up g c =
     rw c.in-Ok.ensures.players at
     (cleaned_up _ _ _ _ _ _ _ (c.proceeding_stands.ensures _) c.in-Ok.ensures.first refl
     (proceeds_too _ _ (ends_generate c.generate-generated.result _ (ap exit_status c.generate_exit.ensures)) _ _ _ _ _
-        c.generate-generated.ensures.went.proceeds) c.generate-generated.ensures.none_open)
+    c.generate-generated.ensures.went.proceeds) c.generate-generated.ensures.none_open)

@@ -10,13 +10,13 @@ use Rattle.cmd_all.proofs.program.pamsess.Goals as goal
 pub returns-in-Some-Run-clause-run : goal.returns-in-Some-Run-clause-run
 returns-in-Some-Run-clause-run g c root asked =
     run_asked _ _ _ _ _ _ _ root (rw c.in-Some-Run.field-0-is at c.in-Some-Run.ensures) asked
-        (script_so _ _ _ (c.status-in-Some-Run.ensures ∙ ap exit_status c.script_exit.ensures) _ _ _ _ c.run_under.ensures.under
-        c.numbers_stand_side_by_side.ensures c.run_under.ensures.reports)
+    (script_so _ _ _ (c.status-in-Some-Run.ensures ∙ ap exit_status c.script_exit.ensures) _ _ _ _ c.run_under.ensures.under
+    c.numbers_stand_side_by_side.ensures c.run_under.ensures.reports)
 
 pub returns-in-Some-Run-clause-command : goal.returns-in-Some-Run-clause-command
 returns-in-Some-Run-clause-command g c =
     goes_reading _ _ _ _ (rw c.in-Some-Run.field-0-is at c.in-Some-Run.ensures)
-        (λ is. run_not_two _ (sym (c.status-in-Some-Run.ensures ∙ ap exit_status c.script_exit.ensures) ∙ is)) (λ none. none)
+    (λ is. run_not_two _ (sym (c.status-in-Some-Run.ensures ∙ ap exit_status c.script_exit.ensures) ∙ is)) (λ none. none)
 
 pub returns-in-Some-Run-clause-read_causes : goal.returns-in-Some-Run-clause-read_causes
 returns-in-Some-Run-clause-read_causes g c = script_read_causes _ _ _ (c.status-in-Some-Run.ensures ∙ ap exit_status c.script_exit.ensures) _ _ _ _
@@ -33,13 +33,13 @@ returns-in-Some-Run-clause-cleaned_up g c =
 pub returns-in-Some-Wire-clause-wire : goal.returns-in-Some-Wire-clause-wire
 returns-in-Some-Wire-clause-wire g c root asked =
     wire_asked _ _ _ _ _ _ _ root (rw c.in-Some-Wire.field-0-is at c.in-Some-Wire.ensures) asked
-        (frames_so _ _ _ (c.status-in-Some-Wire.ensures ∙ ap exit_status c.frames_exit.ensures) _ _ _ _ c.run_under-in-Some-Wire.ensures.under
-        c.run_under-in-Some-Wire.ensures.reports)
+    (frames_so _ _ _ (c.status-in-Some-Wire.ensures ∙ ap exit_status c.frames_exit.ensures) _ _ _ _ c.run_under-in-Some-Wire.ensures.under
+    c.run_under-in-Some-Wire.ensures.reports)
 
 pub returns-in-Some-Wire-clause-command : goal.returns-in-Some-Wire-clause-command
 returns-in-Some-Wire-clause-command g c =
     goes_reading _ _ _ _ (rw c.in-Some-Wire.field-0-is at c.in-Some-Wire.ensures)
-        (λ is. wire_not_two _ (sym (c.status-in-Some-Wire.ensures ∙ ap exit_status c.frames_exit.ensures) ∙ is)) (λ none. none)
+    (λ is. wire_not_two _ (sym (c.status-in-Some-Wire.ensures ∙ ap exit_status c.frames_exit.ensures) ∙ is)) (λ none. none)
 
 pub returns-in-Some-Wire-clause-read_causes : goal.returns-in-Some-Wire-clause-read_causes
 returns-in-Some-Wire-clause-read_causes g c = frames_read_causes _ _ _ (c.status-in-Some-Wire.ensures ∙ ap exit_status c.frames_exit.ensures) _ _ _ _
@@ -100,7 +100,7 @@ pub returns-in-Some-Audit-clause-command : goal.returns-in-Some-Audit-clause-com
 returns-in-Some-Audit-clause-command g c =
     rw c.status-in-Some-Audit.ensures
     (goes_reading _ _ _ _ (rw c.in-Some-Audit.field-0-is at c.in-Some-Audit.ensures)
-        (λ is. audit_not_two c.audit_service.ensures.audit.audit_statuses.0 (sym c.audit_service.ensures.audit.audit_statuses.1 ∙ is)) (λ none. none))
+    (λ is. audit_not_two c.audit_service.ensures.audit.audit_statuses.0 (sym c.audit_service.ensures.audit.audit_statuses.1 ∙ is)) (λ none. none))
 
 pub returns-in-Some-Audit-clause-cleaned_up : goal.returns-in-Some-Audit-clause-cleaned_up
 returns-in-Some-Audit-clause-cleaned_up g c =
@@ -115,7 +115,7 @@ pub returns-in-Some-Generate-clause-command : goal.returns-in-Some-Generate-clau
 returns-in-Some-Generate-clause-command g c =
     rw c.status-in-Some-Generate.ensures
     (goes_unread _ _ _ _ (rw c.in-Some-Generate.field-0-is at c.in-Some-Generate.ensures)
-        (generate_is_other _ c.generate_lines.ensures.generate.generate_statuses) refl)
+    (generate_is_other _ c.generate_lines.ensures.generate.generate_statuses) refl)
 
 pub returns-in-Some-Generate-clause-read_causes : goal.returns-in-Some-Generate-clause-read_causes
 returns-in-Some-Generate-clause-read_causes g c =
@@ -156,7 +156,7 @@ pub returns-in-Some-LoginAs-clause-command : goal.returns-in-Some-LoginAs-clause
 returns-in-Some-LoginAs-clause-command g c =
     rw c.status-in-Some-LoginAs.ensures
     (goes_unread _ _ _ _ (rw c.in-Some-LoginAs.field-0-is at c.in-Some-LoginAs.ensures)
-        (login_is_other _ c.log_in-in-Some-LoginAs.ensures.login.login_statuses) refl)
+    (login_is_other _ c.log_in-in-Some-LoginAs.ensures.login.login_statuses) refl)
 
 pub returns-in-Some-LoginAs-clause-read_causes : goal.returns-in-Some-LoginAs-clause-read_causes
 returns-in-Some-LoginAs-clause-read_causes g c =

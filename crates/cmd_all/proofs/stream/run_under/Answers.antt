@@ -25,7 +25,7 @@ returns-in-Ok-clause-under g c = record {
       (begun _ _ _ _ _ _ _ _ _ _ _ _ number _ c.in-Ok.ensures.opened (c.reset_clock.ensures.told (c.library_under.ensures.tells ∙ both_left _ _ both))
       (c.run_stream-result.ensures.ran.told (both_left _ _ (both_right _ _ both)) number (c.in-Ok.ensures.opened.gives number given)
       (both_true _ _ (c.in-Ok.ensures.opened.tells (both_right _ _ (both_right _ _ both)))
-          (c.reset_clock.ensures.tells ∙ c.library_under.ensures.tells ∙ both_left _ _ both)) source sink));
+      (c.reset_clock.ensures.tells ∙ c.library_under.ensures.tells ∙ both_left _ _ both)) source sink));
   complete = c.run_stream-result.ensures.ran.complete;
   reads = λ source. inl (c.run_stream-result.ensures.ran.reads source);
   writes = c.run_stream-result.ensures.ran.writes;
@@ -39,8 +39,13 @@ returns-in-Ok-clause-under g c = record {
 }
 
 pub returns-in-Err-clause-reports : goal.returns-in-Err-clause-reports
-returns-in-Err-clause-reports g c = λ sink. record { served = Err NoMemory; middle = []; between = _;
-    calls = record { made = []; middle = _; are_made = refl; part = []; written = sym (append-nil _); to = inl refl }; goes_on = (refl, refl) }
+returns-in-Err-clause-reports g c = λ sink. record {
+  served = Err NoMemory;
+  middle = [];
+  between = _;
+  calls = record { made = []; middle = _; are_made = refl; part = []; written = sym (append-nil _); to = inl refl };
+  goes_on = (refl, refl);
+}
 
 pub returns-in-Ok-clause-reports : goal.returns-in-Ok-clause-reports
 returns-in-Ok-clause-reports g c = λ sink.

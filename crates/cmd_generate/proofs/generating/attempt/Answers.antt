@@ -22,36 +22,36 @@ returns-in-Err-clause-went g c = went_quietly _ _ _ refl refl (c.place_in_world.
 pub returns-clause-went : goal.returns-clause-went
 returns-clause-went g c =
     went_on _ _ _ _ (went_quietly _ _ _ refl refl (c.place_in_world.ensures.tells ∙ c.set_process.ensures.tells) (λ number gives. gives) (λ number gives. gives)
-        refl (rw (c.place_in_world.ensures.process, c.set_process.ensures.ledger) refl) c.requires.sound)
+    refl (rw (c.place_in_world.ensures.process, c.set_process.ensures.ledger) refl) c.requires.sound)
     c.log_in.ensures.went
 
 pub returns-in_err-set_process-clause-told : goal.returns-in_err-set_process-clause-told
 returns-in_err-set_process-clause-told g c = λ delay is told.
     let old : PlainWorld = plain_world (λ b. (goal.Vault-dyn g (b.vtable, b.value)).vault_holds b.value)
-            (λ b. (goal.Clock-dyn g (b.vtable, b.value)).clock_holds b.value) (λ b. (goal.Nap-dyn g (b.vtable, b.value)).nap_holds b.value) c.args.world.now in
+    (λ b. (goal.Clock-dyn g (b.vtable, b.value)).clock_holds b.value) (λ b. (goal.Nap-dyn g (b.vtable, b.value)).nap_holds b.value) c.args.world.now in
     login_unbegun _ _ _ c.from_residual.result c.from_residual.ensures.1
-        (not_begun _ c.args.seed c.args.lines (state_of _ old) _ (rw c.in_err-set_process.ensures.err refl))
+    (not_begun _ c.args.seed c.args.lines (state_of _ old) _ (rw c.in_err-set_process.ensures.err refl))
 
 pub returns-in_err-files-clause-told : goal.returns-in_err-files-clause-told
 returns-in_err-files-clause-told g c = λ delay is told.
     let old : PlainWorld = plain_world (λ b. (goal.Vault-dyn g (b.vtable, b.value)).vault_holds b.value)
-            (λ b. (goal.Clock-dyn g (b.vtable, b.value)).clock_holds b.value) (λ b. (goal.Nap-dyn g (b.vtable, b.value)).nap_holds b.value) c.args.world.now in
+    (λ b. (goal.Clock-dyn g (b.vtable, b.value)).clock_holds b.value) (λ b. (goal.Nap-dyn g (b.vtable, b.value)).nap_holds b.value) c.args.world.now in
     login_unbegun _ _ _ c.from_residual-in_err-files.result c.from_residual-in_err-files.ensures.1
-        (not_generated _ c.args.seed c.args.lines (state_of _ old) _ c.in_ok-set_process.ensures.ok)
+    (not_generated _ c.args.seed c.args.lines (state_of _ old) _ c.in_ok-set_process.ensures.ok)
 
 pub returns-in-Err-clause-told : goal.returns-in-Err-clause-told
 returns-in-Err-clause-told g c = λ delay is told.
     let old : PlainWorld = plain_world (λ b. (goal.Vault-dyn g (b.vtable, b.value)).vault_holds b.value)
-            (λ b. (goal.Clock-dyn g (b.vtable, b.value)).clock_holds b.value) (λ b. (goal.Nap-dyn g (b.vtable, b.value)).nap_holds b.value) c.args.world.now in
+    (λ b. (goal.Clock-dyn g (b.vtable, b.value)).clock_holds b.value) (λ b. (goal.Nap-dyn g (b.vtable, b.value)).nap_holds b.value) c.args.world.now in
     not_placed _ c.args.seed c.args.lines (state_of _ old) _ _ _ _ c.in_ok-files.ensures c.in_ok-set_process.ensures.ok c.place_in_world.ensures.rest
-        c.in-Err.refuse
+    c.in-Err.refuse
     (rw c.deref.ensures.value at (c.in-Err.ensures.told (vault_of _ _ _ _ (both_tell _ _ _ _ refl c.set_process.ensures.tells told))))
 
 pub returns-clause-told : goal.returns-clause-told
 returns-clause-told g c = λ delay is told.
     let old : PlainWorld = plain_world (λ b. (goal.Vault-dyn g (b.vtable, b.value)).vault_holds b.value)
-            (λ b. (goal.Clock-dyn g (b.vtable, b.value)).clock_holds b.value) (λ b. (goal.Nap-dyn g (b.vtable, b.value)).nap_holds b.value) c.args.world.now in
+    (λ b. (goal.Clock-dyn g (b.vtable, b.value)).clock_holds b.value) (λ b. (goal.Nap-dyn g (b.vtable, b.value)).nap_holds b.value) c.args.world.now in
     all_placed _ c.args.seed c.args.lines (state_of _ old) _ _ _ _ c.in_ok-files.ensures c.in_ok-set_process.ensures.ok c.place_in_world.ensures.rest tt
-        c.log_in.result _
+    c.log_in.result _
     (rw c.deref.ensures.value at (c.in-Ok.ensures.told (vault_of _ _ _ _ (both_tell _ _ _ _ refl c.set_process.ensures.tells told))))
     (c.log_in.ensures.told delay is (both_tell _ _ _ _ refl (c.place_in_world.ensures.tells ∙ c.set_process.ensures.tells) told))

@@ -11,7 +11,7 @@ returns-in-Ok-write_all-clause-told g c = λ delay is told sink.
 pub returns-clause-told : goal.returns-clause-told
 returns-clause-told g c = λ delay is told sink.
     generates_cut c.in-Ok.finding _ _ _ c.in-Err-write_all.field-0 _ _ (c.in-Ok.ensures.told delay is told) c.bytes.ensures
-        (c.in-Err-write_all.ensures.told sink)
+    (c.in-Err-write_all.ensures.told sink)
 
 pub returns-in-Err-clause-writes : goal.returns-in-Err-clause-writes
 returns-in-Err-clause-writes g c = λ sink. writes_none _

@@ -25,13 +25,13 @@ returns-clause-told g c = λ delay is told.
 pub returns-in-Err-clause-went : goal.returns-in-Err-clause-went
 returns-in-Err-clause-went g c =
     went_once _ _ _ (rw c.apply.ensures.gear refl) c.apply.ensures.keeps.tells c.apply.ensures.keeps.world_tells (λ number gives. rw c.apply.ensures.gear gives)
-        (λ number gives. rw c.apply.ensures.gear at gives)
+    (λ number gives. rw c.apply.ensures.gear at gives)
     _ (rw c.authenticate_step-step.ensures at c.apply.ensures.keeps.moves) (authenticate_ends_none _) c.apply.ensures.keeps.sound
 
 pub returns-clause-went : goal.returns-clause-went
 returns-clause-went g c =
     went_once _ _ _ (rw c.apply.ensures.gear refl) c.apply.ensures.keeps.tells c.apply.ensures.keeps.world_tells (λ number gives. rw c.apply.ensures.gear gives)
-        (λ number gives. rw c.apply.ensures.gear at gives)
+    (λ number gives. rw c.apply.ensures.gear at gives)
     _ (rw c.authenticate_step-step.ensures at c.apply.ensures.keeps.moves) (authenticate_ends_none _) c.apply.ensures.keeps.sound
 
 pub returns-in-Err-clause-others : goal.returns-in-Err-clause-others

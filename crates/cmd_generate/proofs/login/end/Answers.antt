@@ -16,5 +16,5 @@ returns-clause-closed g c = ended_is_closed _ _ _ _ (returns-clause-ended g c (�
 pub returns-clause-went : goal.returns-clause-went
 returns-clause-went g c =
     went_once _ _ _ (rw c.apply.ensures.gear refl) c.apply.ensures.keeps.tells c.apply.ensures.keeps.world_tells (λ number gives. rw c.apply.ensures.gear gives)
-        (λ number gives. rw c.apply.ensures.gear at gives)
+    (λ number gives. rw c.apply.ensures.gear at gives)
     _ c.apply.ensures.keeps.moves (end_ends c.args.status _) c.apply.ensures.keeps.sound

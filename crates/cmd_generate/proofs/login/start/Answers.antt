@@ -35,19 +35,19 @@ returns-in_err-step-clause-went g c = went_nowhere _ _ c.requires.sound
 pub returns-in-Err-clause-went : goal.returns-in-Err-clause-went
 returns-in-Err-clause-went g c =
     went_once _ _ _ (rw c.apply.ensures.gear refl) c.apply.ensures.keeps.tells c.apply.ensures.keeps.world_tells (λ number gives. rw c.apply.ensures.gear gives)
-        (λ number gives. rw c.apply.ensures.gear at gives)
+    (λ number gives. rw c.apply.ensures.gear at gives)
     _ (rw c.in_ok-step.ensures at c.apply.ensures.keeps.moves) (start_ends_none _) c.apply.ensures.keeps.sound
 
 pub returns-in-Some-clause-went : goal.returns-in-Some-clause-went
 returns-in-Some-clause-went g c =
     went_once _ _ _ (rw c.apply.ensures.gear refl) c.apply.ensures.keeps.tells c.apply.ensures.keeps.world_tells (λ number gives. rw c.apply.ensures.gear gives)
-        (λ number gives. rw c.apply.ensures.gear at gives)
+    (λ number gives. rw c.apply.ensures.gear at gives)
     _ (rw c.in_ok-step.ensures at c.apply.ensures.keeps.moves) (start_ends_none _) c.apply.ensures.keeps.sound
 
 pub returns-clause-went : goal.returns-clause-went
 returns-clause-went g c =
     went_once _ _ _ (rw c.apply.ensures.gear refl) c.apply.ensures.keeps.tells c.apply.ensures.keeps.world_tells (λ number gives. rw c.apply.ensures.gear gives)
-        (λ number gives. rw c.apply.ensures.gear at gives)
+    (λ number gives. rw c.apply.ensures.gear at gives)
     _ (rw c.in_ok-step.ensures at c.apply.ensures.keeps.moves) (start_ends_none _) c.apply.ensures.keeps.sound
 
 pub returns-in-Err-clause-others : goal.returns-in-Err-clause-others

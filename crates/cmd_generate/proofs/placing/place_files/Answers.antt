@@ -25,7 +25,7 @@ loop-file-preserved g c =
       told = λ tells.
           let here = c.in-Ok.ensures.told (was.tells ∙ tells) in
           was.told tells ∙ rw (next_file _ _ _ c.loop-file-test.true c.file-item.is)
-              (goes_on c.file-item.result (drop (c.loop-file.file-index + 1) c.args.files.now) before behind here.0 here.1);
+          (goes_on c.file-item.result (drop (c.loop-file.file-index + 1) c.args.files.now) before behind here.0 here.1);
       some = λ tells u some.
           let here = c.in-Ok.ensures.told (was.tells ∙ tells) in
           let more = some_behind c.file-item.result (drop (c.loop-file.file-index + 1) c.args.files.now) before behind here.0 here.1 u some in

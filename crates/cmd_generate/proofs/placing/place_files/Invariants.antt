@@ -8,7 +8,7 @@ invariant-loop-file g l = record {
   tells : (goal.Vault-dyn g l.vault.now).vault_tells l.vault.now.1 ≡ (goal.Vault-dyn g l.fn.vault.now).vault_tells l.fn.vault.now.1;
   told : IsTrue ((goal.Vault-dyn g l.fn.vault.now).vault_tells l.fn.vault.now.1) →
       placed l.files ((goal.Vault-dyn g l.fn.vault.now).vault_holds l.fn.vault.now.1)
-          ≡ placed (drop l.file-index l.files) ((goal.Vault-dyn g l.vault.now).vault_holds l.vault.now.1);
+      ≡ placed (drop l.file-index l.files) ((goal.Vault-dyn g l.vault.now).vault_holds l.vault.now.1);
   some : IsTrue ((goal.Vault-dyn g l.fn.vault.now).vault_tells l.fn.vault.now.1) →
       (u : VaultState) → PlacesSome (drop l.file-index l.files) ((goal.Vault-dyn g l.vault.now).vault_holds l.vault.now.1) u
       → PlacesSome l.files ((goal.Vault-dyn g l.fn.vault.now).vault_holds l.fn.vault.now.1) u;

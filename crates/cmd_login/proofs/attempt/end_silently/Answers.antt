@@ -8,5 +8,5 @@ pub returns-clause-went : goal.returns-clause-went
 returns-clause-went g c =
     went_so _ _ (end_ends_as c.args.code c.end_call.result c.end_call.ensures) _ _
     (went_once _ _ _ (rw c.apply.ensures.gear refl) c.apply.ensures.keeps.tells c.apply.ensures.keeps.world_tells
-        (λ number gives. rw c.apply.ensures.gear gives) (λ number gives. rw c.apply.ensures.gear at gives)
+    (λ number gives. rw c.apply.ensures.gear gives) (λ number gives. rw c.apply.ensures.gear at gives)
     _ c.apply.ensures.keeps.moves (call_ends _ _ _) c.apply.ensures.keeps.sound)

@@ -11,12 +11,12 @@ use Rattle.cmd_login.proofs.attempt.final_verdict.Goals as goal
 pub returns-in-Err-clause-told : goal.returns-in-Err-clause-told
 returns-in-Err-clause-told g c = λ still delay is told sink.
     comes_stopped _ Answer _ _ _ _ _ _ (made_as _ _ _ (c.end_call.ensures ∙ ap end_call c.end_code.ensures) _ _ _ _ _
-        (c.in-Err.ensures.told still delay is told sink)).goes
+    (c.in-Err.ensures.told still delay is told sink)).goes
 
 pub returns-clause-told : goal.returns-clause-told
 returns-clause-told g c = λ still delay is told sink.
     ends_denied _ c.args.denied c.in-Ok.field-0 _ _ _ _ (made_as _ _ _ (c.end_call.ensures ∙ ap end_call c.end_code.ensures) _ _ _ _ _
-        (c.in-Ok.ensures.told still delay is told sink)).goes
+    (c.in-Ok.ensures.told still delay is told sink)).goes
     c.in-Some.code c.in-Some.is _ _ c.deny.ensures.verdict (c.deny.ensures.told (c.make.ensures.sink_tells ∙ sink))
 
 pub returns-in-Err-clause-went : goal.returns-in-Err-clause-went
@@ -42,4 +42,4 @@ returns-in-None-clause-reports g c = λ sink. said_passed _ _ (c.end_call.ensure
 pub returns-clause-reports : goal.returns-clause-reports
 returns-clause-reports g c = λ sink.
     said_denial _ _ (c.end_call.ensures ∙ ap end_call c.end_code.ensures) c.in-Some.code c.in-Some.is _ _ _ _ _ (c.in-Ok.ensures.reports sink)
-        (c.deny.ensures.reports (c.make.ensures.sink_tells ∙ sink))
+    (c.deny.ensures.reports (c.make.ensures.sink_tells ∙ sink))

@@ -18,14 +18,14 @@ returns-in-Err-clause-went g c = went_so _ _ (no_end (Err c.in-Err.stop)) _ _ c.
 pub returns-in-Ok-clause-told : goal.returns-in-Ok-clause-told
 returns-in-Ok-clause-told g c = λ still delay is told sink.
     let next = c.final_verdict.ensures.told still delay (c.go_through.ensures.went.gives delay is) (still_told _ _ _ c.go_through.ensures.went told)
-            (c.go_through.ensures.sink_tells ∙ sink) in
+    (c.go_through.ensures.sink_tells ∙ sink) in
     logs_on _ _ _ _ _ c.in-Ok.denied _ _ _ _ (c.in-Ok.ensures.told still delay is told sink) (rw c.go_through.ensures.went.players at next)
 
 pub returns-in-Ok-clause-went : goal.returns-in-Ok-clause-went
 returns-in-Ok-clause-went g c =
     went_on _ _ _ _ (went_so _ _ (no_end c.final_verdict.result) _ _ c.go_through.ensures.went)
     (went_so _ _ (own_end c.in-Ok.denied c.final_verdict.result (λ code e. c.in-Ok.ensures.denies code (rw e refl)) c.final_verdict.ensures.verdict) _ _
-        c.final_verdict.ensures.went)
+    c.final_verdict.ensures.went)
 
 pub returns-in-Ok-clause-shows : goal.returns-in-Ok-clause-shows
 returns-in-Ok-clause-shows g c = λ sink. shows_then _ _ c.in-Ok.denied _ _ _ _ (c.in-Ok.ensures.shows sink)

@@ -8,7 +8,7 @@ use Rattle.cmd_login.proofs.attempt.login.Goals as goal
 pub returns-clause-told : goal.returns-clause-told
 returns-clause-told g c = λ still delay is told sink.
     logs_in _ _ _ _ _ _ _ _ _ (c.try_login-result.ensures.told still delay is told sink) c.requires.none_open
-        (rw (c.try_login-result.ensures.went.players, c.closing_code.ensures) at (c.end_silently.ensures.ended delay))
+    (rw (c.try_login-result.ensures.went.players, c.closing_code.ensures) at (c.end_silently.ensures.ended delay))
 
 pub returns-clause-none_open : goal.returns-clause-none_open
 returns-clause-none_open g c =

@@ -42,10 +42,10 @@ returns-then-is_refused-clause-went g c = went_so _ _ (start_no_end _ _ c.in-Ok.
 pub returns-clause-told : goal.returns-clause-told
 returns-clause-told g c = λ still delay is told sink.
     let next = c.log_in.ensures.told still delay (c.make.ensures.went.gives delay is) (still_told _ _ _ c.make.ensures.went told)
-            (c.make.ensures.sink_tells ∙ sink) in
+    (c.make.ensures.sink_tells ∙ sink) in
     comes_on _ _ _ _ c.in-Ok-make.answer _ _ _ (made_as _ _ _ c.in-Ok.ensures _ _ _ _ _ (c.in-Ok-make.ensures.told still delay is told sink)).answers
     (made_as _ _ _ c.in-Ok.ensures _ _ _ _ _ (c.in-Ok-make.ensures.told still delay is told sink)).goes (sym c.is_refused.ensures ∙ c.if-is_refused.false) _ _ _
-        (rw c.make.ensures.went.players at next)
+    (rw c.make.ensures.went.players at next)
 
 pub returns-clause-went : goal.returns-clause-went
 returns-clause-went g c =
@@ -55,7 +55,7 @@ returns-clause-went g c =
 pub returns-clause-shows : goal.returns-clause-shows
 returns-clause-shows g c = λ sink.
     shows_verdict _ _ _ (shows_then _ _ c.in-Ok-make.answer _ _ _ _ (c.in-Ok-make.ensures.shows sink)
-        (c.log_in.ensures.shows (c.make.ensures.sink_tells ∙ sink)) end_said)
+    (c.log_in.ensures.shows (c.make.ensures.sink_tells ∙ sink)) end_said)
 
 pub returns-in-Err-clause-reports : goal.returns-in-Err-clause-reports
 returns-in-Err-clause-reports g c = λ sink. said_unbegun _ _ _ _

@@ -19,12 +19,12 @@ returns-in_default-clause-shows g t c = λ sink. shows_nothing _ _ _ tt
 pub returns-then-not-is_due-clause-told : goal.returns-then-not-is_due-clause-told
 returns-then-not-is_due-clause-told g t c = λ still delay is told sink.
     told_not_due _ _ c.in-Some.call.now _ _ _ c.in-Some.ensures.cases.0 (sym c.is_due.ensures ∙ c.if-not-is_due.true) _ _ _ _
-        (c.go_through.ensures.told still delay is told sink)
+    (c.go_through.ensures.told still delay is told sink)
 
 pub returns-in-Err-clause-told : goal.returns-in-Err-clause-told
 returns-in-Err-clause-told g t c = λ still delay is told sink.
     told_stopped _ _ c.in-Some.call.now _ _ _ c.in-Some.ensures.cases.0 _ c.call.ensures (sym c.is_due.ensures ∙ c.if-not-is_due.false) _ _ _ _
-        (c.in-Err.ensures.told still delay is told sink)
+    (c.in-Err.ensures.told still delay is told sink)
 
 pub returns-in-Err-clause-shows : goal.returns-in-Err-clause-shows
 returns-in-Err-clause-shows g t c = λ sink. shows_stop _ _ _ _ _ (c.in-Err.ensures.shows sink)
@@ -35,9 +35,9 @@ returns-in-Err-clause-went g t c = went_so _ _ (stack_no_end c.in-Some.call.now 
 pub returns-then-accepts-clause-told : goal.returns-then-accepts-clause-told
 returns-then-accepts-clause-told g t c = λ still delay is told sink.
     let next = c.go_through-then-accepts.ensures.told still delay (c.make.ensures.went.gives delay is) (still_told _ _ _ c.make.ensures.went told)
-            (c.make.ensures.sink_tells ∙ sink) in
+    (c.make.ensures.sink_tells ∙ sink) in
     told_on _ _ c.in-Some.call.now _ _ _ c.in-Some.ensures.cases.0 _ c.call.ensures (sym c.is_due.ensures ∙ c.if-not-is_due.false) _ _ _ _ _
-        c.code_in-code.ensures
+    c.code_in-code.ensures
     (c.in-Ok.ensures.told still delay is told sink) (sym c.accepts.ensures ∙ c.if-accepts.true) _ _ _ (rw c.make.ensures.went.players at next)
 
 pub returns-then-accepts-clause-went : goal.returns-then-accepts-clause-went
@@ -48,7 +48,7 @@ returns-then-accepts-clause-went g t c =
 pub returns-clause-told : goal.returns-clause-told
 returns-clause-told g t c = λ still delay is told sink.
     told_denied _ _ c.in-Some.call.now _ _ _ c.in-Some.ensures.cases.0 _ c.call.ensures (sym c.is_due.ensures ∙ c.if-not-is_due.false) _ _ _ _ _
-        c.code_in-code.ensures
+    c.code_in-code.ensures
     (c.in-Ok.ensures.told still delay is told sink) (sym c.accepts.ensures ∙ c.if-accepts.false)
 
 pub returns-clause-went : goal.returns-clause-went
@@ -64,16 +64,16 @@ returns-then-not-is_due-clause-reports g t c = λ sink.
 pub returns-in-Err-clause-reports : goal.returns-in-Err-clause-reports
 returns-in-Err-clause-reports g t c = λ sink.
     said_stopped _ c.in-Some.call.now _ _ c.in-Some.ensures.cases.0 _ c.call.ensures (sym c.is_due.ensures ∙ c.if-not-is_due.false) _ _ _
-        (c.in-Err.ensures.reports sink)
+    (c.in-Err.ensures.reports sink)
 
 pub returns-then-accepts-clause-reports : goal.returns-then-accepts-clause-reports
 returns-then-accepts-clause-reports g t c = λ sink.
     said_on _ c.in-Some.call.now _ _ c.in-Some.ensures.cases.0 _ c.call.ensures (sym c.is_due.ensures ∙ c.if-not-is_due.false) _ _ c.code_in-code.ensures _ _
     (c.in-Ok.ensures.reports sink) (sym c.accepts.ensures ∙ c.if-accepts.true) _ _
-        (c.go_through-then-accepts.ensures.reports (c.make.ensures.sink_tells ∙ sink))
+    (c.go_through-then-accepts.ensures.reports (c.make.ensures.sink_tells ∙ sink))
 
 pub returns-clause-reports : goal.returns-clause-reports
 returns-clause-reports g t c = λ sink.
     said_denied _ c.in-Some.call.now _ _ c.in-Some.ensures.cases.0 _ c.call.ensures (sym c.is_due.ensures ∙ c.if-not-is_due.false) _ _
-        c.code_in-code.ensures _ _
+    c.code_in-code.ensures _ _
     (c.in-Ok.ensures.reports sink) (sym c.accepts.ensures ∙ c.if-accepts.false)

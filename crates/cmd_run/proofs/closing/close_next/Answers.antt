@@ -12,11 +12,11 @@ returns-in-Err-clause-told g c = λ sink. one_unwritten _ _ _ _ _ _ _ c.in-Some.
 pub returns-in-Ok-write_report-clause-told : goal.returns-in-Ok-write_report-clause-told
 returns-in-Ok-write_report-clause-told g c = λ sink.
     one_written _ _ _ c.in-Some.number _ _ _ _ _ _ _ c.in-Some.ensures.some c.in-Ok.ensures (ap names_of c.end_next.ensures.went.players)
-        (ap length c.filed.ensures)
+    (ap length c.filed.ensures)
     c.in-Ok-write_report.field-0 (c.in-Ok-write_report.ensures.told sink)
 
 pub returns-in-Err-write_report-clause-told : goal.returns-in-Err-write_report-clause-told
 returns-in-Err-write_report-clause-told g c = λ sink.
     one_stopped _ _ _ c.in-Some.number _ _ _ _ _ _ _ c.in-Some.ensures.some c.in-Ok.ensures (ap names_of c.end_next.ensures.went.players)
-        (ap length c.filed.ensures)
+    (ap length c.filed.ensures)
     c.in-Err-write_report.stop (c.in-Err-write_report.ensures.told sink)

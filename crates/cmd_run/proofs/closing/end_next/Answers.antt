@@ -16,5 +16,5 @@ returns-clause-filed g c = receipts_by _ c.args.status _ _ _ _ _ (rw c.code_numb
 pub returns-clause-went : goal.returns-clause-went
 returns-clause-went g c =
     went_once _ _ _ (rw c.close_one.ensures.gear refl) c.close_one.ensures.keeps.tells c.close_one.ensures.keeps.world_tells
-        (λ number gives. rw c.close_one.ensures.gear gives) (λ number gives. rw c.close_one.ensures.gear at gives)
+    (λ number gives. rw c.close_one.ensures.gear gives) (λ number gives. rw c.close_one.ensures.gear at gives)
     _ c.close_one.ensures.keeps.moves (closing_ends c.args.status _ _ c.code_number.ensures) c.close_one.ensures.keeps.sound

@@ -60,7 +60,7 @@ loop-ending-preserved g c =
       told = λ still delay is told source sink.
           let before = was.told still delay is told source sink in
           let next = rw was.went.players at (turn still delay (was.went.gives delay is) (still_told _ _ _ was.went told) (was.source_tells ∙ source)
-                  (was.sink_tells ∙ sink)) in
+          (was.sink_tells ∙ sink)) in
           record {
             turns = c.turns_go_on.ensures _ (Ok None) _ _ _ _ _ _ _ _ _ _ _ _ _ _ before.turns next.turns;
             served = served_on _ _ _ _ _ _ _ _ _ _ _ _ _ _ _ _ before.served next.served;
@@ -93,7 +93,7 @@ returns-in-Ok-Some-clause-serves g c =
           let turn = rw c.in-Ok-Some.field-0-is at c.in-Ok-Some.ensures.told in
           let before = was.told still delay is told source sink in
           let next = rw was.went.players at (turn still delay (was.went.gives delay is) (still_told _ _ _ was.went told) (was.source_tells ∙ source)
-                  (was.sink_tells ∙ sink)) in
+          (was.sink_tells ∙ sink)) in
           record {
             runs = c.turns_are_a_run.ensures _ (Ok c.in-Ok-Some.ending) _ _ _ _ _ _ _ _
                 (c.turns_go_on.ensures _ (Ok (Some c.in-Ok-Some.ending)) _ _ _ _ _ _ _ _ _ _ _ _ _ _ before.turns next.turns);
@@ -123,7 +123,7 @@ returns-in-Err-serve_next-clause-serves g c =
       told = λ still delay is told source sink.
           let before = was.told still delay is told source sink in
           let next = rw was.went.players at (c.in-Err-serve_next.ensures.told still delay (was.went.gives delay is) (still_told _ _ _ was.went told)
-                  (was.source_tells ∙ source) (was.sink_tells ∙ sink)) in
+          (was.source_tells ∙ source) (was.sink_tells ∙ sink)) in
           record {
             runs = c.turns_are_a_run.ensures _ (Err c.in-Err-serve_next.stop) _ _ _ _ _ _ _ _
                 (c.turns_go_on.ensures _ (Err c.in-Err-serve_next.stop) _ _ _ _ _ _ _ _ _ _ _ _ _ _ before.turns next.turns);
@@ -151,10 +151,10 @@ pub returns-in-Ok-Some-clause-made : goal.returns-in-Ok-Some-clause-made
 returns-in-Ok-Some-clause-made g c = λ sink.
     let was = c.loop-ending.invariant in
     made_on _ _ _ _ _ _ _ _ _ _ (was.made sink) (made_ok_as _ _ c.in-Ok-Some.field-0 _ _ _ _ _
-        (rw was.went.players at (c.in-Ok-Some.ensures.made (was.sink_tells ∙ sink))))
+    (rw was.went.players at (c.in-Ok-Some.ensures.made (was.sink_tells ∙ sink))))
 
 pub returns-in-Err-serve_next-clause-made : goal.returns-in-Err-serve_next-clause-made
 returns-in-Err-serve_next-clause-made g c = λ sink.
     let was = c.loop-ending.invariant in
     made_on _ _ _ _ _ _ _ _ _ _ (was.made sink) (made_err_as _ _ c.in-Err-serve_next.stop _ _ _ _
-        (rw was.went.players at (c.in-Err-serve_next.ensures.made (was.sink_tells ∙ sink))))
+    (rw was.went.players at (c.in-Err-serve_next.ensures.made (was.sink_tells ∙ sink))))

@@ -21,11 +21,11 @@ invariant-loop-ending g l =
       told : is_none l.fn.time ≡ true → (delay : Code → ℕ → ℕ) → start.gives delay → AllTell start
           → g.S.Source.source_tells l.fn.source ≡ true → g.K.Sink.sink_tells l.fn.sink ≡ true →
           TellsTurn g.P.Protocol.looked g.P.Protocol.asked g.P.Protocol.step g.P.Protocol.fails (setting_in start delay) (Ok None) 0 l.taken (state start)
-              (state now) [] l.reader (g.S.Source.source_holds l.fn.source) (g.S.Source.source_holds l.source) (g.K.Sink.sink_holds l.fn.sink)
-              (g.K.Sink.sink_holds l.sink);
+          (state now) [] l.reader (g.S.Source.source_holds l.fn.source) (g.S.Source.source_holds l.source) (g.K.Sink.sink_holds l.fn.sink)
+          (g.K.Sink.sink_holds l.sink);
       reads : g.S.Source.source_tells l.fn.source ≡ true
           → ReadsTurn g.P.Protocol.looked g.P.Protocol.read_step (Ok None) 0 l.taken [] l.reader (g.S.Source.source_holds l.fn.source)
-              (g.S.Source.source_holds l.source);
+          (g.S.Source.source_holds l.source);
       writes : g.K.Sink.sink_tells l.fn.sink ≡ true → WritesSome {T = ℕ} (Ok 0) (g.K.Sink.sink_holds l.fn.sink) (g.K.Sink.sink_holds l.sink);
       made : g.K.Sink.sink_tells l.fn.sink ≡ true → ReportsCalls g.P.Protocol.wrapped (names_of start.players) {T = ℕ} (Ok 0) start.slots now.slots
           (g.K.Sink.sink_holds l.fn.sink) (g.K.Sink.sink_holds l.sink);
@@ -34,7 +34,7 @@ invariant-loop-ending g l =
       sink_faults : g.K.Sink.sink_faults l.sink ≡ g.K.Sink.sink_faults l.fn.sink;
       leads : g.S.Source.source_tells l.fn.source ≡ true
           → LeadsOn g.P.Protocol.looked g.P.Protocol.asked 0 (g.S.Source.source_holds l.fn.source).left l.taken
-              (l.reader ++ (g.S.Source.source_holds l.source).left);
+          (l.reader ++ (g.S.Source.source_holds l.source).left);
     }
 
 abbrev pub decreases-loop-ending : goal.decreases-loop-ending

@@ -94,8 +94,11 @@ returns-in-Ok-None-serve-clause-told g c = λ still delay is told source sink.
     let accepted = rw c.bytes-in-Ok-Rest.ensures at (c.serve-in-Ok-Rest.ensures.accepted (c.in-Ok-None-serve.is ∙ ap Ok c.in-Ok-None-serve.field-0-is)) in
     record {
       turns = c.found_item_is_a_turn.ensures.rest _ _ _ _ _ _ _ _ _ _ (Ok None) found (finds source) (served still delay is told sink);
-      served = ([], one_served _ _ _ _ _ _ _ _ _ _ _ _ [] (rest_is _ _ _ _ _ _ _ c.does.ensures c.keeps.ensures.reads _ _ _ _ _ (finds source) accepted.0
-          accepted.1) (served still delay is told sink) moves);
+      served = (
+        [],
+        one_served _ _ _ _ _ _ _ _ _ _ _ _ [] (rest_is _ _ _ _ _ _ _ c.does.ensures c.keeps.ensures.reads _ _ _ _ _ (finds source) accepted.0
+            accepted.1) (served still delay is told sink) moves,
+      );
     }
 
 pub returns-in-Err-clause-went : goal.returns-in-Err-clause-went
@@ -130,21 +133,21 @@ returns-in-Err-serve-2-clause-went g c =
     let finds = rw c.in-Ok-Rest.field-0-is at c.in-Ok-Rest.ensures.told in
     let served = rw c.bytes-in-Ok-Rest.ensures at c.serve-in-Ok-Rest.ensures.went in
     went_so _ _ (λ number status asks source. rest_asks _ _ _ _ _ _ _ c.does.ensures c.keeps.ensures.reads _ _ _ _ _ (finds source) c.find_item.ensures.bytes
-        number status asks) _ _ served
+    number status asks) _ _ served
 
 pub returns-in-Ok-Some-serve-clause-went : goal.returns-in-Ok-Some-serve-clause-went
 returns-in-Ok-Some-serve-clause-went g c =
     let finds = rw c.in-Ok-Rest.field-0-is at c.in-Ok-Rest.ensures.told in
     let served = rw c.bytes-in-Ok-Rest.ensures at c.serve-in-Ok-Rest.ensures.went in
     went_so _ _ (λ number status asks source. rest_asks _ _ _ _ _ _ _ c.does.ensures c.keeps.ensures.reads _ _ _ _ _ (finds source) c.find_item.ensures.bytes
-        number status asks) _ _ served
+    number status asks) _ _ served
 
 pub returns-in-Ok-None-serve-clause-went : goal.returns-in-Ok-None-serve-clause-went
 returns-in-Ok-None-serve-clause-went g c =
     let finds = rw c.in-Ok-Rest.field-0-is at c.in-Ok-Rest.ensures.told in
     let served = rw c.bytes-in-Ok-Rest.ensures at c.serve-in-Ok-Rest.ensures.went in
     went_so _ _ (λ number status asks source. rest_asks _ _ _ _ _ _ _ c.does.ensures c.keeps.ensures.reads _ _ _ _ _ (finds source) c.find_item.ensures.bytes
-        number status asks) _ _ served
+    number status asks) _ _ served
 
 pub returns-in-Ok-None-clause-leads : goal.returns-in-Ok-None-clause-leads
 returns-in-Ok-None-clause-leads g c = λ none source.

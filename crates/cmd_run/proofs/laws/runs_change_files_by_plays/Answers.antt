@@ -5,6 +5,6 @@ pub returns : goal.returns
 returns c = record {
   script = λ setting n s script.
       script_leads setting c.steps_change_files_by_plays.ensures.asks c.steps_change_files_by_plays.ensures.moments c.steps_change_files_by_plays.ensures.step
-          c.steps_change_files_by_plays.ensures.together script n s;
+      c.steps_change_files_by_plays.ensures.together script n s;
   closings = λ players status s. all_closed_leave players status s;
 }

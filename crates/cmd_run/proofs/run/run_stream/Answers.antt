@@ -11,7 +11,7 @@ returns-in-Err-clause-ran g c = record {
   told = λ still delay is told source sink.
       c.ends.ensures.told _ (Err c.in-Err.stop) _ _ _ _ _ _
       (stops_early _ _ _ _ _ _ _ _ _ _ _ c.in-Err.stop _ _ _ _ (c.in-Err.ensures.serves.told still delay is told source sink)
-          (c.in-Err.ensures.serves.reads source).takes
+      (c.in-Err.ensures.serves.reads source).takes
       (rw (c.serve_items.ensures.serves.went.players, c.stop_status.ensures) at c.close_silently.ensures.closed)
       (rw (c.serve_items.ensures.serves.went.players, c.stop_status.ensures) at c.close_silently.ensures.went.proceeds));
   complete = λ source. c.ends.ensures.complete.stopped c.in-Err.stop _ _ _ _ _ c.in-Err.ensures.serves.sink_faults;
@@ -21,7 +21,7 @@ returns-in-Err-clause-ran g c = record {
   filed = c.all_are_filed.ensures 17 _ _ c.close_silently.ensures.went.sound.held.once (λ h lt. no_data _ c.close_silently.ensures.none_open h);
   went = went_on _ _ _ _ (went_so _ _ (c.ends.ensures.ends.by_item _ _) _ _ c.serve_items.ensures.serves.went)
       (went_so _ _ (λ number status is. c.ends.ensures.ends.by_stop _ _ c.in-Err.stop number status (is ∙ ap number_of c.stop_status.ensures)) _ _
-          c.close_silently.ensures.went);
+      c.close_silently.ensures.went);
   source_faults = tt;
   sink_faults = c.in-Err.ensures.serves.sink_faults;
   source_tells = c.serve_items.ensures.serves.source_tells;
@@ -33,7 +33,7 @@ returns-in-Ok-finish-clause-ran g c = record {
   told = λ still delay is told source sink.
       c.ends.ensures.told _ (Ok c.in-Ok.ending) _ _ _ _ _ _
       (runs_out _ _ _ _ _ _ _ _ _ _ _ c.in-Ok.ending _ _ _ _ _ (c.in-Ok.ensures.serves.told still delay is told source sink)
-          (c.in-Ok.ensures.serves.reads source).takes
+      (c.in-Ok.ensures.serves.reads source).takes
       (omega (arith, c.serve_items.ensures.serves.went.sound.placed.sixteen)) c.in-Ok-finish.field-0
       (rw c.serve_items.ensures.serves.went.players at (c.in-Ok-finish.ensures.told (c.serve_items.ensures.serves.sink_tells ∙ sink))));
   complete = λ source. c.ends.ensures.complete.ended c.in-Ok.ending _ _ _ _ _ _ _ (c.in-Ok.ensures.serves.reads source) c.in-Ok.ensures.serves.source_faults;
@@ -55,13 +55,13 @@ returns-in-Err-finish-clause-ran g c = record {
   told = λ still delay is told source sink.
       c.ends.ensures.told _ (Err c.in-Err-finish.stop) _ _ _ _ _ _
       (stops_late _ _ _ _ _ _ _ _ _ _ _ c.in-Err-finish.stop c.in-Ok.ending _ _ _ _ _ _ (c.in-Ok.ensures.serves.told still delay is told source sink)
-          (c.in-Ok.ensures.serves.reads source).takes
+      (c.in-Ok.ensures.serves.reads source).takes
       (rw c.serve_items.ensures.serves.went.players at (c.in-Err-finish.ensures.told (c.serve_items.ensures.serves.sink_tells ∙ sink)))
       (rw c.serve_items.ensures.serves.went.players at c.finish.ensures.went.proceeds)
       (rw (c.finish.ensures.went.players, c.serve_items.ensures.serves.went.players, c.stop_status-in-Err-finish.ensures) at
-          c.close_silently-in-Err-finish.ensures.closed)
+      c.close_silently-in-Err-finish.ensures.closed)
       (rw (c.finish.ensures.went.players, c.serve_items.ensures.serves.went.players, c.stop_status-in-Err-finish.ensures) at
-          c.close_silently-in-Err-finish.ensures.went.proceeds));
+      c.close_silently-in-Err-finish.ensures.went.proceeds));
   complete = λ source. c.ends.ensures.complete.stopped c.in-Err-finish.stop _ _ _ _ _ (rw c.in-Ok.ensures.serves.sink_faults at c.in-Err-finish.ensures.faults);
   reads = λ source. c.ends.ensures.read.left c.in-Ok.ending c.in-Err-finish.stop _ _ _ (c.in-Ok.ensures.serves.reads source);
   writes = λ sink. run_written _ _ _ c.in-Ok.ending _ (Err c.in-Err-finish.stop) _ _ _ _ _ (c.in-Ok.ensures.serves.writes sink)
@@ -71,9 +71,9 @@ returns-in-Err-finish-clause-ran g c = record {
       (λ h lt. no_data _ c.close_silently-in-Err-finish.ensures.none_open h);
   went = went_on _ _ _ _
       (went_on _ _ _ _ (went_so _ _ (c.ends.ensures.ends.by_item _ _) _ _ c.serve_items.ensures.serves.went)
-          (went_so _ _ (c.ends.ensures.ends.by_ending _ _ c.in-Ok.ending) _ _ c.finish.ensures.went))
+      (went_so _ _ (c.ends.ensures.ends.by_ending _ _ c.in-Ok.ending) _ _ c.finish.ensures.went))
       (went_so _ _ (λ number status is. c.ends.ensures.ends.by_stop _ _ c.in-Err-finish.stop number status
-          (is ∙ ap number_of c.stop_status-in-Err-finish.ensures)) _ _ c.close_silently-in-Err-finish.ensures.went);
+      (is ∙ ap number_of c.stop_status-in-Err-finish.ensures)) _ _ c.close_silently-in-Err-finish.ensures.went);
   source_faults = tt;
   sink_faults = rw c.in-Ok.ensures.serves.sink_faults at c.in-Err-finish.ensures.faults;
   source_tells = c.serve_items.ensures.serves.source_tells;
@@ -81,8 +81,13 @@ returns-in-Err-finish-clause-ran g c = record {
 }
 
 pub returns-in-Err-clause-reports : goal.returns-in-Err-clause-reports
-returns-in-Err-clause-reports g c = λ sink. record { served = Err c.in-Err.stop; middle = _; between = _; calls = c.in-Err.ensures.made sink;
-    goes_on = (refl, refl) }
+returns-in-Err-clause-reports g c = λ sink. record {
+  served = Err c.in-Err.stop;
+  middle = _;
+  between = _;
+  calls = c.in-Err.ensures.made sink;
+  goes_on = (refl, refl);
+}
 
 pub returns-in-Ok-finish-clause-reports : goal.returns-in-Ok-finish-clause-reports
 returns-in-Ok-finish-clause-reports g c = λ sink. record {
@@ -90,8 +95,15 @@ returns-in-Ok-finish-clause-reports g c = λ sink. record {
   middle = _;
   between = _;
   calls = c.in-Ok.ensures.made sink;
-  goes_on = record { items = _; ended = Ok c.in-Ok-finish.field-0; last = _; end = _; slots_are = refl; result_is = refl;
-      ends = rw c.serve_items.ensures.serves.went.players at (c.in-Ok-finish.ensures.told (c.serve_items.ensures.serves.sink_tells ∙ sink)) };
+  goes_on = record {
+    items = _;
+    ended = Ok c.in-Ok-finish.field-0;
+    last = _;
+    end = _;
+    slots_are = refl;
+    result_is = refl;
+    ends = rw c.serve_items.ensures.serves.went.players at (c.in-Ok-finish.ensures.told (c.serve_items.ensures.serves.sink_tells ∙ sink));
+  };
 }
 
 pub returns-in-Err-finish-clause-reports : goal.returns-in-Err-finish-clause-reports
@@ -100,6 +112,13 @@ returns-in-Err-finish-clause-reports g c = λ sink. record {
   middle = _;
   between = _;
   calls = c.in-Ok.ensures.made sink;
-  goes_on = record { items = _; ended = Err c.in-Err-finish.stop; last = _; end = _; slots_are = refl; result_is = refl;
-      ends = rw c.serve_items.ensures.serves.went.players at (c.in-Err-finish.ensures.told (c.serve_items.ensures.serves.sink_tells ∙ sink)) };
+  goes_on = record {
+    items = _;
+    ended = Err c.in-Err-finish.stop;
+    last = _;
+    end = _;
+    slots_are = refl;
+    result_is = refl;
+    ends = rw c.serve_items.ensures.serves.went.players at (c.in-Err-finish.ensures.told (c.serve_items.ensures.serves.sink_tells ∙ sink));
+  };
 }

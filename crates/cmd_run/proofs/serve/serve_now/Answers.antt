@@ -161,32 +161,32 @@ returns-in-Ok-write_step-clause-told g c = λ delay is told sink.
     let e = rw c.in-Ok-Step.field-0-is at c.in-Ok-Step.ensures.asks in
     c.item_is_served.ensures.written _ (Ok c.in-Ok-write_step.field-0) _ _ _ _ _ _ _
     (called_item _ _ _ _ _ c.does.ensures _ _ _ _ _ e _ _ _ _ (c.in-Ok.ensures.told delay is told) (rw c.apply.ensures.gear refl))
-        (c.in-Ok-write_step.ensures.told sink)
+    (c.in-Ok-write_step.ensures.told sink)
 
 pub returns-clause-told : goal.returns-clause-told
 returns-clause-told g c = λ delay is told sink.
     let e = rw c.in-Ok-Step.field-0-is at c.in-Ok-Step.ensures.asks in
     report_stopped _ _ (c.item_is_served.ensures.written _) (c.item_is_served.ensures.begun _) c.in-Err-write_step.stop _ _ _ _ _ _ _
     (called_item _ _ _ _ _ c.does.ensures _ _ _ _ _ e _ _ _ _ (c.in-Ok.ensures.told delay is told) (rw c.apply.ensures.gear refl))
-        (c.in-Err-write_step.ensures.told sink)
+    (c.in-Err-write_step.ensures.told sink)
 
 pub returns-in-Err-clause-went : goal.returns-in-Err-clause-went
 returns-in-Err-clause-went g c =
     let e = rw c.in-Ok-Step.field-0-is at c.in-Ok-Step.ensures.asks in
     went_as_asked _ _ e _ _ (rw c.apply.ensures.gear refl) (λ number gives. rw c.apply.ensures.gear gives) (λ number gives. rw c.apply.ensures.gear at gives)
-        c.apply.ensures.keeps
+    c.apply.ensures.keeps
 
 pub returns-in-Ok-write_step-clause-went : goal.returns-in-Ok-write_step-clause-went
 returns-in-Ok-write_step-clause-went g c =
     let e = rw c.in-Ok-Step.field-0-is at c.in-Ok-Step.ensures.asks in
     went_as_asked _ _ e _ _ (rw c.apply.ensures.gear refl) (λ number gives. rw c.apply.ensures.gear gives) (λ number gives. rw c.apply.ensures.gear at gives)
-        c.apply.ensures.keeps
+    c.apply.ensures.keeps
 
 pub returns-clause-went : goal.returns-clause-went
 returns-clause-went g c =
     let e = rw c.in-Ok-Step.field-0-is at c.in-Ok-Step.ensures.asks in
     went_as_asked _ _ e _ _ (rw c.apply.ensures.gear refl) (λ number gives. rw c.apply.ensures.gear gives) (λ number gives. rw c.apply.ensures.gear at gives)
-        c.apply.ensures.keeps
+    c.apply.ensures.keeps
 
 pub returns-in-Ok-write_step-clause-moves : goal.returns-in-Ok-write_step-clause-moves
 returns-in-Ok-write_step-clause-moves g c = λ none.
@@ -240,9 +240,9 @@ returns-in-Err-clause-made g c = λ sink. made_broken _ _ _ _ _ _
 pub returns-in-Ok-write_step-clause-made : goal.returns-in-Ok-write_step-clause-made
 returns-in-Ok-write_step-clause-made g c = λ sink.
     made_one _ _ _ _ _ _ _ c.in-Ok.ensures.answers.answer c.in-Ok.ensures.answers.traces c.apply.ensures.leaves.others _ _ _ c.in-Ok-write_step.field-0
-        (rw c.apply.ensures.gear at (c.in-Ok-write_step.ensures.told sink))
+    (rw c.apply.ensures.gear at (c.in-Ok-write_step.ensures.told sink))
 
 pub returns-clause-made : goal.returns-clause-made
 returns-clause-made g c = λ sink.
     made_cut _ _ _ _ _ _ _ c.in-Ok.ensures.answers.answer c.in-Ok.ensures.answers.traces c.apply.ensures.leaves.others _ _ c.in-Err-write_step.stop
-        (rw c.apply.ensures.gear at (c.in-Err-write_step.ensures.told sink))
+    (rw c.apply.ensures.gear at (c.in-Err-write_step.ensures.told sink))

@@ -16,4 +16,4 @@ returns-clause-told g c = λ tells.
 pub returns-clause-shows : goal.returns-clause-shows
 returns-clause-shows g c =
     shows_with c.explained_with.result c.sources_of-found.result (stacks_in c.args.trees.now) c.args.report.now _ _ c.sources_of-found.ensures.faults
-        c.explained_with.ensures
+    c.explained_with.ensures

@@ -16,7 +16,7 @@ returns-in-Err-clause-told g c = λ tells.
     let first = (goal.Vault-dyn g c.args.vault.now).vault_holds c.args.vault.now.1 in
     let mid = (goal.Vault-dyn g (c.args.vault.now.0, c.load.new.vault)).vault_holds c.load.new.vault in
     refused_so c.refused_by.result c.in-Err.stop first mid c.args.root.now c.args.service.now c.args.report.now (c.in-Err.ensures.told tells)
-        c.refused_by.ensures
+    c.refused_by.ensures
 
 pub returns-in-Ok-clause-shows : goal.returns-in-Ok-clause-shows
 returns-in-Ok-clause-shows g c =

@@ -8,7 +8,7 @@ returns-in-Ok-clause-told g c = λ tells reads writes.
     let old = (goal.Vault-dyn g c.args.vault.now).vault_holds c.args.vault.now.1 in
     let new = (goal.Vault-dyn g (c.args.vault.now.0, c.output_for.new.vault)).vault_holds c.output_for.new.vault in
     ends_so c.write_output.result c.in-Ok.output (asked_of c.args.words.now) old _ new _ _ _ _ (c.in-Ok.ensures.told tells reads)
-        (c.write_output.ensures.told writes)
+    (c.write_output.ensures.told writes)
 
 pub returns-in-Ok-clause-usage : goal.returns-in-Ok-clause-usage
 returns-in-Ok-clause-usage g c = by_usage _ _ _ _ c.write_output.result c.in-Ok.output.status _ _ _ c.write_output.ensures.leaves c.in-Ok.ensures.causes

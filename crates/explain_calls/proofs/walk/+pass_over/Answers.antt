@@ -29,8 +29,14 @@ loop-node-preserved t c =
       | in-Sub+in_ok-last-in-Sub w ↦
           let here = peeled_sub _ _ _ _ c.loop-node-test.true c.node-item.is w.in-Sub.is in
           record {
-            counted = omega (arith, ap lines_in here, ap (λ (ns : List Node). lines_in (stack_of ns)) w.items.ensures, c.loop-node.invariant.counted, w.last-is,
-                w.in_ok-last-in-Sub.ensures.at);
+            counted = omega (
+              arith,
+              ap lines_in here,
+              ap (λ (ns : List Node). lines_in (stack_of ns)) w.items.ensures,
+              c.loop-node.invariant.counted,
+              w.last-is,
+              w.in_ok-last-in-Sub.ensures.at,
+            );
             shallow = omega (arith, ap depth here, c.loop-node.invariant.shallow);
             shown = rw (w.shown-is, w.last-is, w.in_ok-last-in-Sub.ensures.at, w.items.ensures)
                 (over_sub c.args.why c.args.at c.loop-node.last (stack_of c.args.nodes.now) _ _ _ c.args.shown.now _ _ c.loop-node.invariant.shown here

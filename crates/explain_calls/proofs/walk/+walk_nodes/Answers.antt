@@ -32,18 +32,23 @@ walk_nodes-requires t c =
     let here = peeled_sub _ _ _ _ c.loop-node-test.true c.node-item.is c.in-Sub.is in
     let falls : depth (stack_of c.in-Sub.inner.vec.items) < t = omega (arith, ap depth here, c.loop-node.invariant.walking.shallow, c.decreases) in
     let few : c.loop-node.replay.at + lines_in (stack_of c.in-Sub.inner.vec.items) ≤ 4096 =
-            omega (arith, ap lines_in here, c.loop-node.invariant.walking.placed, c.requires.few) in
+    omega (arith, ap lines_in here, c.loop-node.invariant.walking.placed, c.requires.few) in
     (falls, few)
 
 pub pass_over_last-requires : goal.pass_over_last-requires
 pass_over_last-requires t c =
     let here = peeled_line _ _ _ _ c.loop-node-test.true c.node-item.is c.in-Line.is in
     let counted : c.loop-node.left - 1 ≡ count (stack_of (drop (c.loop-node.node-index + 1) c.items-all.result.now)) =
-            omega (arith, ap count here, c.loop-node.invariant.walking.counted) in
+    omega (arith, ap count here, c.loop-node.invariant.walking.counted) in
     record {
       left = few_left _ _ _ c.loop-node-test.true counted;
-      few = rw (last_are _ _ _ c.loop-node-test.true counted) (omega (arith, ap lines_in here, c.loop-node.invariant.walking.placed, c.requires.few,
-          c.in_ok-turn-in-Line.ensures.at));
+      few = rw (last_are _ _ _ c.loop-node-test.true counted) (omega (
+        arith,
+        ap lines_in here,
+        c.loop-node.invariant.walking.placed,
+        c.requires.few,
+        c.in_ok-turn-in-Line.ensures.at,
+      ));
     }
 
 pub returns-in_default-clause-shows : goal.returns-in_default-clause-shows
@@ -58,27 +63,33 @@ returns-in_default-clause-shows t c =
     let last = last_are _ _ _ c.loop-node-test.true (sym counted) in
     let goes = λ (left : count rest ≡ c.loop-node.left - 1).
     subst (λ (o : Option Turn). c.loop-node.shown ++ rows c.args.run.kind serve 0 c.loop-node.why (line c.in-Line.rule rest) (c.loop-node.replay.at + 1)
-        c.args.entry c.loop-node.opinion old
+    c.args.entry c.loop-node.opinion old
     ≡ c.walk_line.new.shown ++ rows_behind c.args.run.kind serve rest (c.loop-node.replay.at + 1 + 1) c.args.entry o new)
     c.in_default.is (c.in_ok-turn-in-Line.ensures.shows rest left) in
     showing_waits _ _ _ _ _ _ _ _ _ rest _ _ _ _ _ _ _ _ _ _ _ _ c.loop-node.invariant.showing here none_over counted c.in_ok-turn-in-Line.ensures.at
-        (ap stack_of last) goes c.in_ok-replay-in-Line.ensures.shows
+    (ap stack_of last) goes c.in_ok-replay-in-Line.ensures.shows
 
 pub returns-in_default-clause-at : goal.returns-in_default-clause-at
 returns-in_default-clause-at t c =
     let here = peeled_line _ _ _ _ c.loop-node-test.true c.node-item.is c.in-Line.is in
     let counted : c.loop-node.left - 1 ≡ count (stack_of (drop (c.loop-node.node-index + 1) c.items-all.result.now)) =
-            omega (arith, ap count here, c.loop-node.invariant.walking.counted) in
+    omega (arith, ap count here, c.loop-node.invariant.walking.counted) in
     let last = last_are _ _ _ c.loop-node-test.true counted in
-    omega (arith, ap lines_in here, ap (λ (ns : List Node). lines_in (stack_of ns)) last, c.loop-node.invariant.walking.placed, c.in_ok-turn-in-Line.ensures.at,
-        c.in_ok-replay-in-Line.ensures.at)
+    omega (
+      arith,
+      ap lines_in here,
+      ap (λ (ns : List Node). lines_in (stack_of ns)) last,
+      c.loop-node.invariant.walking.placed,
+      c.in_ok-turn-in-Line.ensures.at,
+      c.in_ok-replay-in-Line.ensures.at,
+    )
 
 pub returns-in_default-2-clause-comes : goal.returns-in_default-2-clause-comes
 returns-in_default-2-clause-comes t c =
     let none_over : c.loop-node.skip ≡ 0 = omega arith in
     let here = peeled_sub _ _ _ _ c.loop-node-test.true c.node-item.is c.in-Sub.is in
     let inside = walk c.args.run.kind (serving c.args.run.kind (answers_held (kept_answers c.args.run.follows.now)) replaying) 0
-            (stack_of c.in-Sub.inner.vec.items) (c.loop-node.replay.at + 1) c.loop-node.opinion c.loop-node.opinion
+    (stack_of c.in-Sub.inner.vec.items) (c.loop-node.replay.at + 1) c.loop-node.opinion c.loop-node.opinion
     (state_in c.args.run.past.now c.args.run.told.now c.loop-node.replay) in
     let comes = subst (λ (end : Option Opinion). WalkEnds inside end (state_in c.args.run.past.now c.args.run.told.now c.walk_nodes.new.replay))
     c.in_default-2.is c.in_ok-inside-in-Sub.ensures.comes in
@@ -88,11 +99,16 @@ pub pass_over_last-requires-in_default-2 : goal.pass_over_last-requires-in_defau
 pass_over_last-requires-in_default-2 t c =
     let here = peeled_sub _ _ _ _ c.loop-node-test.true c.node-item.is c.in-Sub.is in
     let counted : c.loop-node.left - 1 ≡ count (stack_of (drop (c.loop-node.node-index + 1) c.items-all.result.now)) =
-            omega (arith, ap count here, c.loop-node.invariant.walking.counted) in
+    omega (arith, ap count here, c.loop-node.invariant.walking.counted) in
     record {
       left = few_left _ _ _ c.loop-node-test.true counted;
-      few = rw (last_are _ _ _ c.loop-node-test.true counted) (omega (arith, ap lines_in here, c.loop-node.invariant.walking.placed, c.requires.few,
-          c.in_ok-inside-in-Sub.ensures.at));
+      few = rw (last_are _ _ _ c.loop-node-test.true counted) (omega (
+        arith,
+        ap lines_in here,
+        c.loop-node.invariant.walking.placed,
+        c.requires.few,
+        c.in_ok-inside-in-Sub.ensures.at,
+      ));
     }
 
 pub returns-in_default-2-clause-shows : goal.returns-in_default-2-clause-shows
@@ -103,21 +119,27 @@ returns-in_default-2-clause-shows t c =
     let counted : c.loop-node.left - 1 ≡ count rest = omega (arith, ap count here, c.loop-node.invariant.walking.counted) in
     let last = last_are _ _ _ c.loop-node-test.true counted in
     let inside = walk c.args.run.kind (serving c.args.run.kind (answers_held (kept_answers c.args.run.follows.now)) replaying) 0
-            (stack_of c.in-Sub.inner.vec.items) (c.loop-node.replay.at + 1) c.loop-node.opinion c.loop-node.opinion
+    (stack_of c.in-Sub.inner.vec.items) (c.loop-node.replay.at + 1) c.loop-node.opinion c.loop-node.opinion
     (state_in c.args.run.past.now c.args.run.told.now c.loop-node.replay) in
     let comes = subst (λ (end : Option Opinion). WalkEnds inside end (state_in c.args.run.past.now c.args.run.told.now c.walk_nodes.new.replay))
     c.in_default-2.is c.in_ok-inside-in-Sub.ensures.comes in
     sub_waits _ _ _ _ _ _ _ _ _ _ rest _ _ _ _ _ _ _ _ _ _ _ c.loop-node.invariant.showing here none_over c.in_ok-inside-in-Sub.ensures.at (ap stack_of last)
-        comes c.in_ok-inside-in-Sub.ensures.shows c.in_ok-replay-in-Sub.ensures.shows
+    comes c.in_ok-inside-in-Sub.ensures.shows c.in_ok-replay-in-Sub.ensures.shows
 
 pub returns-in_default-2-clause-at : goal.returns-in_default-2-clause-at
 returns-in_default-2-clause-at t c =
     let here = peeled_sub _ _ _ _ c.loop-node-test.true c.node-item.is c.in-Sub.is in
     let counted : c.loop-node.left - 1 ≡ count (stack_of (drop (c.loop-node.node-index + 1) c.items-all.result.now)) =
-            omega (arith, ap count here, c.loop-node.invariant.walking.counted) in
+    omega (arith, ap count here, c.loop-node.invariant.walking.counted) in
     let last = last_are _ _ _ c.loop-node-test.true counted in
-    omega (arith, ap lines_in here, ap (λ (ns : List Node). lines_in (stack_of ns)) last, c.loop-node.invariant.walking.placed,
-        c.in_ok-inside-in-Sub.ensures.at, c.in_ok-replay-in-Sub.ensures.at)
+    omega (
+      arith,
+      ap lines_in here,
+      ap (λ (ns : List Node). lines_in (stack_of ns)) last,
+      c.loop-node.invariant.walking.placed,
+      c.in_ok-inside-in-Sub.ensures.at,
+      c.in_ok-replay-in-Sub.ensures.at,
+    )
 
 pub loop-node-preserved : goal.loop-node-preserved
 loop-node-preserved t c =
@@ -144,7 +166,7 @@ loop-node-preserved t c =
           w.in-Some.is (w.in_ok-turn-in-Line.ensures.goes rest left) in
           let shows = λ (left : count rest ≡ c.loop-node.left - 1).
           subst (λ (o : Option Turn). c.loop-node.shown ++ rows c.args.run.kind serve 0 c.loop-node.why (line w.in-Line.rule rest) (c.loop-node.replay.at + 1)
-              c.args.entry c.loop-node.opinion old
+          c.args.entry c.loop-node.opinion old
           ≡ w.walk_line.new.shown ++ rows_behind c.args.run.kind serve rest (c.loop-node.replay.at + 1 + 1) c.args.entry o new)
           w.in-Some.is (w.in_ok-turn-in-Line.ensures.shows rest left) in
           let further = w.in_ok-turn-in-Line.ensures.at in
@@ -158,7 +180,7 @@ loop-node-preserved t c =
           let here = peeled_sub _ _ _ _ c.loop-node-test.true c.node-item.is w.in-Sub.is in
           let none_over : c.loop-node.skip ≡ 0 = omega arith in
           let inside = walk c.args.run.kind (serving c.args.run.kind (answers_held (kept_answers c.args.run.follows.now)) replaying) 0
-                  (stack_of w.in-Sub.inner.vec.items) (c.loop-node.replay.at + 1) c.loop-node.opinion c.loop-node.opinion
+          (stack_of w.in-Sub.inner.vec.items) (c.loop-node.replay.at + 1) c.loop-node.opinion c.loop-node.opinion
           (state_in c.args.run.past.now c.args.run.told.now c.loop-node.replay) in
           let comes = subst (λ (end : Option Opinion). WalkEnds inside end (state_in c.args.run.past.now c.args.run.told.now w.walk_nodes.new.replay))
           w.in-Some-2.is w.in_ok-inside-in-Sub.ensures.comes in

@@ -6,8 +6,14 @@ use Rattle.explain_calls.proofs.Showing.{over_node_sub}
 use Rattle.explain_calls.proofs.walk.pass_over_node.Goals as goal
 
 pub pass_over-requires : goal.pass_over-requires
-pass_over-requires c = record { few = omega (arith, lines_sub _ _ c.in-Sub.is, ap (λ (ns : List Node). lines_in (stack_of ns)) c.items.ensures,
-    c.requires.few) }
+pass_over-requires c = record {
+  few = omega (
+    arith,
+    lines_sub _ _ c.in-Sub.is,
+    ap (λ (ns : List Node). lines_in (stack_of ns)) c.items.ensures,
+    c.requires.few,
+  );
+}
 
 pub returns-in-Sub-clause-shows : goal.returns-in-Sub-clause-shows
 returns-in-Sub-clause-shows c = rw (over_node_sub c.args.why (c.args.at + 1) c.args.node.now c.in-Sub.inner c.in-Sub.is)

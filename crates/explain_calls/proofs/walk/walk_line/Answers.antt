@@ -37,7 +37,7 @@ returns-clause-goes c = λ rest counted.
     let new : PassState Telling = state_in c.args.run.past.now c.args.run.told.now c.next_answer.new.replay in
     let deciding = c.decide-deciding.ensures ∙ ap (λ n. decides c.args.run.kind kept (n + 1) c.in-Some.answer) c.next_answer.ensures.at in
     let served : ServedAs (serve c.args.rule.now at old) c.in-Some.answer (decides c.args.run.kind kept at c.in-Some.answer)
-            (is_none (Some c.in-Some.answer)) new =
+    (is_none (Some c.in-Some.answer)) new =
     subst (λ (a : Option Code). ServedAs (serve c.args.rule.now at old) (answer_in a) (decides c.args.run.kind kept at (answer_in a)) (is_none a) new)
     c.in-Some.is (c.in_ok-answer.ensures.served c.args.run.kind kept) in
     line_goes c.args.run.kind serve c.args.rule.now rest at c.args.entry c.args.opinion old new c.in-Some.answer
@@ -55,18 +55,18 @@ returns-clause-shows c = λ rest counted.
     let new : PassState Telling = state_in c.args.run.past.now c.args.run.told.now c.next_answer.new.replay in
     let deciding = c.decide-deciding.ensures ∙ ap (λ n. decides c.args.run.kind kept (n + 1) c.in-Some.answer) c.next_answer.ensures.at in
     let served : ServedAs (serve c.args.rule.now at old) c.in-Some.answer (decides c.args.run.kind kept at c.in-Some.answer)
-            (is_none (Some c.in-Some.answer)) new =
+    (is_none (Some c.in-Some.answer)) new =
     subst (λ (a : Option Code). ServedAs (serve c.args.rule.now at old) (answer_in a) (decides c.args.run.kind kept at (answer_in a)) (is_none a) new)
     c.in-Some.is (c.in_ok-answer.ensures.served c.args.run.kind kept) in
     let made = c.in_ok-of-2.ensures
     ∙ ap (λ n. row_of (n + 1) c.args.rule.now (Ran c.in-Some.answer c.decide-deciding.result c.action-action.result c.next_node_after-onward.result.opinion))
-        c.next_answer.ensures.at
+    c.next_answer.ensures.at
     ∙ ap (λ (d : Code). row_of at c.args.rule.now (Ran c.in-Some.answer d c.action-action.result c.next_node_after-onward.result.opinion)) deciding in
     let why = c.why_after.ensures ∙ ap (λ n. why_by (next_of c.action-action.result c.args.left c.after-new.result) (n + 1)) c.next_answer.ensures.at in
     runs c.args.run.kind serve c.args.rule.now rest at c.args.entry c.args.opinion old new c.args.why c.in-Some.answer
     (decides c.args.run.kind kept at c.in-Some.answer) c.action-action.result c.args.left c.after-new.result
     (record { opinion = c.next_node_after-onward.result.opinion; skip = c.next_node_after-onward.result.skip; why = c.why_after.result }) _
-        c.args.shown.now _ served
+    c.args.shown.now _ served
     (c.action-action.ensures ∙ ap (action_at c.args.rule.now.control) deciding)
     (c.after-new.ensures ∙ ap (λ (d : Code). acted c.args.run.kind c.action-action.result c.in-Some.answer d c.args.entry c.args.opinion) deciding)
     counted c.next_node_after-onward.ensures.opinion c.next_node_after-onward.ensures.skip why made c.in_ok-push-2.ensures.ok

@@ -14,6 +14,6 @@ returns c =
     let one : c.args.number ≡ suc (c.args.number - 1) = omega (arith, c.if-number-eq0.false, c.if-number-places.false) in
     let within : c.args.number - 1 < length places = omega (arith, c.if-number-eq0.false, c.if-number-places.false) in
     subst (λ (p : Option SlotLog). OnOk c.write_at.result (string_bytes c.write_at.new.text
-        ≡ string_bytes c.args.text.now ++ block_text (stacks_in c.args.trees.now) c.args.sources.now c.args.number p (visits_told (told_in c.args.told.now))
-        (result_of c.args.outcome)))
+    ≡ string_bytes c.args.text.now ++ block_text (stacks_in c.args.trees.now) c.args.sources.now c.args.number p (visits_told (told_in c.args.told.now))
+    (result_of c.args.outcome)))
     (at_place places (c.args.number - 1) c.args.number _ _ one within c.index-places-number.is) c.write_at.ensures

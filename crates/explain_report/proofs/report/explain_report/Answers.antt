@@ -20,7 +20,7 @@ returns-then-not-goes_on c =
     let new = c.take_line.new.self in
     let line : Option Says = option_map bare (read_line (take c.in-Some.n rest)) in
     let taken : Takes stacks sources old line false new = subst (λ (b : Bool). Takes stacks sources old line b new) c.if-not-goes_on.true
-            c.in_ok-goes_on.ensures in
+    c.in_ok-goes_on.ensures in
     let lines : line ∷ bare_lines (drop (c.in-Some.n + 1) rest) ≡ bare_lines rest = sym (line_left rest c.in-Some.n c.in-Some.ensures) in
     sym (taken (bare_lines (drop (c.in-Some.n + 1) rest)))
     ∙ ap (λ (ls : List (Option Says)). string_bytes old.text ++ left_of stacks sources old ls) lines ∙ c.loop-n.invariant
@@ -35,7 +35,7 @@ loop-n-preserved c =
     let new = c.take_line.new.self in
     let line : Option Says = option_map bare (read_line (take c.in-Some.n rest)) in
     let taken : Takes stacks sources old line true new = subst (λ (b : Bool). Takes stacks sources old line b new) c.if-not-goes_on.false
-            c.in_ok-goes_on.ensures in
+    c.in_ok-goes_on.ensures in
     let lines : line ∷ bare_lines after ≡ bare_lines rest =
     ap (λ (x : List ℕ). line ∷ bare_lines x) c.after_newline-after.ensures ∙ sym (line_left rest c.in-Some.n c.in-Some.ensures) in
     sym (taken (bare_lines after))
@@ -49,5 +49,5 @@ returns c =
     let e = c.loop-n.explainer in
     sym (append-nil (string_bytes e.text))
     ∙ ap (λ (xs : List ℕ). string_bytes e.text ++ xs) (sym (nothing_left stacks sources e rest)
-        ∙ ap (left_of stacks sources e) (sym (part_left rest c.in_default.ensures)))
+    ∙ ap (left_of stacks sources e) (sym (part_left rest c.in_default.ensures)))
     ∙ c.loop-n.invariant

@@ -9,4 +9,4 @@ pub returns : goal.returns
 returns c =
     let told = c.args.source.now.told.now in
     called as_told (stacks_in c.args.source.now.trees.now) c.args.func c.args.past.now (held_of c.args.held) _ _ _ (passed_of told c.in_ok-passed.passed) _
-        c.take_cached-cached.ensures.taken (c.take_cached-cached.ensures.rest _) c.in_ok-passed.ensures (c.retold_call.ensures told)
+    c.take_cached-cached.ensures.taken (c.take_cached-cached.ensures.rest _) c.in_ok-passed.ensures (c.retold_call.ensures told)

@@ -32,7 +32,7 @@ walk_nodes-requires t c =
     let here = peeled_sub _ _ _ _ c.loop-node-test.true c.node-item.is c.in-Sub.is in
     let falls : depth (stack_of c.in-Sub.inner.vec.items) < t = omega (arith, ap depth here, c.loop-node.invariant.shallow, c.decreases) in
     let few : c.loop-node.replay.at + lines_in (stack_of c.in-Sub.inner.vec.items) ≤ 4096 =
-            omega (arith, ap lines_in here, c.loop-node.invariant.placed, c.requires.few) in
+    omega (arith, ap lines_in here, c.loop-node.invariant.placed, c.requires.few) in
     (falls, few)
 
 pub returns-in_default-2-clause-comes : goal.returns-in_default-2-clause-comes
@@ -66,7 +66,7 @@ loop-node-preserved t c =
           ≡ after_line c.args.kind serve rest (c.loop-node.replay.at + 1 + 1) c.args.entry c.loop-node.opinion o new)
           w.in-Some.is (w.in_ok-onward-in-Line.ensures.goes rest counted) in
           let further = subst (λ (o : Option NextNode). IfSome o (λ _. w.walk_line.new.replay.at ≡ c.loop-node.replay.at + 1)) w.in-Some.is
-                  w.in_ok-onward-in-Line.ensures.at in
+          w.in_ok-onward-in-Line.ensures.at in
           rw (w.replay-is, w.opinion-is, w.skip-is)
           (walking_line _ _ _ _ _ _ _ _ _ _ _ _ _ _ _ _ _ _ c.loop-node.invariant here none_over further refl goes)
       | else-skip-gt0+in-Sub+in_ok-inside-in-Sub+in-Some-2 w ↦
@@ -78,7 +78,7 @@ loop-node-preserved t c =
           let comes = subst (λ (end : Option Opinion). WalkEnds inside end (state_in c.args.past.now c.args.told.now w.walk_nodes.new.replay))
           w.in-Some-2.is w.in_ok-inside-in-Sub.ensures.comes in
           let further = subst (λ (end : Option Opinion). IfSome end (λ _. w.walk_nodes.new.replay.at
-                  ≡ c.loop-node.replay.at + lines_in (stack_of w.in-Sub.inner.vec.items)))
+          ≡ c.loop-node.replay.at + lines_in (stack_of w.in-Sub.inner.vec.items)))
           w.in-Some-2.is w.in_ok-inside-in-Sub.ensures.at in
           let skip_is = w.skip-is ∙ none_over in
           rw (w.replay-is, w.opinion-is, skip_is)

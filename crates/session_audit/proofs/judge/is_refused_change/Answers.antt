@@ -16,4 +16,4 @@ returns c =
     let told = c.args.told.now in
     c.is_change_fault.ensures
     ∙ ap (λ (vs : List Seen). is_refused_change c.args.func c.args.code vs)
-        (sym (told_none told c.first_visit.result c.first_visit.ensures c.if-first_visit-told.false))
+    (sym (told_none told c.first_visit.result c.first_visit.ensures c.if-first_visit-told.false))

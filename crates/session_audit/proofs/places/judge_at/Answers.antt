@@ -23,10 +23,10 @@ returns-in-Fits c =
     ap (λ (n : ℕ). ltb 0 c.args.number && leb c.args.number n) n_is ∙ sym c.has_place.ensures ∙ c.if-not-has_place.false in
     let judged = rw c.in-Fits.is at c.in_ok-behind.ensures in
     fits_at (stacks_in c.args.trees.now) items c.args.number c.replace-place.result c.replace-place.new.dest c.in-Fits.behind (told_in c.args.told.now)
-        (result_of c.args.outcome)
+    (result_of c.args.outcome)
     (index_of c.args.number (length items) has)
     (get_some items (c.args.number - 1) c.replace-place.result _ (a_place items c.args.number has)
-        (c.replace-place.ensures.value ∙ c.index_mut.ensures.value)) judged
+    (c.replace-place.ensures.value ∙ c.index_mut.ensures.value)) judged
 
 pub returns-in-Differs : goal.returns-in-Differs
 returns-in-Differs c =

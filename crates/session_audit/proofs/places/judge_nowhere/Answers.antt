@@ -18,13 +18,13 @@ returns-then-is_bad_number c =
     let told = c.args.told.now in
     λ stacks. both_are (is_bad_number stacks (result_of c.args.outcome)) true (visits_told (told_in told))
     (sym (c.is_bad_number.ensures stacks) ∙ c.if-is_bad_number.true) (told_none told c.first_visit-first.result c.first_visit-first.ensures
-        c.if-first-told.false)
+    c.if-first-told.false)
 
 pub returns-else-is_bad_number : goal.returns-else-is_bad_number
 returns-else-is_bad_number c =
     let told = c.args.told.now in (
       λ stacks. both_are (is_bad_number stacks (result_of c.args.outcome)) false (visits_told (told_in told))
           (sym (c.is_bad_number.ensures stacks) ∙ c.if-is_bad_number.false)
-              (told_none told c.first_visit-first.result c.first_visit-first.ensures c.if-first-told.false),
+          (told_none told c.first_visit-first.result c.first_visit-first.ensures c.if-first-told.false),
       told_first told c.first_visit-first.result c.first_visit-first.ensures,
     )

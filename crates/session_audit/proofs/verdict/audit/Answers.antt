@@ -16,7 +16,7 @@ returns-clause-fits c =
     let stacks = stacks_in c.args.trees.now in
     let text = c.args.text.now in
     let named : line_of c.in_ok-verdict.verdict ≡ differs stacks (lines_read read_line text) = c.in_ok-verdict.ensures
-            ∙ differs-bare stacks (lines_read read_line text) in (
+    ∙ differs-bare stacks (lines_read read_line text) in (
       λ is. c.lines_audit.ensures.sound stacks text (sym named ∙ fits_names c.in_ok-verdict.verdict is),
       λ fits. named_fits c.in_ok-verdict.verdict (named ∙ c.lines_audit.ensures.complete stacks text fits),
     )

@@ -17,7 +17,7 @@ returns-in-Some-named c =
     let last : is_none (bare_lines after) ≡ c.is_empty.result = end_is after ∙ sym c.is_empty.ensures in
     let lines : option_map bare (read_line (take c.in-Some.n rest)) ∷ bare_lines after ≡ bare_lines rest =
     ap (λ (x : List ℕ). option_map bare (read_line (take c.in-Some.n rest)) ∷ bare_lines x) c.after_newline-after.ensures
-        ∙ sym (line_left rest c.in-Some.n c.in-Some.ensures) in
+    ∙ sym (line_left rest c.in-Some.n c.in-Some.ensures) in
     sym (taken (bare_lines after) last) ∙ ap (differs_at stacks c.loop-n.checker) lines ∙ c.loop-n.invariant.left
 
 pub loop-n-preserved : goal.loop-n-preserved
@@ -29,7 +29,7 @@ loop-n-preserved c =
     let last : is_none (bare_lines after) ≡ c.is_empty.result = end_is after ∙ sym c.is_empty.ensures in
     let lines : option_map bare (read_line (take c.in-Some.n rest)) ∷ bare_lines after ≡ bare_lines rest =
     ap (λ (x : List ℕ). option_map bare (read_line (take c.in-Some.n rest)) ∷ bare_lines x) c.after_newline-after.ensures
-        ∙ sym (line_left rest c.in-Some.n c.in-Some.ensures) in
+    ∙ sym (line_left rest c.in-Some.n c.in-Some.ensures) in
     let short : length after ≡ length (drop (c.in-Some.n + 1) rest) = ap length c.after_newline-after.ensures in
     let first : c.in-Some.n < length rest = c.in-Some.ensures.0 in
     record {
