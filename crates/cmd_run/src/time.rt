@@ -10,12 +10,15 @@ pub trait TimeOfDay: Drop {
     fn seconds(&self) -> u64;
 }
 
-/// Sets the world's clock to the time of day, at most `MAX_MOMENT`. Without a time of day it changes nothing.
+/// Sets the world's clock to the time of day, at most `MAX_MOMENT`. Without a time of day it changes nothing. It changes
+/// nothing of the world but the clock.
 pub fn keep_time(time: &Option<Box<dyn TimeOfDay>>, world: &mut World)
     ensures tells { ⟦<World as WorldTold>⟧.tells world.new
         ≡ ⟦<World as WorldTold>⟧.tells world.old }
     ensures told { IsTrue (is_none time.now) → ⟦<World as WorldTold>⟧.plain world.new
         ≡ ⟦<World as WorldTold>⟧.plain world.old }
+    ensures vault { world.new.vault ≡ world.old.vault }
+    ensures nap { world.new.nap ≡ world.old.nap }
     ensures process { world.new.process ≡ world.old.process }
 {
     match time {
