@@ -1,15 +1,17 @@
 //! `pamsess`: makes the calls of a script or of a front end in the transactions of a configuration and reports what each
 //! returns, logs a user in, audits a report, or prints a configuration or a tally.
 //!
-//! Begin at `main`: `run` makes the modules, and the objects that objects.rt names for a command, and calls
-//! `cmd_all::pamsess` with them.
+//! Begin at `main`: `run_words` makes the modules, `run_modules` and `run_world` make the objects that objects.rt names for
+//! a command, and `cmd_all::pamsess` is called with them. Each goes on with the next, since what has to be dropped at each
+//! exit of a function makes its proof long, and no function may hand out trait objects that it made.
 #![tactic(auto)]
 
 mod objects;
 
+ghost use Rattle.std.specs.Prelude.{◌≡◌, ◌<◌, ◌^◌, [], length};
 ghost use Rattle.fail_delay.specs.DelayFn.{GivesOneNumber};
 
-use crate::objects::{Files, Replies, Time, objects_of};
+use crate::objects::{Files, Objects, Replies, Time, objects_of};
 use cmd_all::{Desk, TimeOfDay, pamsess};
 use command_line::{NO_STREAMS, arguments, exit_status, reserve_streams};
 use fail_delay::DelayRule;
@@ -17,7 +19,7 @@ use pam_base::{Code, NoMemory, Numbers, Text};
 use pam_outside::{Clock, FixedClock, MemVault, Nap, NapSum, Vault};
 use pam_room::conv_port::{Conv, QueueConv, TermConv, WireConv};
 use pam_room::{Process, World};
-use shipped_modules::{SystemTime, shipped_modules};
+use shipped_modules::{Module, SystemTime, shipped_modules};
 use std::io::{self, ErrorKind};
 use std::process::ExitCode;
 use system_objects::{FolderVault, ReaderSource, RealClock, SleepNap, WriterSink};
@@ -35,15 +37,68 @@ fn main(rt: HostRuntime) -> ExitCode {
     ExitCode::from(exit_status(run(rt)))
 }
 
-// Calls the program with the shipped modules, the objects that the command gets, a conversation for each transaction
-// and one for the terminal, and a delay function that waits as long as requested, at most three seconds, and doesn't
-// wait after SUCCESS. It gets no arguments if one of them isn't UTF-8.
+// Calls the program with the arguments, or with none if one of them isn't UTF-8.
 fn run(rt: HostRuntime) -> io::Result<u8> {
     let alloc = rt.alloc();
     let _streams = match reserve_streams(&rt) {
         Ok(streams) => streams,
         Err(_) => return Ok(NO_STREAMS),
     };
+    let words = arguments(&rt)?.unwrap_or(Vec::new(alloc));
+    run_words(rt, &words)
+}
+
+// Makes the shipped modules.
+fn run_words(rt: HostRuntime, words: &[String]) -> io::Result<u8> {
+    let alloc = rt.alloc();
+    let mods = shipped_modules!(alloc);
+    run_modules(rt, words, mods)
+}
+
+// Makes the files and the clock that the command gets.
+fn run_modules(rt: HostRuntime, words: &[String], mods: Vec<Box<dyn Module>>) -> io::Result<u8>
+    requires { length mods.items < 2 ^ 32 }
+{
+    let alloc = rt.alloc();
+    let objects = objects_of(words);
+    let clock: Box<dyn Clock> = match objects.time {
+        Time::Real => Box::new(alloc, RealClock::new(rt))?,
+        Time::Fixed => Box::new(alloc, FixedClock::new(0, 0))?,
+    };
+    let nap: Box<dyn Nap> = match objects.time {
+        Time::Real => Box::new(alloc, SleepNap::new(rt))?,
+        Time::Fixed => Box::new(alloc, NapSum::new())?,
+    };
+    let vault: Box<dyn Vault> = match objects.files {
+        Files::InMemory => Box::new(alloc, MemVault::new(alloc, Numbers::new(alloc)))?,
+        Files::OnDisk => {
+            let vault = FolderVault::below(rt, root_in(words)).map_err(out_of_memory)?;
+            Box::new(alloc, vault)?
+        }
+    };
+    let mut world = World {
+        vault,
+        clock,
+        nap,
+        process: Process::new(alloc, Text::new(alloc), CALLER),
+    };
+    run_world(rt, words, &objects, mods, &mut world)
+}
+
+// Makes a conversation for each transaction and one for the terminal, and a delay function that waits as long as
+// requested, at most three seconds, and doesn't wait after SUCCESS.
+fn run_world(
+    rt: HostRuntime,
+    words: &[String],
+    objects: &Objects,
+    mods: Vec<Box<dyn Module>>,
+    world: &mut World,
+) -> io::Result<u8>
+    requires few { length mods.items < 2 ^ 32 }
+    requires no_births { world.old.process.ledger.births ≡ [] }
+    requires no_receipts { world.old.process.ledger.filed ≡ [] }
+{
+    let alloc = rt.alloc();
     let wait = |code: Code, asked: u32| -> u32 {
         if code == Code::Success {
             0
@@ -53,30 +108,12 @@ fn run(rt: HostRuntime) -> io::Result<u8> {
     };
     let delay: DelayRule = Box::new(alloc, wait)?;
     returns_one_number(&delay);
-    let words = arguments(&rt)?.unwrap_or(Vec::new(alloc));
-    let objects = objects_of(&words);
-    let mods = shipped_modules!(alloc);
-    let clock: Box<dyn Clock> = match objects.time {
-        Time::Real => Box::new(alloc, RealClock::new(rt))?,
-        Time::Fixed => Box::new(alloc, FixedClock::new(0, 0))?,
-    };
-    let nap: Box<dyn Nap> = match objects.time {
-        Time::Real => Box::new(alloc, SleepNap::new(rt))?,
-        Time::Fixed => Box::new(alloc, NapSum::new())?,
-    };
     let time: Option<Box<dyn TimeOfDay>> = match objects.time {
         Time::Real => {
             let time: Box<dyn TimeOfDay> = Box::new(alloc, SystemTime::new(rt))?;
             Some(time)
         }
         Time::Fixed => None,
-    };
-    let vault: Box<dyn Vault> = match objects.files {
-        Files::InMemory => Box::new(alloc, MemVault::new(alloc, Numbers::new(alloc)))?,
-        Files::OnDisk => {
-            let vault = FolderVault::below(rt, root_in(&words)).map_err(out_of_memory)?;
-            Box::new(alloc, vault)?
-        }
     };
     let term: Box<dyn Conv> = Box::new(alloc, TermConv::new(rt.stdin(), rt.stderr()))?;
     let mut convs: Vec<Box<dyn Conv>> = Vec::new(alloc);
@@ -87,12 +124,6 @@ fn run(rt: HostRuntime) -> io::Result<u8> {
         };
         convs.push(conv)?;
     }
-    let mut world = World {
-        vault,
-        clock,
-        nap,
-        process: Process::new(alloc, Text::new(alloc), CALLER),
-    };
     let mut script = ReaderSource::new(rt.reader());
     let mut out = WriterSink::new(io::writer(&rt));
     let desk = Desk {
@@ -102,7 +133,7 @@ fn run(rt: HostRuntime) -> io::Result<u8> {
         delay,
         time,
     };
-    Ok(pamsess(alloc, &words, &mut script, &mut out, &mut world, desk))
+    Ok(pamsess(alloc, words, &mut script, &mut out, world, desk))
 }
 
 // The ROOT of a command, if it has one.
