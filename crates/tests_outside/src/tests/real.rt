@@ -1,18 +1,16 @@
 use super::{bytes_of, read_some};
-use pam_base::{Failed, Text};
+use pam_base::Failed;
 use pam_outside::{
-    Clock, LockKind, MAX_FILE, Nap, ReplaceFault, Sink, Vault, VaultFault, current_moment,
-    random_word, set_moment, set_word, write_all,
+    Clock, LockKind, MAX_FILE, ReplaceFault, Sink, Vault, VaultFault, current_moment, random_word,
+    set_moment, set_word, write_all,
 };
-use std::fs::Permissions;
 use std::io::{self, ErrorKind, Read};
-use std::os::unix::fs::PermissionsExt;
 use std::path::PathBuf;
 use std::random::RandomSource;
 use std::test::Fail;
-use std::time::{Duration, Instant};
+use std::time::Duration;
 use std::{env, fs, process};
-use system_objects::{FolderVault, ReaderSource, RealClock, SleepNap, WriterSink, system_moment};
+use system_objects::{FolderVault, ReaderSource, RealClock, WriterSink, system_moment};
 
 // A reader whose second read fails.
 #[derive(Drop)]
@@ -132,14 +130,6 @@ fn the_system_s_time_is_0_at_an_error_and_no_later_than_the_last_moment(
     Ok(())
 }
 
-#[test]
-fn a_sleeping_nap_waits(rt: HostRuntime) -> Result<(), Fail> {
-    let start = Instant::now(&rt)?;
-    SleepNap::new(rt).rest(20_000);
-    assert!(rt; Duration::from_micros(20_000) <= start.elapsed(&rt)?);
-    Ok(())
-}
-
 // An empty directory of its own for a test with this name.
 pub(super) fn new_folder(rt: HostRuntime, name: &str) -> Result<PathBuf, Fail> {
     let alloc = rt.alloc();
@@ -162,10 +152,7 @@ fn real_files_are_read_whole_or_refused(rt: HostRuntime) -> Result<(), Fail> {
     let more = vec![in alloc; b'x'; LIMIT as usize + 1]?;
     fs::create_dir(&rt, folder.join(alloc, "pam.d")?.as_path())?;
     for (name, bytes) in [
-        ("empty", b"".as_slice()),
-        ("nul", b"a\0b"),
-        ("common", b"front"),
-        ("common-auth", b"whole"),
+        ("common", b"front".as_slice()),
         ("most", most.as_slice()),
         ("more", more.as_slice()),
     ] {
@@ -174,16 +161,11 @@ fn real_files_are_read_whole_or_refused(rt: HostRuntime) -> Result<(), Fail> {
     let long = "longer-than-a-name-may-be-".repeat(alloc, 20)?;
     let mut vault = FolderVault::new(rt);
     for (name, want, is_folder) in [
-        ("empty", Ok(b"".as_slice()), Ok(false)),
-        ("nul", Ok(b"a\0b"), Ok(false)),
-        ("common", Ok(b"front"), Ok(false)),
-        ("common-auth", Ok(b"whole"), Ok(false)),
+        ("common", Ok(b"front".as_slice()), Ok(false)),
         ("most", Ok(most.as_slice()), Ok(false)),
         ("more", Err(VaultFault::TooLong), Ok(false)),
-        ("absent", Err(VaultFault::Absent), Ok(false)),
         ("absent/below", Err(VaultFault::Absent), Ok(false)),
         ("pam.d", Err(VaultFault::Failed), Ok(true)),
-        ("pam.d/login", Err(VaultFault::Absent), Ok(false)),
         (
             "common/below",
             Err(VaultFault::Failed),
@@ -216,36 +198,6 @@ fn real_files_are_read_whole_or_refused(rt: HostRuntime) -> Result<(), Fail> {
     Ok(())
 }
 
-// The file, after it was replaced by a short text.
-fn replaced(rt: HostRuntime, path: &PathBuf) -> Result<Text, Fail> {
-    let alloc = rt.alloc();
-    let bytes = path.as_str().as_bytes();
-    let mut vault = FolderVault::new(rt);
-    vault.replace(alloc, bytes, b"short")?;
-    Ok(vault.read(alloc, bytes, LIMIT)?)
-}
-
-#[test]
-fn real_files_are_replaced_whole(rt: HostRuntime) -> Result<(), Fail> {
-    let folder = new_folder(rt, "replace")?;
-    let stands = folder.join(rt.alloc(), "stands")?;
-    fs::write(&rt, stands.as_path(), "a longer text")?;
-    fs::set_permissions(&rt, stands.as_path(), Permissions::from_mode(0o640))?;
-    for (name, mode) in [("stands", 0o640u32), ("new", 0o600)] {
-        let path = folder.join(rt.alloc(), name)?;
-        assert_eq!(rt;
-            replaced(rt, &path)?.bytes(),
-            b"short".as_slice(),
-            "at {name}"
-        );
-        let found = fs::metadata(&rt, path.as_path())?.permissions().mode();
-        assert_eq!(rt; found & 0o777, mode, "at {name}");
-    }
-    assert_eq!(rt; names_in(rt, &folder)?, 2, "nothing is left beside");
-    fs::remove_dir_all(&rt, folder.as_path())?;
-    Ok(())
-}
-
 #[test]
 fn real_files_that_are_not_replaced_leave_nothing(rt: HostRuntime) -> Result<(), Fail> {
     let alloc = rt.alloc();
@@ -260,50 +212,6 @@ fn real_files_that_are_not_replaced_leave_nothing(rt: HostRuntime) -> Result<(),
     let refused = vault.replace(alloc, b"/tmp/\xff", b"short");
     assert_eq!(rt; refused, Err(ReplaceFault::Failed));
     assert_eq!(rt; names_in(rt, &folder)?, 1);
-    fs::remove_dir_all(&rt, folder.as_path())?;
-    Ok(())
-}
-
-#[test]
-fn what_a_killed_writer_left_is_removed(rt: HostRuntime) -> Result<(), Fail> {
-    let folder = new_folder(rt, "left")?;
-    for name in [
-        "stands",
-        "stands.0.pamsess-new",
-        "stands.2.pamsess-new",
-        "stands-not.0.pamsess-new",
-    ] {
-        let path = folder.join(rt.alloc(), name)?;
-        fs::write(&rt, path.as_path(), "a longer text")?;
-    }
-    let path = folder.join(rt.alloc(), "stands")?;
-    assert_eq!(rt; replaced(rt, &path)?.bytes(), b"short".as_slice());
-    assert_eq!(rt; names_in(rt, &folder)?, 2, "another file's stays");
-    fs::remove_dir_all(&rt, folder.as_path())?;
-    Ok(())
-}
-
-#[test]
-fn a_lock_is_taken_again_once_it_is_let_go(rt: HostRuntime) -> Result<(), Fail> {
-    let folder = new_folder(rt, "hold")?;
-    fs::create_dir(&rt, folder.join(rt.alloc(), "pam.d")?.as_path())?;
-    let mut vault = FolderVault::new(rt);
-    for kind in [LockKind::Record, LockKind::Whole] {
-        for (name, is_held) in [
-            ("lock", true),
-            ("lock", true),
-            ("absent/lock", true),
-            ("pam.d", false),
-        ] {
-            let path = folder.join(rt.alloc(), name)?;
-            let held = vault.hold(rt.alloc(), path.as_str().as_bytes(), kind);
-            assert_eq!(rt; held.is_ok(), is_held, "at {name}");
-            if let Ok(held) = held {
-                vault.let_go(held);
-            }
-        }
-    }
-    assert_eq!(rt; names_in(rt, &folder)?, 2, "nothing is left beside");
     fs::remove_dir_all(&rt, folder.as_path())?;
     Ok(())
 }
