@@ -27,8 +27,9 @@ headers=-I$cache/sys/usr/include
 caller=1
 "$server" --caller 0 </dev/null >/dev/null 2>&1 || caller=0
 libpam/link "$server" "$work/pam_service"
+mkdir "$work/bring"
 make -s -C libpam OUT="$work/libpam.so.0" CPPFLAGS="$headers" CALLER=$caller
-gcc -O2 -Wall -Wextra "$headers" -o "$work/clients" bench/clients.c "$work/libpam.so.0"
+gcc -O2 -Wall -Wextra "$headers" -o "$work/bring/clients" bench/clients.c "$work/libpam.so.0"
 gcc -O2 -Wall -Wextra -static-pie -o "$work/yes" bench/yes.c
 cp -r libpam "$work/bare"
 sed -i 's/begin(copies, words, copies->pipe\[0\],/begin(copies, words, copies->socket,/
@@ -42,7 +43,7 @@ make -s -C "$work/bare" OUT="$work/bare/libpam.so.0" CPPFLAGS="$headers" CALLER=
 
 run() { # LIBRARY SERVER WORD..
     # shellcheck disable=SC2086 # (a command with its words)
-    BRING="$work/clients" tests/clients/room "$cache/sys" "$1" "$2" ${PRIORITY-} /brought/clients "${@:3}"
+    BRING="$work/bring" tests/clients/room "$cache/sys" "$1" "$2" ${PRIORITY-} /brought/clients "${@:3}"
 }
 # Prints `SERVICE WHOSE LEAST MEDIAN` for each turn.
 time_logins() { # SERVICE WHOSE LIBRARY SERVER
