@@ -50,11 +50,12 @@ class Case:
         self.files = {path: bytes_of(text) for path, text in files.items()}
         self.script, self.output, self.status = bytes_of(script), bytes_of(output), status
         self.after = {**self.files, **{path: bytes_of(text) for path, text in dict(after).items()}}
-        self.words = words
+        self.words, self.is_stored = words, False
 
     def lay(self, root):
-        """Writes the tree, and the directory of the tallies."""
-        os.makedirs(f"{root}/var/run/faillock", exist_ok=True)
+        """Writes the tree; a stored one has the directory of the tallies if it is wanted."""
+        if not self.is_stored:
+            os.makedirs(f"{root}/var/run/faillock", exist_ok=True)
         for path, text in self.files.items():
             os.makedirs(os.path.dirname(f"{root}/{path}"), exist_ok=True)
             with open(f"{root}/{path}", "wb") as file:
@@ -246,7 +247,11 @@ def stored_case(name, folders):
     after = next((files_below(f"{it}/after") for it in folders[::-1] if os.path.isdir(f"{it}/after")), {})
     words = part("words", missing=b"run\nROOT\n").decode("utf-8", "surrogateescape").splitlines()
     given, output = part("script", "input", "input.hex"), part("output", "output.hex")
-    return Case(name, files, given, output, int(part("status", missing=b"0")), after, words)
+    case = Case(name, files, given, output, int(part("status", missing=b"0")), after, words)
+    case.is_stored = True
+    if after:
+        case.after = dict(after)
+    return case
 
 
 def rows_below(top):
@@ -367,8 +372,10 @@ def wrong_tree(case, tree):
             continue
         if case.after.get(path) == case.files.get(path):
             return f"/{path} is changed, which the run doesn't change"
-        if path not in given:
+        if path not in given and path in case.after:
             return f"/{path} is gone"
+        if path not in given:
+            continue
         if not case.is_whole(path, given[path]):
             return f"/{path} is half: {given[path]!r}"
     return None
