@@ -27,9 +27,9 @@ module _ (user hash : List ℕ) (day : ℕ) where
   abbrev Is : List ℕ → List ℕ → Type 0
   Is old new = (new ≡ old) ⊎ Placed user hash day old new
 
-  behind : (front old new : List ℕ) → Is old new → Is (front ++ old) (front ++ new)
-  behind front old new (inl same) = inl (ap (λ (x : List ℕ). front ++ x) same)
-  behind front old new (inr p) = inr (record {
+  past_end : (front old new : List ℕ) → Is old new → Is (front ++ old) (front ++ new)
+  past_end front old new (inl same) = inl (ap (λ (x : List ℕ). front ++ x) same)
+  past_end front old new (inr p) = inr (record {
     front = front ++ p.front;
     line = p.line;
     back = p.back;
@@ -41,8 +41,8 @@ module _ (user hash : List ℕ) (day : ℕ) where
   -- the lines after an unchanged one
   tails_by : (b : Bool) (m : List ℕ) (ms : List (List ℕ)) → Is (join_with_byte 10 (m ∷ ms)) (join_with_byte 10 (cond b (changed_line hash day m ∷ ms) (m ∷ changed ms)))
       → Is (tail_of (m ∷ ms)) (tail_of (cond b (changed_line hash day m ∷ ms) (m ∷ changed ms)))
-  tails_by true m ms h = behind (10 ∷ []) _ _ h
-  tails_by false m ms h = behind (10 ∷ []) _ _ h
+  tails_by true m ms h = past_end (10 ∷ []) _ _ h
+  tails_by false m ms h = past_end (10 ∷ []) _ _ h
 
   tails : (ls : List (List ℕ)) → Is (join_with_byte 10 ls) (join_with_byte 10 (changed ls)) → Is (tail_of ls) (tail_of (changed ls))
   tails [] h = inl refl
@@ -58,7 +58,7 @@ module _ (user hash : List ℕ) (day : ℕ) where
     old_is = join_is l ls;
     new_is = join_is (changed_line hash day l) ls;
   })
-  by_line false l ls e h = rw (join_is l ls, join_is l (changed ls)) (behind l (tail_of ls) (tail_of (changed ls)) h)
+  by_line false l ls e h = rw (join_is l ls, join_is l (changed ls)) (past_end l (tail_of ls) (tail_of (changed ls)) h)
 
   joined : (ls : List (List ℕ)) → Is (join_with_byte 10 ls) (join_with_byte 10 (changed ls))
   joined [] = inl refl

@@ -8,7 +8,7 @@ use Rattle.data_cleanup.specs.Cleanup.{Notes, times}
 use Rattle.data_cleanup.specs.Due.{Event, birth, ends}
 use Rattle.data_cleanup.specs.declared.datum.Birth.{Birth}
 use Rattle.data_cleanup.specs.Ledger.{PlainLedger}
-use Rattle.data_cleanup.specs.Stands.{Lists, StandFor, times_held, receipts_in}
+use Rattle.data_cleanup.specs.Modelled.{Lists, ModelsEvents, times_held, receipts_in}
 use Rattle.cmd_check.specs.pam_library.specs.Calls.{Moved, births_added, events_of}
 use Rattle.cmd_check.specs.pam_library.specs.Slots.{NoneIsOpen, PlainSlot, closed, opened, data_in, lists_of}
 use Rattle.cmd_login.specs.cmd_run.specs.AnyWorld.{AllEndsAre, Proceeds, ProceedsBy}
@@ -66,7 +66,7 @@ module _ (Is : ℕ → ℕ → Type 0) where
 -- ---- a run
 
 stood : (Is : ℕ → ℕ → Type 0) (note : Notes) (ledger : PlainLedger) (slots : List PlainSlot) (events : List Event)
-    → EndsAre Is events → StandFor note 17 ledger (lists_of slots) events → NoneIsOpen slots → IsCleanedUp Is note ledger
+    → EndsAre Is events → ModelsEvents note 17 ledger (lists_of slots) events → NoneIsOpen slots → IsCleanedUp Is note ledger
 stood Is note ledger slots events are stand none = record {
   events = events;
   ends_are = are;
@@ -81,11 +81,11 @@ stood Is note ledger slots events are stand none = record {
 
 pub cleaned_up : (Is : ℕ → ℕ → Type 0) (note : Notes) (before now after : PlainLedger) (slots left : List PlainSlot)
     → ((first last : PlainLedger) (lists next : Lists) (events : List Event) (p : Proceeds note first lists last next)
-    → StandFor note 17 first lists events → StandFor note 17 last next (events ++ events_of first p.calls))
-    → StandFor note 17 before (lists_of slots) [] → now ≡ before → ProceedsBy Is note now (lists_of slots) after (lists_of left) → NoneIsOpen left
+    → ModelsEvents note 17 first lists events → ModelsEvents note 17 last next (events ++ events_of first p.calls))
+    → ModelsEvents note 17 before (lists_of slots) [] → now ≡ before → ProceedsBy Is note now (lists_of slots) after (lists_of left) → NoneIsOpen left
     → IsCleanedUp Is note after
 cleaned_up Is note before now after slots left law stand same went none =
-    let first : StandFor note 17 now (lists_of slots) [] = subst (λ (l : PlainLedger). StandFor note 17 l (lists_of slots) []) (sym same) stand in
+    let first : ModelsEvents note 17 now (lists_of slots) [] = subst (λ (l : PlainLedger). ModelsEvents note 17 l (lists_of slots) []) (sym same) stand in
     stood Is note after left ([] ++ events_of now went.went.calls) (events_are Is now went.went.calls went.ends_are)
     (law now after (lists_of slots) (lists_of left) [] went.went first) none
 
@@ -109,12 +109,12 @@ module _ (P Q : ℕ → ℕ → Type 0) (also : (number status : ℕ) → P numb
 pub cleaned_at : (P Is : ℕ → ℕ → Type 0) → ((number status : ℕ) → P number status → Is number status)
     → (root : List ℕ) (setup : Setup) (old : PlainWorld) (s t e : Seen)
     → ((first last : PlainLedger) (lists next : Lists) (events : List Event) (p : Proceeds (notes_of t.players) first lists last next)
-    → StandFor (notes_of t.players) 17 first lists events → StandFor (notes_of t.players) 17 last next (events ++ events_of first p.calls))
+    → ModelsEvents (notes_of t.players) 17 first lists events → ModelsEvents (notes_of t.players) 17 last next (events ++ events_of first p.calls))
     → IsOpened root setup old s → t.players ≡ s.players → t.slots ≡ s.slots → t.world.process ≡ s.world.process → Went P t e → NoneIsOpen e.slots
     → IsCleanedUp Is (notes_of setup.players) e.world.process.ledger
 cleaned_at P Is also root setup old s t e law library players slots same went none =
-    let stand : StandFor (notes_of t.players) 17 old.process.ledger (lists_of t.slots) [] =
-    subst₂ (λ (ps : List Player) (ss : List PlainSlot). StandFor (notes_of ps) 17 old.process.ledger (lists_of ss) []) (sym players) (sym slots)
+    let stand : ModelsEvents (notes_of t.players) 17 old.process.ledger (lists_of t.slots) [] =
+    subst₂ (λ (ps : List Player) (ss : List PlainSlot). ModelsEvents (notes_of ps) 17 old.process.ledger (lists_of ss) []) (sym players) (sym slots)
     library.none_yet in
     let ledger : t.world.process.ledger ≡ old.process.ledger = ap (λ (p : PlainProcess). p.ledger) same
     ∙ ap (λ (w : PlainWorld). w.process.ledger) library.world_is in

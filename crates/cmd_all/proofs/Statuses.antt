@@ -2,7 +2,7 @@
 use Rattle.std.proofs.Common.{◌≡◌, ℕ, List, [], ◌++◌, Option, Ok, sym, ap, ◌∙◌, subst}
 use Rattle.pam_base.specs.declared.fault.ScriptKind.{ScriptKind}
 use Rattle.pam_outside.specs.Streams.{SourceState, SinkState}
-use Rattle.data_cleanup.specs.Stands.{StandFor}
+use Rattle.data_cleanup.specs.Modelled.{ModelsEvents}
 use Rattle.pam_room.specs.Module.{notes_of}
 use Rattle.cmd_check.specs.pam_library.specs.Slots.{lists_of}
 use Rattle.record_reader.specs.Run.{come_to}
@@ -10,13 +10,13 @@ use Rattle.record_reader.specs.LineRun.{Run}
 use Rattle.record_reader.specs.LineTurns.{Ending}
 use Rattle.record_reader.specs.declared.ending.Ending.TheVariants.{Done, ReadFault, Refused}
 use Rattle.cmd_login.specs.cmd_run.specs.State.{Setting, RunState}
-use Rattle.cmd_login.specs.cmd_run.specs.Events.{AreDue, StandOn, run_events}
+use Rattle.cmd_login.specs.cmd_run.specs.Events.{AreDue, AddsEvents, run_events}
 use Rattle.cmd_login.specs.cmd_run.specs.Whole.{RunsScript, ending_status}
-use Rattle.cmd_all.specs.Run.{IsDone, IsRefused, IsUnread, events_in, report_of, world_behind}
+use Rattle.cmd_all.specs.Run.{IsDone, IsRefused, IsUnread, events_in, report_of, world_after}
 
 module _ (setting : Setting) (start end : RunState) (x y : SourceState) (p q : SinkState) where
   abbrev NoneYet : Type 0
-  NoneYet = StandFor (notes_of setting.players) 17 start.world.process.ledger (lists_of start.slots) []
+  NoneYet = ModelsEvents (notes_of setting.players) 17 start.world.process.ledger (lists_of start.slots) []
 
   -- the events of a run, by the results of its lines
   abbrev Due : Ending → Run RunState → Type 0
@@ -24,7 +24,7 @@ module _ (setting : Setting) (start end : RunState) (x y : SourceState) (p q : S
 
   due_by : (ending : Ending) (r : Run RunState) (text : List ℕ) (last : RunState) (lines : ℕ) (refused : Option ScriptKind)
       → r ≡ come_to text last lines refused
-      → NoneYet → StandOn (notes_of setting.players) (run_events setting (ending_status ending) start x.left lines last) start end → Due ending r
+      → NoneYet → AddsEvents (notes_of setting.players) (run_events setting (ending_status ending) start x.left lines last) start end → Due ending r
   due_by ending r text last lines refused comes none_yet stands =
       let stand = stands [] none_yet in
       subst (Due ending) (sym comes) (record { births = stand.births; receipts = stand.receipts })
@@ -36,7 +36,7 @@ module _ (setting : Setting) (start end : RunState) (x y : SourceState) (p q : S
         accepted = ap (λ r. r.refused) comes;
         reported = record {
           written = s.sink ∙ ap (λ (t : List ℕ). p.written ++ t) (s.outcome.whole ∙ sym (ap (report_of setting Done) comes));
-          world_is = ap (λ (t : RunState). t.world) s.outcome.closed ∙ sym (ap (world_behind setting Done) comes);
+          world_is = ap (λ (t : RunState). t.world) s.outcome.closed ∙ sym (ap (world_after setting Done) comes);
           are_due = due_by Done _ _ _ _ _ comes none_yet s.outcome.stands;
         };
         read_out = s.outcome.comes.0;
@@ -50,7 +50,7 @@ module _ (setting : Setting) (start end : RunState) (x y : SourceState) (p q : S
         refused = ap (λ r. r.refused) comes;
         reported = record {
           written = s.sink ∙ ap (λ (t : List ℕ). p.written ++ t) (s.outcome.whole ∙ sym (ap (report_of setting (Refused kind)) comes));
-          world_is = ap (λ (t : RunState). t.world) s.outcome.closed ∙ sym (ap (world_behind setting (Refused kind)) comes);
+          world_is = ap (λ (t : RunState). t.world) s.outcome.closed ∙ sym (ap (world_after setting (Refused kind)) comes);
           are_due = due_by (Refused kind) _ _ _ _ _ comes none_yet s.outcome.stands;
         };
         early = s.last.early;
@@ -69,7 +69,7 @@ module _ (setting : Setting) (start end : RunState) (x y : SourceState) (p q : S
         accepted = ap (λ r. r.refused) comes;
         reported = record {
           written = s.sink ∙ ap (λ (t : List ℕ). p.written ++ t) (s.outcome.whole ∙ sym (ap (report_of setting ReadFault) comes));
-          world_is = ap (λ (t : RunState). t.world) s.outcome.closed ∙ sym (ap (world_behind setting ReadFault) comes);
+          world_is = ap (λ (t : RunState). t.world) s.outcome.closed ∙ sym (ap (world_after setting ReadFault) comes);
           are_due = due_by ReadFault _ _ _ _ _ comes none_yet s.outcome.stands;
         };
       }

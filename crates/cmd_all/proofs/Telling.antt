@@ -4,7 +4,7 @@ use Rattle.std.proofs.Common.{refl, sym, ap, ap₂, ◌∙◌, subst, subst₂, 
 use Rattle.pam_room.specs.conv_port.specs.Conv.{ConvState}
 use Rattle.data_cleanup.specs.Cleanup.{Notes}
 use Rattle.data_cleanup.specs.Ledger.{PlainLedger}
-use Rattle.data_cleanup.specs.Stands.{StandFor}
+use Rattle.data_cleanup.specs.Modelled.{ModelsEvents}
 use Rattle.pam_outside.specs.Streams.{SourceState, SinkState}
 use Rattle.pam_base.specs.declared.code.Code.{Code}
 use Rattle.pam_room.specs.Module.{Player, notes_of}
@@ -72,11 +72,11 @@ sound_at_first holds convs names modules slots ledger law sixteen are births fil
     (law (map holds convs) (length-map holds convs ∙ sixteen))
 
 pub stand_at_first : {B : Type 0} (note : Notes) (holds : B → ConvState) (convs : List B) (slots : List PlainSlot) (ledger : PlainLedger)
-    → ((states : List ConvState) → StandFor note 17 (record { births = []; filed = [] }) (lists_of (map closed states)) [])
+    → ((states : List ConvState) → ModelsEvents note 17 (record { births = []; filed = [] }) (lists_of (map closed states)) [])
     → slots ≡ map (λ b. closed (holds b)) convs → ledger.births ≡ [] → ledger.filed ≡ []
-    → StandFor note 17 ledger (lists_of slots) []
+    → ModelsEvents note 17 ledger (lists_of slots) []
 stand_at_first note holds convs slots ledger law are births filed =
-    subst₂ (λ (s : List PlainSlot) (l : PlainLedger). StandFor note 17 l (lists_of s) []) (map-closed holds convs ∙ sym are) (no_entries ledger births filed)
+    subst₂ (λ (s : List PlainSlot) (l : PlainLedger). ModelsEvents note 17 l (lists_of s) []) (map-closed holds convs ∙ sym are) (no_entries ledger births filed)
     (law (map holds convs))
 
 none_open : {B : Type 0} (holds : B → ConvState) (convs : List B) → NoneIsOpen (map (λ b. closed (holds b)) convs)
@@ -94,7 +94,7 @@ under_now root old at now is reset = reset.world_is ∙ ap (λ (w : PlainWorld).
 module _ {Kind : Type 0} (runs_so : RunTold Kind) where
   begun_at : (setting : Setting) (slots ends : List PlainSlot) (root : List ℕ) (old now new : PlainWorld) (x y : SourceState) (p q : SinkState)
       (result : Result (StreamEnding Kind) Stop) → now ≡ under_root root old
-      → StandFor (notes_of setting.players) 17 old.process.ledger (lists_of slots) []
+      → ModelsEvents (notes_of setting.players) 17 old.process.ledger (lists_of slots) []
       → runs_so setting result (state_of slots now) (state_of ends new) x y p q → IsBegunSo runs_so setting result (opening slots root old) new x y p q
   begun_at setting slots ends root old now new x y p q result under none_yet ran = record {
     end = state_of ends new;
@@ -117,7 +117,7 @@ module _ {Kind : Type 0} (runs_so : RunTold Kind) where
 
 module _ (setting : Setting) (start end : RunState) (x y : SourceState) (p q : SinkState) where
   abbrev NoneYet : Type 0
-  NoneYet = StandFor (notes_of setting.players) 17 start.world.process.ledger (lists_of start.slots) []
+  NoneYet = ModelsEvents (notes_of setting.players) 17 start.world.process.ledger (lists_of start.slots) []
 
   done_by : (result : Result Ending Stop) → NoneYet → RunsScript setting result start end x y p q
       → exit_status (script_exit result) ≡ exit_status exits.Done → IsDone setting start end.world x y p q

@@ -13,7 +13,7 @@ use Rattle.record_reader.specs.Object.{Object}
 use Rattle.record_reader.specs.Turns.{has_read_fault, has_write_fault}
 use Rattle.cmd_login.specs.cmd_run.specs.Ends.{IsEndOfRun}
 use Rattle.cmd_login.specs.cmd_run.specs.Reading.{ReadsScript}
-use Rattle.cmd_login.specs.cmd_run.specs.SideBySide.{NumbersStandApart}
+use Rattle.cmd_login.specs.cmd_run.specs.SideBySide.{NumbersGoAlone}
 use Rattle.cmd_login.specs.cmd_run.specs.State.{Setting}
 use Rattle.cmd_login.specs.cmd_run.specs.Made.{ReportsRun}
 use Rattle.cmd_login.specs.cmd_run.specs.Script.{as_it_is}
@@ -66,7 +66,7 @@ module _ (result : Result (Ending ScriptKind) Stop) (status before now : ℕ) (i
 
 module _ (setting : Setting) (result : Result (Ending ScriptKind) Stop) (status : ℕ) (is : status ≡ exit_status (script_exit result))
     (slots : List PlainSlot) (root : List ℕ) (old new : PlainWorld) (x y : SourceState) (p q : SinkState) where
-  script_told : NumbersStandApart → RunsOrNot RunsScript setting result (opening slots root old) old new x y p q
+  script_told : NumbersGoAlone → RunsOrNot RunsScript setting result (opening slots root old) old new x y p q
       → Runs setting status slots root old new x y p q
   script_told apart (inl b) = inl (record {
     result = result;
@@ -99,7 +99,7 @@ script_read result status is x y (inr n) =
 module _ (root : List ℕ) (result : Result (Ending ScriptKind) Stop) (status : ℕ) (is : status ≡ exit_status (script_exit result)) (setup : Setup)
     (world : Around) (input : Object SourceState) (output : Object SinkState)
     (u : RunsUnder RunsScript ReadsScript Completes IsEndOfRun root result setup world input output) where
-  pub script_so : NumbersStandApart → (IsTrue output.tells → ReportsRun as_it_is script_last setup.players result setup.slots output.old output.new)
+  pub script_so : NumbersGoAlone → (IsTrue output.tells → ReportsRun as_it_is script_last setup.players result setup.slots output.old output.new)
       → RunsSo root status setup world input output
   script_so apart reports =
       runs_so root status setup world input output

@@ -127,16 +127,16 @@ module _ (result : Result (Ending FrameFault) Stop) (status : ℕ) (is : status 
   completes_by input R W complete = λ steps rest fault bytes spells no_read no_write. by_either _ (complete steps rest fault bytes spells no_read no_write)
 
 -- if an allocation fails nothing is read
-some_behind : (xs ys : List ℕ) → 0 < length ys → 0 < length (xs ++ ys)
-some_behind [] ys some = some
-some_behind (x ∷ xs) ys some = omega arith
+some_after : (xs ys : List ℕ) → 0 < length ys → 0 < length (xs ++ ys)
+some_after [] ys some = some
+some_after (x ∷ xs) ys some = omega arith
 
 nothing_is_open : IsOpen []
 nothing_is_open = record {
   body = 0 ∷ 0 ∷ [];
   more = sized (0 ∷ 0 ∷ []);
   body_is = (omega arith, omega arith);
-  some = some_behind (to_be_bytes w16 2) (0 ∷ 0 ∷ []) (omega arith);
+  some = some_after (to_be_bytes w16 2) (0 ∷ 0 ∷ []) (omega arith);
   parts = refl;
 }
 
@@ -157,7 +157,7 @@ no_frame_read status x four = record {
     spells = record {
       frames = record { framed = tt; parts = refl };
       few = omega arith;
-      behind = (nothing_is_open, λ e. refl, λ e. refl);
+      past_end = (nothing_is_open, λ e. refl, λ e. refl);
     };
   };
 }

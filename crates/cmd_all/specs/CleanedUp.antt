@@ -5,7 +5,7 @@ use Rattle.data_cleanup.specs.Cleanup.{Notes}
 use Rattle.data_cleanup.specs.Due.{Event, due}
 use Rattle.data_cleanup.specs.Ledger.{PlainLedger}
 use Rattle.data_cleanup.specs.Tidy.{Tidy}
-use Rattle.data_cleanup.specs.Stands.{births_of, receipts_in, times_filed}
+use Rattle.data_cleanup.specs.Modelled.{births_of, receipts_in, times_filed}
 use Rattle.record_reader.specs.declared.ending.Stop.{Stop}
 use Rattle.cmd_generate.specs.declared.generating.Generated.{Generated}
 use Rattle.cmd_generate.specs.Generated.{IsEndOfGenerate}

@@ -1,7 +1,7 @@
 -- A library that a command opens, over a world under its root (this project's own).
 use Rattle.std.specs.Prelude.{◌≡◌, ℕ, List, [], IsTrue}
 use Rattle.pam_base.specs.declared.code.Code.{Code}
-use Rattle.data_cleanup.specs.Stands.{StandFor}
+use Rattle.data_cleanup.specs.Modelled.{ModelsEvents}
 use Rattle.pam_room.specs.Module.{notes_of}
 use Rattle.pam_room.specs.State.{PlainWorld}
 use Rattle.cmd_check.specs.pam_library.specs.Slots.{handle_limit, lists_of}
@@ -20,5 +20,5 @@ pub record IsOpened (root : List ℕ) (setup : Setup) (before : PlainWorld) (see
   pub world_is : seen.world ≡ at_root root before
   pub none_open : NoneIsOpenIn seen
   pub sound : IsSoundIn seen
-  pub none_yet : StandFor (notes_of seen.players) handle_limit before.process.ledger
+  pub none_yet : ModelsEvents (notes_of seen.players) handle_limit before.process.ledger
       (lists_of seen.slots) []

@@ -1,6 +1,6 @@
 -- A run of a script under a root, by the status with which the program ends (this project's own).
 use Rattle.std.specs.Prelude.{◌≡◌, ◌⊎◌, ℕ, ◌≤◌, Bool, true, false, List, [], ◌++◌, length, Some, None, Result}
-use Rattle.data_cleanup.specs.Stands.{StandFor}
+use Rattle.data_cleanup.specs.Modelled.{ModelsEvents}
 use Rattle.pam_base.specs.declared.fault.ScriptKind.{ScriptKind}
 use Rattle.pam_outside.specs.Streams.{SourceState, SinkState}
 use Rattle.pam_room.specs.Module.{notes_of}
@@ -44,8 +44,8 @@ run_over setting start bytes ended = run_of (line_step setting) 0 start bytes en
 abbrev pub report_of : Setting → Ending → Run RunState → List ℕ
 report_of setting ending r = r.text ++ last_words setting.players ending r.items r.last
 
-abbrev pub world_behind : Setting → Ending → Run RunState → PlainWorld
-world_behind setting ending r = (all_closed setting.players (ending_status ending) r.last).world
+abbrev pub world_after : Setting → Ending → Run RunState → PlainWorld
+world_after setting ending r = (all_closed setting.players (ending_status ending) r.last).world
 
 -- the data sets and ends of a run that ends so: those of the lines that were applied, and of the implicit ends after
 -- them
@@ -58,7 +58,7 @@ events_in setting ending start script r =
 pub record IsReported (setting : Setting) (ending : Ending) (start : RunState) (script : List ℕ)
     (r : Run RunState) (world : PlainWorld) (p q : SinkState) : Type 0 where
   pub written : q.written ≡ p.written ++ report_of setting ending r
-  pub world_is : world ≡ world_behind setting ending r
+  pub world_is : world ≡ world_after setting ending r
   pub are_due : AreDue (notes_of setting.players) (events_in setting ending start script r)
       world.process.ledger
 
@@ -102,7 +102,7 @@ pub record IsNotBegun (old new : PlainWorld) (x y : SourceState) (p q : SinkStat
 
 -- The lines among some bytes, number by number: the slot of each after them and the outcomes of its steps are those of
 -- its own steps alone, each in the world before it; and what is reported of the lines is the report of these steps.
-pub record StandsSideBySide (setting : Setting) (start : RunState) (bytes : List ℕ)
+pub record NumbersAlone (setting : Setting) (start : RunState) (bytes : List ℕ)
     (ended : Bool) : Type 0 where
   pub alone : (number : ℕ) (slot : PlainSlot) → slot_at start.slots number ≡ Some slot
       → ComesAlone setting start bytes ended number slot
@@ -118,9 +118,9 @@ pub record IsBegun (setting : Setting) (status : ℕ) (start : RunState) (world 
   pub end : RunState
   pub world_is : world ≡ end.world
   pub runs : RunsScript setting result start end x y p q
-  pub none_yet : StandFor (notes_of setting.players) handle_limit start.world.process.ledger
+  pub none_yet : ModelsEvents (notes_of setting.players) handle_limit start.world.process.ledger
       (lists_of start.slots) []
-  pub side_by_side : (bytes : List ℕ) (ended : Bool) → StandsSideBySide setting start bytes ended
+  pub side_by_side : (bytes : List ℕ) (ended : Bool) → NumbersAlone setting start bytes ended
 
 -- a run with modelled objects, by its status
 abbrev pub Runs : Setting → ℕ → List PlainSlot → List ℕ → PlainWorld → PlainWorld → SourceState

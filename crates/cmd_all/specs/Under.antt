@@ -1,6 +1,6 @@
 -- A run of a stream under a root, whatever its items are (this project's own).
 use Rattle.std.specs.Prelude.{◌≡◌, ◌⊎◌, ℕ, List, [], Some, Result, Ok, Err, IfOk, IsTrue}
-use Rattle.data_cleanup.specs.Stands.{StandFor}
+use Rattle.data_cleanup.specs.Modelled.{ModelsEvents}
 use Rattle.pam_outside.specs.Counts.{RisesIf, Rose}
 use Rattle.pam_outside.specs.Streams.{SourceState, SinkState}
 use Rattle.pam_room.specs.Module.{notes_of}
@@ -26,7 +26,7 @@ pub record IsBegunSo {Kind : Type 0} (runs_so : RunTold Kind) (setting : Setting
   pub end : RunState
   pub world_is : world ≡ end.world
   pub runs : runs_so setting result start end x y p q
-  pub none_yet : StandFor (notes_of setting.players) handle_limit start.world.process.ledger
+  pub none_yet : ModelsEvents (notes_of setting.players) handle_limit start.world.process.ledger
       (lists_of start.slots) []
 
 -- the run was begun, or an allocation for the root or the slots failed, and nothing happened

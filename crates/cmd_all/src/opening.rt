@@ -1,7 +1,7 @@
 ghost use Rattle.std.specs.Prelude.{◌≡◌, ℕ, [], IfOk, IsTrue, OnErr, length};
 ghost use Rattle.pam_base.specs.declared.code.Code.{Code};
 ghost use Rattle.fail_delay.specs.DelayFn.{IsNumberGiven};
-ghost use Rattle.data_cleanup.specs.Stands.{StandFor};
+ghost use Rattle.data_cleanup.specs.Modelled.{ModelsEvents};
 ghost use Rattle.pam_room.specs.Module.{notes_of};
 ghost use Rattle.cmd_check.specs.pam_library.specs.Slots.{NoneIsOpen, handle_limit, lists_of};
 ghost use Rattle.cmd_check.specs.pam_library.specs.Plain.{gear_in};
@@ -37,14 +37,14 @@ pub(crate) fn library_of(alloc: Global, desk: Desk, ledger: &Ledger) -> Result<L
         IsTrue (⟦<Library as LibraryTold>⟧.tells library)) }
     ensures none_open { IfOk result (λ library. NoneIsOpen
         (⟦<Library as LibraryTold>⟧.slots library)) }
-    ensures first { IfOk result (λ library. StandFor
+    ensures first { IfOk result (λ library. ModelsEvents
         (notes_of (⟦<Gear as GearTold>⟧.players (gear_in library))) handle_limit ledger.now
         (lists_of (⟦<Library as LibraryTold>⟧.slots library)) []) }
     ensures sound { IfOk result (λ library. IsSoundFor
         (⟦<Gear as GearTold>⟧.players (gear_in library))
         (⟦<Library as LibraryTold>⟧.slots library) ledger.now) }
 {
-    cmd_check::pam_library::laws::closed_places_stand_for_none();
+    cmd_check::pam_library::laws::closed_places_have_no_events();
     let Desk {
         mods,
         convs,

@@ -120,7 +120,7 @@ pub fn pamsess<S: Source, K: Sink>(
     match command_in(words) {
         None => write_usage(out).status(),
         Some(Command::Run(root)) => {
-            cmd_login::cmd_run::laws::numbers_stand_side_by_side();
+            cmd_login::cmd_run::laws::numbers_go_alone();
             script_exit(run_under::<Script, S, K>(alloc, root, script, out, world, desk)).status()
         }
         Some(Command::Check(root, service)) => check_service(

@@ -34,7 +34,7 @@ pub(crate) fn run_under<P: Protocol, S: Source, K: Sink>(
         ReportsRun P.wrapped P.last_text (⟦<Desk as DeskTold>⟧.given desk).players result
         (⟦<Desk as DeskTold>⟧.given desk).slots (K.sink_holds out.old) (K.sink_holds out.new) }
 {
-    cmd_login::cmd_run::laws::proceeding_stands();
+    cmd_login::cmd_run::laws::proceeding_adds_events();
     P::ends();
     let Desk {
         mods,

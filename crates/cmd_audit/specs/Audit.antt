@@ -7,7 +7,7 @@ use Rattle.session_audit.specs.control_words.specs.Stack.{Stack}
 use Rattle.session_audit.specs.service_load.specs.declared.load_fault.LoadFault.{LoadFault}
 use Rattle.session_audit.specs.service_load.specs.declared.rule_type.RuleType.{RuleType}
 use Rattle.session_audit.specs.service_load.specs.FirstFault.{Counts, Stop}
-use Rattle.session_audit.specs.service_load.specs.Load.{loaded, has_folder}
+use Rattle.session_audit.specs.service_load.specs.Load.{loaded, directory_exists}
 use Rattle.session_audit.specs.service_load.specs.Loading.{texts_of}
 use Rattle.session_audit.specs.service_load.specs.Stacks.{Stacks, stacks_of}
 use Rattle.session_audit.specs.service_load.specs.Tree.{tree}
@@ -58,7 +58,7 @@ audit_from stack (Err stop) input = refused stop.fault
 -- the audit of a transcript against a service under a root
 abbrev pub audit_of : VaultState → List ℕ → List ℕ → Option (List ℕ) → Audit
 audit_of vault root service input =
-    audit_from (tree (texts_of root vault) (has_folder vault root) service)
+    audit_from (tree (texts_of root vault) (directory_exists vault root) service)
     (loaded vault root service) input
 
 -- how often `Vault` was called by the end of a load

@@ -7,7 +7,7 @@ use Rattle.pam_outside.specs.Streams.{SinkState}
 use Rattle.service_print.specs.control_words.specs.Stack.{Stack}
 use Rattle.service_print.specs.service_load.specs.declared.rule_type.RuleType.{RuleType}
 use Rattle.service_print.specs.service_load.specs.FirstFault.{Counts, Stop}
-use Rattle.service_print.specs.service_load.specs.Load.{loaded, has_folder}
+use Rattle.service_print.specs.service_load.specs.Load.{loaded, directory_exists}
 use Rattle.service_print.specs.service_load.specs.Loading.{texts_of}
 use Rattle.service_print.specs.service_load.specs.Tree.{tree}
 use Rattle.service_print.specs.declared.file.File.{File}
@@ -48,7 +48,7 @@ check_by stack service (Err stop) = record {
 -- the check of a service under a root
 abbrev pub check_of : VaultState → List ℕ → List ℕ → Check
 check_of vault root service =
-    check_by (tree (texts_of root vault) (has_folder vault root) service) service
+    check_by (tree (texts_of root vault) (directory_exists vault root) service) service
     (loaded vault root service)
 
 -- A check found this, and its text is written, or a prefix of it. If an allocation fails, `Vault` may have been called

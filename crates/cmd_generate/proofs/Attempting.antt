@@ -9,26 +9,26 @@ use Rattle.cmd_run.specs.State.{RunState, Setting, state_of}
 use Rattle.cmd_generate.specs.declared.login.Login.{Login}
 use Rattle.random_config.specs.Files.{random_files}
 use Rattle.random_config.specs.declared.files.RandomFile.{RandomFile}
-use Rattle.cmd_generate.specs.Generated.{AttemptStops, attempted, behind_files, from_root}
+use Rattle.cmd_generate.specs.Generated.{AttemptStops, attempted, after_files, from_root}
 use Rattle.cmd_generate.specs.Login.{Attempt, ComesTo, LoginStops, logged_in}
 use Rattle.cmd_generate.specs.Placing.{Placed, Places, PlacesSome, placed, with_vault}
 
 module _ (setting : Setting) (p : Placed) (s : RunState) (w : PlainWorld) (is : w ≡ with_vault p.vault (from_root s.world)) where
   -- all files were stored
-  behind_all : (result : Result Login (Refuse LoadFault)) (u : RunState) → p.fault ≡ None
+  past_all : (result : Result Login (Refuse LoadFault)) (u : RunState) → p.fault ≡ None
       → ComesTo result (logged_in setting (state_of s.slots w)) (LoginStops setting (state_of s.slots w)) u
-      → ComesTo result (behind_files setting p.fault (state_of s.slots (with_vault p.vault (from_root s.world))))
+      → ComesTo result (after_files setting p.fault (state_of s.slots (with_vault p.vault (from_root s.world))))
       (LoginStops setting (state_of s.slots (with_vault p.vault (from_root s.world)))) u
-  behind_all result u none comes =
-      subst (λ (o : Option LoadFault). ComesTo result (behind_files setting o (state_of s.slots (with_vault p.vault (from_root s.world))))
+  past_all result u none comes =
+      subst (λ (o : Option LoadFault). ComesTo result (after_files setting o (state_of s.slots (with_vault p.vault (from_root s.world))))
       (LoginStops setting (state_of s.slots (with_vault p.vault (from_root s.world)))) u) (sym none)
       (subst (λ (v : PlainWorld). ComesTo result (logged_in setting (state_of s.slots v)) (LoginStops setting (state_of s.slots v)) u) is comes)
 
   -- one wasn't stored
-  behind_fault : (Stops : RunState → Type 0) (fault : LoadFault) → p.fault ≡ Some fault
-      → ComesTo (Err (Named fault)) (behind_files setting p.fault (state_of s.slots (with_vault p.vault (from_root s.world)))) Stops (state_of s.slots w)
-  behind_fault Stops fault some =
-      subst (λ (o : Option LoadFault). ComesTo (Err (Named fault)) (behind_files setting o (state_of s.slots (with_vault p.vault (from_root s.world)))) Stops
+  after_fault : (Stops : RunState → Type 0) (fault : LoadFault) → p.fault ≡ Some fault
+      → ComesTo (Err (Named fault)) (after_files setting p.fault (state_of s.slots (with_vault p.vault (from_root s.world)))) Stops (state_of s.slots w)
+  after_fault Stops fault some =
+      subst (λ (o : Option LoadFault). ComesTo (Err (Named fault)) (after_files setting o (state_of s.slots (with_vault p.vault (from_root s.world)))) Stops
       (state_of s.slots w)) (sym some)
       (refl, ap (state_of s.slots) is)
 
@@ -57,7 +57,7 @@ module _ (setting : Setting) (seed lines : ℕ) (s : RunState) (files : List Ran
       more_stops (LoginStops setting (state_of s.slots (with_vault (placed (random_files seed lines) s.world.vault).vault (from_root s.world))))
       (AttemptStops setting seed lines s)
       result (attempted setting seed lines s) u (λ stops. inr (inr (inr (none, stops))))
-      (behind_all setting (placed (random_files seed lines) s.world.vault) s w (world_is places.1) result u none comes)
+      (past_all setting (placed (random_files seed lines) s.world.vault) s w (world_is places.1) result u none comes)
 
   some_placed : PlacesSome files m.vault v → PlacesSome (random_files seed lines) s.world.vault v
   some_placed some =
@@ -67,7 +67,7 @@ module _ (setting : Setting) (seed lines : ℕ) (s : RunState) (files : List Ran
   pub not_placed : (refuse : Refuse LoadFault) → Places {T = Unit {0}} (Err refuse) files m.vault v
       → ComesTo (Err refuse) (attempted setting seed lines s) (AttemptStops setting seed lines s) (state_of s.slots w)
   not_placed (Named fault) places =
-      behind_fault setting (placed (random_files seed lines) s.world.vault) s w (world_is places.1) (AttemptStops setting seed lines s) fault
+      after_fault setting (placed (random_files seed lines) s.world.vault) s w (world_is places.1) (AttemptStops setting seed lines s) fault
       (ap (λ (q : Placed). q.fault) (sym same) ∙ places.0)
   not_placed NoMemory places = inr (inr (inl (v, some_placed places, ap (state_of s.slots) (rest ∙ ap (with_vault v) root))))
 

@@ -20,7 +20,7 @@ use Rattle.cmd_run.specs.pam_library.specs.Step.{StepsAs, stepped}
 use Rattle.cmd_run.specs.State.{RunState, Setting, state_of}
 use Rattle.cmd_run.specs.Step.{CallFails}
 use Rattle.cmd_generate.specs.declared.login.Login.{Login}
-use Rattle.cmd_generate.specs.Login.{Attempt, Authenticates, ComesTo, LoginStops, Starts, Tries, authenticate_call, behind_start, called}
+use Rattle.cmd_generate.specs.Login.{Attempt, Authenticates, ComesTo, LoginStops, Starts, Tries, authenticate_call, after_start, called}
 use Rattle.cmd_generate.specs.Login.{end_status, ended, logged_in, login_of, refusal_in, start_call, state_in, step_of}
 
 -- ---- slots that are closed
@@ -87,14 +87,14 @@ module _ (setting : Setting) where
       → u ≡ ended setting (number_of (end_status result)) t
       → ComesTo result (logged_in setting s) (LoginStops setting s) u
   came (Ok login) s t u none tries e = (
-    ap (λ (o : Option LoadFault). (behind_start setting o (state_in (called setting s start_call))).result) tries.0 ∙ ap Ok (sym tries.1),
-    e ∙ ap (ended setting 0) tries.2 ∙ sym (ap (λ (o : Option LoadFault). (behind_start setting o (state_in (called setting s start_call))).state) tries.0),
+    ap (λ (o : Option LoadFault). (after_start setting o (state_in (called setting s start_call))).result) tries.0 ∙ ap Ok (sym tries.1),
+    e ∙ ap (ended setting 0) tries.2 ∙ sym (ap (λ (o : Option LoadFault). (after_start setting o (state_in (called setting s start_call))).state) tries.0),
   )
   came (Err (Named fault)) s t u none tries e =
       let b = state_in (called setting s start_call) in (
-        ap (λ (o : Option LoadFault). (behind_start setting o b).result) tries.0,
+        ap (λ (o : Option LoadFault). (after_start setting o b).result) tries.0,
         e ∙ ap (ended setting 0) tries.1 ∙ closed_stays setting 0 b.slots b.world (refused_is_closed s.slots s.world fault none tries.0)
-            ∙ sym (ap (λ (o : Option LoadFault). (behind_start setting o b).state) tries.0),
+            ∙ sym (ap (λ (o : Option LoadFault). (after_start setting o b).state) tries.0),
       )
   came (Err NoMemory) s t u none tries e = (t, tries, e)
 

@@ -12,10 +12,10 @@ use Rattle.random_config.specs.Files.{name_of, substack_line}
 use Rattle.random_config.specs.Line.{answer_words, default_words, random_line, line_text, picked, success_words}
 use Rattle.service_load.specs.conf_lex.specs.declared.token.Token.{Token}
 use Rattle.service_load.specs.conf_lex.specs.Piece.{Piece, bracket, goes_on, newline, plain, single, spelling, units_bytes, units_text, white}
-use Rattle.service_load.specs.conf_lex.specs.Reading.{first_piece, pieces_behind, pieces_of, run_of, units_behind}
+use Rattle.service_load.specs.conf_lex.specs.Reading.{first_piece, pieces_after, pieces_of, run_of, units_after}
 use Rattle.service_load.specs.control_words.specs.declared.control.Action.{Action}
 use Rattle.service_load.specs.control_words.specs.declared.control.Action.TheVariants as actions
-use Rattle.service_load.specs.control_words.specs.Entries.{entries_behind, entries_in}
+use Rattle.service_load.specs.control_words.specs.Entries.{entries_after, entries_in}
 use Rattle.service_load.specs.declared.entry.RuleContent.TheVariants.{Line}
 use Rattle.service_load.specs.declared.rule_type.RuleType.TheVariants.{Auth}
 use Rattle.service_load.specs.Entry.{entry_of}
@@ -119,43 +119,43 @@ record Head (s d : List ℕ) (x y : Action) : Type 0 where
       ≡ Ok (record { line = n; rule_type = Some Auth; content = Line (random_rule x y a) })
 
 heads_ok : (m : ℕ) → Head (codes "ok") (picked default_words m) actions.Ok (action_picked default_actions m)
-unfolding entry_of entries_in entries_behind first_piece pieces_behind units_behind
+unfolding entry_of entries_in entries_after first_piece pieces_after units_after
 heads_ok m = pick_default (λ d y. Head (codes "ok") d actions.Ok y) (record { reads = λ more. refl; says = λ n a. refl })
     (record { reads = λ more. refl; says = λ n a. refl }) (record { reads = λ more. refl; says = λ n a. refl })
     (record { reads = λ more. refl; says = λ n a. refl }) m
 
 heads_done : (m : ℕ) → Head (codes "done") (picked default_words m) actions.Done (action_picked default_actions m)
-unfolding entry_of entries_in entries_behind first_piece pieces_behind units_behind
+unfolding entry_of entries_in entries_after first_piece pieces_after units_after
 heads_done m = pick_default (λ d y. Head (codes "done") d actions.Done y) (record { reads = λ more. refl; says = λ n a. refl })
     (record { reads = λ more. refl; says = λ n a. refl }) (record { reads = λ more. refl; says = λ n a. refl })
     (record { reads = λ more. refl; says = λ n a. refl }) m
 
 heads_ignore : (m : ℕ) → Head (codes "ignore") (picked default_words m) actions.Ignore (action_picked default_actions m)
-unfolding entry_of entries_in entries_behind first_piece pieces_behind units_behind
+unfolding entry_of entries_in entries_after first_piece pieces_after units_after
 heads_ignore m = pick_default (λ d y. Head (codes "ignore") d actions.Ignore y) (record { reads = λ more. refl; says = λ n a. refl })
     (record { reads = λ more. refl; says = λ n a. refl }) (record { reads = λ more. refl; says = λ n a. refl })
     (record { reads = λ more. refl; says = λ n a. refl }) m
 
 heads_reset : (m : ℕ) → Head (codes "reset") (picked default_words m) actions.Reset (action_picked default_actions m)
-unfolding entry_of entries_in entries_behind first_piece pieces_behind units_behind
+unfolding entry_of entries_in entries_after first_piece pieces_after units_after
 heads_reset m = pick_default (λ d y. Head (codes "reset") d actions.Reset y) (record { reads = λ more. refl; says = λ n a. refl })
     (record { reads = λ more. refl; says = λ n a. refl }) (record { reads = λ more. refl; says = λ n a. refl })
     (record { reads = λ more. refl; says = λ n a. refl }) m
 
 heads_1 : (m : ℕ) → Head (codes "1") (picked default_words m) (actions.Jump 1) (action_picked default_actions m)
-unfolding entry_of entries_in entries_behind first_piece pieces_behind units_behind
+unfolding entry_of entries_in entries_after first_piece pieces_after units_after
 heads_1 m = pick_default (λ d y. Head (codes "1") d (actions.Jump 1) y) (record { reads = λ more. refl; says = λ n a. refl })
     (record { reads = λ more. refl; says = λ n a. refl }) (record { reads = λ more. refl; says = λ n a. refl })
     (record { reads = λ more. refl; says = λ n a. refl }) m
 
 heads_2 : (m : ℕ) → Head (codes "2") (picked default_words m) (actions.Jump 2) (action_picked default_actions m)
-unfolding entry_of entries_in entries_behind first_piece pieces_behind units_behind
+unfolding entry_of entries_in entries_after first_piece pieces_after units_after
 heads_2 m = pick_default (λ d y. Head (codes "2") d (actions.Jump 2) y) (record { reads = λ more. refl; says = λ n a. refl })
     (record { reads = λ more. refl; says = λ n a. refl }) (record { reads = λ more. refl; says = λ n a. refl })
     (record { reads = λ more. refl; says = λ n a. refl }) m
 
 heads_3 : (m : ℕ) → Head (codes "3") (picked default_words m) (actions.Jump 3) (action_picked default_actions m)
-unfolding entry_of entries_in entries_behind first_piece pieces_behind units_behind
+unfolding entry_of entries_in entries_after first_piece pieces_after units_after
 heads_3 m = pick_default (λ d y. Head (codes "3") d (actions.Jump 3) y) (record { reads = λ more. refl; says = λ n a. refl })
     (record { reads = λ more. refl; says = λ n a. refl }) (record { reads = λ more. refl; says = λ n a. refl })
     (record { reads = λ more. refl; says = λ n a. refl }) m
@@ -168,7 +168,7 @@ record Tail (a : List ℕ) : Type 0 where
   pub reads : (rest : List ℕ) → pieces_of (tail_text a ++ rest) ≡ tail a ++ newline ∷ pieces_of rest
 
 tail_at : (n : ℕ) → Tail (picked answer_words n)
-unfolding first_piece pieces_behind
+unfolding first_piece pieces_after
 tail_at n = pick_answer Tail (record { reads = λ rest. refl }) (record { reads = λ rest. refl }) (record { reads = λ rest. refl }) n
 
 -- ---- texts one after another
@@ -318,8 +318,8 @@ mild_feed [] all = refl
 mild_feed (d ∷ ds) all = rw (all.0.no_feed, mild_feed ds all.1) refl
 
 -- the pieces after a run
-passed : (ds rest : List ℕ) → pieces_behind (length ds) (ds ++ 10 ∷ rest) ≡ newline ∷ pieces_of rest
-unfolding pieces_behind first_piece
+passed : (ds rest : List ℕ) → pieces_after (length ds) (ds ++ 10 ∷ rest) ≡ newline ∷ pieces_of rest
+unfolding pieces_after first_piece
 passed [] rest = refl
 passed (d ∷ ds) rest = passed ds rest
 
@@ -336,11 +336,11 @@ module _ (k : ℕ) (few : k < 1000) where
   run_read : (text run : List ℕ) → run_of text ≡ run
       → pieces_of (codes "auth substack gen." ++ text)
       ≡ plain (codes "auth") ∷ white 32 ∷ plain (codes "substack") ∷ white 32 ∷ plain (codes "gen." ++ run)
-      ∷ pieces_behind (length (codes "gen." ++ run) - 1) (codes "en." ++ text)
-  unfolding pieces_behind first_piece
+      ∷ pieces_after (length (codes "gen." ++ run) - 1) (codes "en." ++ text)
+  unfolding pieces_after first_piece
   run_read text run e = subst (λ (r : List ℕ). pieces_of (codes "auth substack gen." ++ text)
       ≡ plain (codes "auth") ∷ white 32 ∷ plain (codes "substack") ∷ white 32 ∷ plain (codes "gen." ++ r)
-      ∷ pieces_behind (length (codes "gen." ++ r) - 1) (codes "en." ++ text)) e refl
+      ∷ pieces_after (length (codes "gen." ++ r) - 1) (codes "en." ++ text)) e refl
 
   named_read : (rest : List ℕ) → pieces_of (substack_line k ++ rest) ≡ naming ++ newline ∷ pieces_of rest
   named_read rest =
@@ -348,7 +348,7 @@ module _ (k : ℕ) (few : k < 1000) where
       let count : length (codes "gen." ++ ds) - 1 ≡ length (codes "en." ++ ds) = omega arith in
       ap (λ (z : List ℕ). pieces_of (codes "auth substack gen." ++ z)) text
       ∙ run_read (ds ++ 10 ∷ rest) ds (runs ds rest mild)
-      ∙ ap (λ (z : List Piece). naming ++ z) (ap (λ (n : ℕ). pieces_behind n (codes "en." ++ (ds ++ 10 ∷ rest))) count ∙ passed (codes "en." ++ ds) rest)
+      ∙ ap (λ (z : List Piece). naming ++ z) (ap (λ (n : ℕ). pieces_after n (codes "en." ++ (ds ++ 10 ∷ rest))) count ∙ passed (codes "en." ++ ds) rest)
 
   named_says : (n : ℕ) → entry_of true (record { line = n; tokens = word (codes "auth") ∷ word (codes "substack") ∷ word (name_of k) ∷ [] })
       ≡ Ok (record { line = n; rule_type = Some Auth; content = substack_content k })

@@ -13,10 +13,10 @@ use Rattle.service_load.specs.declared.entry.RuleContent.{RuleContent}
 use Rattle.service_load.specs.declared.rule_file.RuleFile.{RuleFile}
 use Rattle.service_load.specs.declared.rule_type.RuleType.{RuleType}
 use Rattle.service_load.specs.declared.rule_type.RuleType.TheVariants.{Auth, Account, Password, Session}
-use Rattle.service_load.specs.Entry.{folder_name}
+use Rattle.service_load.specs.Entry.{directory_name}
 use Rattle.service_load.specs.Files.{Held, absent, held, held_text, is_absent, plain_file, rules_held}
 use Rattle.service_load.specs.FirstFault.{Counts, Stop, asked, fault_at, held_file, look}
-use Rattle.service_load.specs.Load.{has_folder, loaded, loaded_from}
+use Rattle.service_load.specs.Load.{directory_exists, loaded, loaded_from}
 use Rattle.service_load.specs.Loading.{texts_of}
 use Rattle.service_load.specs.Order.{Item, Opener, as_last, as_other, as_service, by_rule, content_items, items, file_items, items_of}
 use Rattle.service_load.specs.Order.{opening, other_opener, tree_items, trees_items}
@@ -240,9 +240,9 @@ module _ (seed lines : ℕ) (most : lines ≤ 4096) (locks : Locks) (calls : ℕ
   loads =
       let texts = texts_of (codes "/") vault in
       let l = looked texts seed lines most (file_found seed lines most) (service_found seed lines most) (other_absent seed lines most) (next_count calls) in
-      let missing : Result Counts Stop = Err (record { fault = fault_at folder_name 0 ReadFailed; calls = next_count calls }) in (
+      let missing : Result Counts Stop = Err (record { fault = fault_at directory_name 0 ReadFailed; calls = next_count calls }) in (
         l.0,
-        ap (λ (b : Bool). cond b missing (loaded_from (has_folder vault (codes "/")) vault (codes "/") (codes "gen") (next_count calls))) (never calls)
+        ap (λ (b : Bool). cond b missing (loaded_from (directory_exists vault (codes "/")) vault (codes "/") (codes "gen") (next_count calls))) (never calls)
             ∙ ap (λ (b : Bool). loaded_from b vault (codes "/") (codes "gen") (next_count calls)) (has_directory seed lines most)
             ∙ l.1,
       )

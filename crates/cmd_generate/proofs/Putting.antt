@@ -38,9 +38,9 @@ module _ (file : RandomFile) (files : List RandomFile) (v t : VaultState) where
   some_by false e none is u some = inr (e, inr (subst (λ (x : VaultState). PlacesSome files x u) is some))
 
   -- an allocation fails after a file was stored
-  pub some_behind : (placed (file ∷ []) v).fault ≡ None → t ≡ (placed (file ∷ []) v).vault → (u : VaultState) → PlacesSome files t u
+  pub some_after : (placed (file ∷ []) v).fault ≡ None → t ≡ (placed (file ∷ []) v).vault → (u : VaultState) → PlacesSome files t u
       → PlacesSome (file ∷ files) v u
-  some_behind none is = some_by (refuses file.text v) refl none is
+  some_after none is = some_by (refuses file.text v) refl none is
 
   some_first : PlacesSome (file ∷ []) v t → PlacesSome (file ∷ files) v t
   some_first (inl same) = inl same

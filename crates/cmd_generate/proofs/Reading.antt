@@ -12,8 +12,8 @@ use Rattle.service_load.specs.conf_lex.specs.declared.token.Token.{Token}
 use Rattle.service_load.specs.conf_lex.specs.Answer.{answer_to}
 use Rattle.service_load.specs.conf_lex.specs.Lexing.{answer_at, answer_of, given, nul_line}
 use Rattle.service_load.specs.conf_lex.specs.Piece.{Piece, is_newline, is_open, newline, spelling, tokens_of}
-use Rattle.service_load.specs.conf_lex.specs.Reading.{pieces_behind, pieces_of}
-use Rattle.service_load.specs.conf_lex.specs.Rules.{JoinedLine, first_fault, in_front, line_fault, line_rules, lines_of_pieces, newlines, numbered}
+use Rattle.service_load.specs.conf_lex.specs.Reading.{pieces_after, pieces_of}
+use Rattle.service_load.specs.conf_lex.specs.Rules.{JoinedLine, first_fault, put_before, line_fault, line_rules, lines_of_pieces, newlines, numbered}
 use Rattle.service_load.specs.declared.entry.RuleContent.{RuleContent}
 use Rattle.service_load.specs.declared.rule_type.RuleType.TheVariants.{Auth}
 use Rattle.service_load.specs.Entry.{entry_of}
@@ -64,7 +64,7 @@ line_of (p ∷ ps) qs inner =
     let e : is_newline p ≡ false = first_false (is_newline p) (list_any is_newline ps) inner in
     let rest : list_any is_newline ps ≡ false = second_false (is_newline p) (list_any is_newline ps) inner in
     let lines = lines_of_pieces (ps ++ newline ∷ qs) in
-    ap (λ (b : Bool). cond b ([] ∷ lines) (in_front p lines)) e ∙ ap (in_front p) (line_of ps qs rest)
+    ap (λ (b : Bool). cond b ([] ∷ lines) (put_before p lines)) e ∙ ap (put_before p) (line_of ps qs rest)
 
 no_feeds : (text : List ℕ) → list_any is_feed text ≡ false → newlines text ≡ 0
 no_feeds [] e = refl
@@ -95,7 +95,7 @@ record Given (n : ℕ) (ls : List Ruled) : Type 0 where
   pub entries : filter_map (λ (r : RawRule). result_ok (entry_of true r)) rules ≡ entries_from n (contents_in ls)
 
 lines_given : (n : ℕ) (ls : List Ruled) → Given n ls
-unfolding pieces_behind
+unfolding pieces_after
 lines_given n [] = record { rules = []; are = refl; fine = refl; entries = refl }
 lines_given n (l ∷ ls) =
     let more = lines_given (n + 1) ls in

@@ -8,7 +8,7 @@ use Rattle.std.proofs.lemmas.Fmt.{decimal_injective}
 use Rattle.std.proofs.lemmas.Slice.Eq.{bytes_eq-Decides}
 use Rattle.pam_outside.specs.Counts.{fails_next, next_count}
 use Rattle.pam_outside.specs.declared.vault.TheConstants.{MAX_FILE}
-use Rattle.pam_outside.specs.Files.{File, Locks, VaultState, counted, file_at, file_put, is_below, is_folder}
+use Rattle.pam_outside.specs.Files.{File, Locks, VaultState, counted, file_at, file_put, is_below, is_directory}
 use Rattle.random_config.specs.declared.files.RandomFile.{RandomFile}
 use Rattle.random_config.specs.Files.{count_of, random_file, random_files, name_of, service, text_of}
 use Rattle.cmd_generate.specs.Placing.{Placed, fault_of, path_of_service, placed}
@@ -69,12 +69,12 @@ module _ (path bytes : List ℕ) where
   or_true false = refl
 
   module _ (folder : List ℕ) (below : is_below folder path ≡ true) where
-    in_by : (f : File) (fs : List File) (b : Bool) → is_folder folder (file_put path bytes fs) ≡ true
-        → is_folder folder (cond b (it ∷ fs) (f ∷ file_put path bytes fs)) ≡ true
+    in_by : (f : File) (fs : List File) (b : Bool) → is_directory folder (file_put path bytes fs) ≡ true
+        → is_directory folder (cond b (it ∷ fs) (f ∷ file_put path bytes fs)) ≡ true
     in_by f fs true more = rw below refl
     in_by f fs false more = rw more (or_true (is_below folder f.path))
 
-    put_below : (files : List File) → is_folder folder (file_put path bytes files) ≡ true
+    put_below : (files : List File) → is_directory folder (file_put path bytes files) ≡ true
     put_below [] = rw below refl
     put_below (f ∷ fs) = in_by f fs (bytes_eq f.path path) (put_below fs)
 
@@ -173,8 +173,8 @@ module _ (seed lines : ℕ) where
     pub other_absent : file_at (codes "/etc/pam.d/other") all ≡ None
     other_absent = untouched (random_files seed lines) (codes "/etc/pam.d/other") (none_is_other 1 (count_of lines)) []
 
-    pub has_directory : is_folder (codes "/etc/pam.d") all ≡ true
+    pub has_directory : is_directory (codes "/etc/pam.d") all ≡ true
     has_directory =
-        ap (is_folder (codes "/etc/pam.d")) (puts_last (map (random_file seed lines) (range_with_len 1 (count_of lines))) (service (count_of lines)) [])
+        ap (is_directory (codes "/etc/pam.d")) (puts_last (map (random_file seed lines) (range_with_len 1 (count_of lines))) (service (count_of lines)) [])
         ∙ put_below service_path (service (count_of lines)).text (codes "/etc/pam.d") refl
         (puts (map (random_file seed lines) (range_with_len 1 (count_of lines))) [])

@@ -13,9 +13,9 @@ use Rattle.service_load.specs.declared.load_fault.LoadFault.{LoadFault}
 use Rattle.service_load.specs.FirstFault.{Counts, Stop}
 use Rattle.service_load.specs.Load.{loaded}
 use Rattle.cmd_generate.specs.declared.generating.Generated.TheVariants as generated
-use Rattle.cmd_generate.specs.Generated.{behind_files, found_by, from_root, generation}
+use Rattle.cmd_generate.specs.Generated.{after_files, found_by, from_root, generation}
 use Rattle.cmd_generate.specs.Loads.{IsFree, LoadsAll}
-use Rattle.cmd_generate.specs.Login.{behind_start, called, refusal_in, start_call, state_in}
+use Rattle.cmd_generate.specs.Login.{after_start, called, refusal_in, start_call, state_in}
 use Rattle.cmd_generate.specs.Placing.{Placed, placed, with_vault}
 use Rattle.cmd_generate.proofs.Lengths.{all_short}
 use Rattle.cmd_generate.proofs.Loading.{loads}
@@ -62,6 +62,6 @@ module _ (setting : Setting) where
       let p : Placed = placed (random_files seed lines) s.world.vault in
       let l = loads_all seed lines s.world.vault most free in
       let from : RunState = state_of s.slots (with_vault p.vault (from_root s.world)) in
-      ap (λ (fault : Option LoadFault). found_by (behind_files setting fault from).result) l.none
-      ∙ ap (λ (fault : Option LoadFault). found_by (behind_start setting fault (state_in (called setting from start_call))).result)
+      ap (λ (fault : Option LoadFault). found_by (after_files setting fault from).result) l.none
+      ∙ ap (λ (fault : Option LoadFault). found_by (after_start setting fault (state_in (called setting from start_call))).result)
       (starts s.slots (with_vault p.vault (from_root s.world)) l.counts l.no_fault)

@@ -28,15 +28,15 @@ from_root w = record w { process = record w.process { root = codes "/"; caller =
 
 module _ (setting : Setting) where
   -- the login, if all files were stored
-  abbrev pub behind_files : Option LoadFault → RunState → Attempt
-  behind_files (Some fault) s = record { result = Err fault; state = s }
-  behind_files None s = logged_in setting s
+  abbrev pub after_files : Option LoadFault → RunState → Attempt
+  after_files (Some fault) s = record { result = Err fault; state = s }
+  after_files None s = logged_in setting s
 
   -- the files generated from a seed are stored, and the service authenticates a user
   abbrev pub attempted : ℕ → ℕ → RunState → Attempt
   attempted seed lines s =
       let p = placed (random_files seed lines) s.world.vault in
-      behind_files p.fault (state_of s.slots (with_vault p.vault (from_root s.world)))
+      after_files p.fault (state_of s.slots (with_vault p.vault (from_root s.world)))
 
   -- An allocation failed: before anything was done, before a file was stored, among the files, or in the login.
   abbrev pub AttemptStops : ℕ → ℕ → RunState → RunState → Type 0

@@ -64,13 +64,13 @@ module _ (setting : Setting) where
       record { result = Ok (login_of t.outcome); state = ended (number_of Success) (state_in t) }
 
   -- by the result of the start: if it is refused, nothing more is called
-  abbrev pub behind_start : Option LoadFault → RunState → Attempt
-  behind_start (Some fault) s = record { result = Err fault; state = s }
-  behind_start None s = authenticated s
+  abbrev pub after_start : Option LoadFault → RunState → Attempt
+  after_start (Some fault) s = record { result = Err fault; state = s }
+  after_start None s = authenticated s
 
   abbrev pub logged_in : RunState → Attempt
   logged_in s = let t = called s start_call in
-      behind_start (refusal_in t.outcome.answer) (state_in t)
+      after_start (refusal_in t.outcome.answer) (state_in t)
 
 -- ---- if an allocation fails
 

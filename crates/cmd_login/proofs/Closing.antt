@@ -17,8 +17,8 @@ use Rattle.cmd_run.specs.pam_library.specs.SlotStep.{filed_in, opened_by}
 use Rattle.cmd_run.specs.pam_library.specs.Step.{stepped}
 use Rattle.cmd_run.specs.State.{Setting, RunState, state_of}
 use Rattle.cmd_login.specs.Calls.{login_calls}
-use Rattle.cmd_login.specs.Login.{Made, course, end_call, end_code, login_behind, login_of, make, state_behind}
-use Rattle.cmd_login.proofs.Following.{behind-append}
+use Rattle.cmd_login.specs.Login.{Made, course, end_call, end_code, login_after, login_of, make, state_past}
+use Rattle.cmd_login.proofs.Following.{past_end-append}
 
 -- ---- no transaction is open
 
@@ -94,20 +94,20 @@ module _ (setting : Setting) (service : List ℕ) (user : Option (List ℕ)) whe
       closed_where_refused names conv (filed_in w) s.world s.answer e
   refused_start (opened h ∷ slots) w none e = absurd cc
 
-  last_is_end : (s : RunState) (xs : List Made) (m : Made) → state_behind s (xs ++ m ∷ []) ≡ m.state
-  last_is_end s xs m = behind-append s xs (m ∷ [])
+  last_is_end : (s : RunState) (xs : List Made) (m : Made) → state_past s (xs ++ m ∷ []) ≡ m.state
+  last_is_end s xs m = past_end-append s xs (m ∷ [])
 
   login_closed : (s : RunState) (xs : List Made) (code : Code) (t : RunState)
-      → is_open_at (slot_at (state_behind s (xs ++ make setting (end_call code) t ∷ [])).slots 1) ≡ false
+      → is_open_at (slot_at (state_past s (xs ++ make setting (end_call code) t ∷ [])).slots 1) ≡ false
   login_closed s xs code t = rw (last_is_end s xs (make setting (end_call code) t))
       (closed_by_end setting.players setting.delay (number_of code) t.slots t.world)
 
   by_refusal : (s : RunState) (start : Made) (b : Bool) → (b ≡ true → is_open_at (slot_at start.state.slots 1) ≡ false)
-      → is_open_at (slot_at (state_behind s (login_behind setting start b).made).slots 1) ≡ false
+      → is_open_at (slot_at (state_past s (login_after setting start b).made).slots 1) ≡ false
   by_refusal s start true shut = shut refl
   by_refusal s start false shut = let c = course setting login_calls Success start.state in
-      login_closed start.state c.made (end_code c.denied) (state_behind start.state c.made)
+      login_closed start.state c.made (end_code c.denied) (state_past start.state c.made)
 
-  pub login_closes : (s : RunState) → NoneIsOpen s.slots → is_open_at (slot_at (state_behind s (login_of setting service user s).made).slots 1) ≡ false
+  pub login_closes : (s : RunState) → NoneIsOpen s.slots → is_open_at (slot_at (state_past s (login_of setting service user s).made).slots 1) ≡ false
   login_closes s none = by_refusal s (make setting (calls.Start service user) s) (is_refused (make setting (calls.Start service user) s).answer)
       (refused_start s.slots s.world none)

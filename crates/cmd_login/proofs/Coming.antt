@@ -16,11 +16,11 @@ use Rattle.cmd_run.specs.State.{Setting, RunState}
 use Rattle.cmd_login.specs.declared.attempt.Verdict.{Verdict}
 use Rattle.cmd_login.specs.declared.attempt.Verdict.TheVariants.{Passed, Denied, Refused}
 use Rattle.cmd_login.specs.Ends.{closing_code}
-use Rattle.cmd_login.specs.Login.{Course, Login, Made, behind_calls, denied_line, end_call, last_line, lines_of_calls, logging_in}
-use Rattle.cmd_login.specs.Login.{login_behind, login_by_course, login_end, login_of, make, state_behind, verdict_by}
+use Rattle.cmd_login.specs.Login.{Course, Login, Made, past_calls, denied_line, end_call, last_line, lines_of_calls, logging_in}
+use Rattle.cmd_login.specs.Login.{login_after, login_by_course, login_end, login_of, make, state_past, verdict_by}
 use Rattle.cmd_login.specs.Told.{LogsInThen, LoginLeads, MakesCalls, MakesCourse, CallsLead, LogsIn, Makes, WritesDenial, as_it_is, ended_for}
 use Rattle.cmd_login.proofs.Closing.{end_of_closed, login_closes}
-use Rattle.cmd_login.proofs.Following.{Went, all_went, behind-append, goes_stopped, written_behind}
+use Rattle.cmd_login.proofs.Following.{Went, all_went, past_end-append, goes_stopped, written_after}
 
 -- ---- the last line
 
@@ -57,25 +57,25 @@ module _ (setting : Setting) where
 
   -- ---- some calls, and then the rest
 
-  to_behind : (l : Login) (result : Result Verdict Stop) (xs : List Made) (s t : RunState) (whole others : List Made) (part : List ℕ)
-      → LoginLeads setting as_it_is l result (state_behind s xs) t whole others part
-      → LoginLeads setting as_it_is (behind_calls xs l) result s t (xs ++ whole) others part
-  to_behind l (Ok verdict) xs s t whole others part h = (h.0, h.1, h.2, h.3 ∙ sym (behind-append s xs whole))
-  to_behind l (Err stop) xs s t whole [] part h = (h.0, h.1, h.2, h.3 ∙ sym (behind-append s xs whole))
-  to_behind l (Err stop) xs s t whole (m ∷ others) part h = (h.0, h.1, rw (behind-append s xs whole) h.2, h.3)
+  to_after : (l : Login) (result : Result Verdict Stop) (xs : List Made) (s t : RunState) (whole others : List Made) (part : List ℕ)
+      → LoginLeads setting as_it_is l result (state_past s xs) t whole others part
+      → LoginLeads setting as_it_is (past_calls xs l) result s t (xs ++ whole) others part
+  to_after l (Ok verdict) xs s t whole others part h = (h.0, h.1, h.2, h.3 ∙ sym (past_end-append s xs whole))
+  to_after l (Err stop) xs s t whole [] part h = (h.0, h.1, h.2, h.3 ∙ sym (past_end-append s xs whole))
+  to_after l (Err stop) xs s t whole (m ∷ others) part h = (h.0, h.1, rw (past_end-append s xs whole) h.2, h.3)
 
-  pub comes_behind : {T : Type 0} (xs : List Made) (done : T) (l : Login) (result : Result Verdict Stop) (s m t : RunState) (p q r : SinkState)
+  pub comes_after : {T : Type 0} (xs : List Made) (done : T) (l : Login) (result : Result Verdict Stop) (s m t : RunState) (p q r : SinkState)
       → MakesCalls {T = T} setting xs (Ok done) s m p q
-      → LogsInThen setting as_it_is l result m t q r → LogsInThen setting as_it_is (behind_calls xs l) result s t p r
-  comes_behind xs done l result s m t p q r g c =
+      → LogsInThen setting as_it_is l result m t q r → LogsInThen setting as_it_is (past_calls xs l) result s t p r
+  comes_after xs done l result s m t p q r g c =
       let w = all_went setting xs done s m p q g in
       record {
         whole = xs ++ c.whole;
         others = c.others;
         among = ap (λ (x : List Made). xs ++ x) c.among ∙ sym (append_assoc xs c.whole c.others);
         part = c.part;
-        written = written_behind setting xs s m p q w r c.whole c.part c.written;
-        to = to_behind l result xs s t c.whole c.others c.part (rw (← w.at) c.to);
+        written = written_after setting xs s m p q w r c.whole c.part c.written;
+        to = to_after l result xs s t c.whole c.others c.part (rw (← w.at) c.to);
       }
 
   -- ---- a call that is made or not
@@ -127,14 +127,14 @@ module _ (setting : Setting) where
   pub logs_stopped : (s t : RunState) (c : Course) (stop : Stop) (p q : SinkState) → MakesCourse setting c (Err stop) s t p q
       → LogsInThen setting as_it_is (login_by_course setting s c) (Err stop) s t p q
   logs_stopped s t c stop p q r = comes_stopped (Option Code) (login_by_course setting s c) stop s t p q
-      (goes_stopped setting (Option Code) (Option Code) stop c.made (login_end setting c.denied (state_behind s c.made)).made s t p q r.goes)
+      (goes_stopped setting (Option Code) (Option Code) stop c.made (login_end setting c.denied (state_past s c.made)).made s t p q r.goes)
 
   pub logs_on : (s m t : RunState) (c : Course) (denied : Option Code) (result : Result Verdict Stop) (p q r : SinkState)
       → MakesCourse setting c (Ok denied) s m p q
       → LogsInThen setting as_it_is (login_end setting denied m) result m t q r → LogsInThen setting as_it_is (login_by_course setting s c) result s t p r
   logs_on s m t c denied result p q r runs comes =
       let w = all_went setting c.made denied s m p q runs.goes in
-      comes_behind c.made denied (login_end setting c.denied (state_behind s c.made)) result s m t p q r runs.goes (rw (← runs.denies, ← w.at) comes)
+      comes_after c.made denied (login_end setting c.denied (state_past s c.made)) result s m t p q r runs.goes (rw (← runs.denies, ← w.at) comes)
 
   -- ---- the whole
 
@@ -142,7 +142,7 @@ module _ (setting : Setting) where
     abbrev start : Made
     start = make setting (calls.Start service user) s
 
-    first : (b : Bool) → (others : List Made) × ((login_behind setting start b).made ≡ start ∷ others)
+    first : (b : Bool) → (others : List Made) × ((login_after setting start b).made ≡ start ∷ others)
     first true = ([], refl)
     first false = ((logging_in setting start.state).made, refl)
 
@@ -179,7 +179,7 @@ module _ (setting : Setting) where
       comes_on e result u r c =
           let b : is_refused start.answer ≡ false = ap is_refused (sym is) ∙ e in
           let w = all_went setting (start ∷ []) answer s t p q g in
-          rw b (comes_behind (start ∷ []) answer (logging_in setting start.state) result s t u p q r g (rw (← w.at) c))
+          rw b (comes_after (start ∷ []) answer (logging_in setting start.state) result s t u p q r g (rw (← w.at) c))
 
     -- ---- and the transaction is ended if it is still open
 
@@ -191,7 +191,7 @@ module _ (setting : Setting) where
         → LoginLeads setting (ended_for setting) (login_of setting service user s) result s u whole others part
     ended_to (Ok verdict) t u p q c none e whole others part among h =
         let all : whole ≡ (login_of setting service user s).made = sym (append-nil whole) ∙ ap (λ (x : List Made). whole ++ x) (sym h.0) ∙ sym among in
-        let at : t ≡ state_behind s (login_of setting service user s).made = h.3 ∙ ap (state_behind s) all in
+        let at : t ≡ state_past s (login_of setting service user s).made = h.3 ∙ ap (state_past s) all in
         let shut : is_open_at (slot_at t.slots 1) ≡ false = rw at (login_closes setting service user s none) in
         (h.0, h.1, h.2, e ∙ end_of_closed setting.players setting.delay (number_of (closing_code (Ok verdict))) t.slots t.world shut ∙ h.3)
     ended_to (Err stop) t u p q c none e whole [] part among h = (h.0, h.1, h.2, e ∙ ap (ended_for setting stop) h.3)

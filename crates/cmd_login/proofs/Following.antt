@@ -3,22 +3,22 @@ use Rattle.std.proofs.Common.{◌≡◌, ℕ, List, [], ◌∷◌, ◌++◌, Res
 use Rattle.pam_outside.specs.Streams.{SinkState}
 use Rattle.record_reader.specs.declared.ending.Stop.{Stop}
 use Rattle.cmd_run.specs.State.{Setting, RunState}
-use Rattle.cmd_login.specs.Login.{Made, lines_of_calls, made_line, state_behind}
+use Rattle.cmd_login.specs.Login.{Made, lines_of_calls, made_line, state_past}
 use Rattle.cmd_login.specs.Told.{MakesCalls, CallsLead}
 
 pub lines-append : (xs ys : List Made) → lines_of_calls (xs ++ ys) ≡ lines_of_calls xs ++ lines_of_calls ys
 lines-append [] ys = refl
 lines-append (m ∷ xs) ys = ap (λ (t : List ℕ). made_line m ++ t) (lines-append xs ys) ∙ sym (append_assoc (made_line m) (lines_of_calls xs) (lines_of_calls ys))
 
-pub behind-append : (s : RunState) (xs ys : List Made) → state_behind s (xs ++ ys) ≡ state_behind (state_behind s xs) ys
-behind-append s [] ys = refl
-behind-append s (m ∷ xs) ys = behind-append m.state xs ys
+pub past_end-append : (s : RunState) (xs ys : List Made) → state_past s (xs ++ ys) ≡ state_past (state_past s xs) ys
+past_end-append s [] ys = refl
+past_end-append s (m ∷ xs) ys = past_end-append m.state xs ys
 
 module _ (setting : Setting) where
   -- all of them were made
   pub record Went (xs : List Made) (s t : RunState) (p q : SinkState) : Type 0 where
     pub written : q.written ≡ p.written ++ lines_of_calls xs
-    pub at : t ≡ state_behind s xs
+    pub at : t ≡ state_past s xs
 
   pub all_went : {T : Type 0} (xs : List Made) (done : T) (s t : RunState) (p q : SinkState) → MakesCalls {T = T} setting xs (Ok done) s t p q → Went xs s t p q
   all_went xs done s t p q g =
@@ -41,17 +41,17 @@ module _ (setting : Setting) where
   none_went s p = record { written = sym (append-nil p.written); at = refl }
 
   -- the same states, with another list before
-  to_behind : {T : Type 0} (result : Result T Stop) (xs : List Made) (s t : RunState) (whole others : List Made) (part : List ℕ)
-      → CallsLead {T = T} setting result (state_behind s xs) t whole others part
+  to_after : {T : Type 0} (result : Result T Stop) (xs : List Made) (s t : RunState) (whole others : List Made) (part : List ℕ)
+      → CallsLead {T = T} setting result (state_past s xs) t whole others part
       → CallsLead {T = T} setting result s t (xs ++ whole) others part
-  to_behind (Ok done) xs s t whole others part h = (h.0, h.1, h.2 ∙ sym (behind-append s xs whole))
-  to_behind (Err stop) xs s t whole [] part h = h
-  to_behind (Err stop) xs s t whole (m ∷ others) part h = (h.0, rw (behind-append s xs whole) h.1)
+  to_after (Ok done) xs s t whole others part h = (h.0, h.1, h.2 ∙ sym (past_end-append s xs whole))
+  to_after (Err stop) xs s t whole [] part h = h
+  to_after (Err stop) xs s t whole (m ∷ others) part h = (h.0, rw (past_end-append s xs whole) h.1)
 
   module _ (xs : List Made) (s m : RunState) (p q : SinkState) (w : Went xs s m p q) where
-    pub written_behind : (r : SinkState) (whole : List Made) (part : List ℕ) → r.written ≡ q.written ++ (lines_of_calls whole ++ part)
+    pub written_after : (r : SinkState) (whole : List Made) (part : List ℕ) → r.written ≡ q.written ++ (lines_of_calls whole ++ part)
         → r.written ≡ p.written ++ (lines_of_calls (xs ++ whole) ++ part)
-    written_behind r whole part e =
+    written_after r whole part e =
         e ∙ ap (λ (l : List ℕ). l ++ (lines_of_calls whole ++ part)) w.written
         ∙ append_assoc p.written (lines_of_calls xs) (lines_of_calls whole ++ part)
         ∙ ap (λ (l : List ℕ). p.written ++ l) (sym (append_assoc (lines_of_calls xs) (lines_of_calls whole) part)
@@ -64,8 +64,8 @@ module _ (setting : Setting) where
       others = g.others;
       among = ap (λ (l : List Made). xs ++ l) g.among ∙ sym (append_assoc xs g.whole g.others);
       part = g.part;
-      written = written_behind r g.whole g.part g.written;
-      to = to_behind result xs s t g.whole g.others g.part (rw (← w.at) g.to);
+      written = written_after r g.whole g.part g.written;
+      to = to_after result xs s t g.whole g.others g.part (rw (← w.at) g.to);
     }
 
   -- it stopped in one of these, and others would have followed

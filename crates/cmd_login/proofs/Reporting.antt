@@ -21,7 +21,7 @@ use Rattle.cmd_login.specs.declared.attempt.Verdict.TheVariants.{Passed, Refused
 use Rattle.cmd_login.specs.declared.calls.LoginCall.{LoginCall}
 use Rattle.cmd_login.specs.Calls.{accepts, call_of, code_in, is_due, login_calls}
 use Rattle.cmd_login.specs.Login.{answer_line, end_call, end_code, last_line, verdict_by}
-use Rattle.cmd_login.specs.Reported.{IsResult, Reporting, Reports, SaysBehind, SaysCalls, SaysCourse, SaysDenial, SaysLastLines, SaysLogin}
+use Rattle.cmd_login.specs.Reported.{IsResult, Reporting, Reports, SaysAfter, SaysCalls, SaysCourse, SaysDenial, SaysLastLines, SaysLogin}
 use Rattle.cmd_login.specs.Reported.{SaysMade, SaysOthers, SaysResult, SaysTurn}
 
 -- ---- one text
@@ -236,21 +236,21 @@ said_calls denied result p q r a b = reports_then (SaysCourse login_calls Succes
 some_calls : (verdict : Verdict) × (text : List ℕ) × SaysCalls verdict text
 some_calls = let c = some_course login_calls Success in let w = with_end c.0 c.1 c.2 in (w.0, c.1 ++ w.1, w.2)
 
-some_behind : (refused : Bool) → (verdict : Verdict) × (text : List ℕ) × SaysBehind refused verdict text
-some_behind true = (Refused, [], (refl, refl))
-some_behind false = some_calls
+some_after : (refused : Bool) → (verdict : Verdict) × (text : List ℕ) × SaysAfter refused verdict text
+some_after true = (Refused, [], (refl, refl))
+some_after false = some_calls
 
 module _ (service : List ℕ) (user : Option (List ℕ)) where
-  with_behind : (answer : Answer) (text : List ℕ) → SaysResult (Start service user) answer text → (verdict : Verdict) × (more : List ℕ)
+  with_after : (answer : Answer) (text : List ℕ) → SaysResult (Start service user) answer text → (verdict : Verdict) × (more : List ℕ)
       × SaysLogin service user verdict (text ++ more)
-  with_behind answer text says =
-      let b = some_behind (is_refused answer) in
+  with_after answer text says =
+      let b = some_after (is_refused answer) in
       (b.0, b.1, record { answer = answer; can = says.0; rest = b.1; text_is = ap (λ (x : List ℕ). x ++ b.1) says.1; follows = b.2 })
 
   pub said_unbegun : (stop : Stop) (p : SinkState) → Reports {T = Verdict} (SaysLogin service user) (Err stop) p p
   said_unbegun stop p =
       let start = Start service user in
-      let b = with_behind BadNumber (answer_line start BadNumber) (possible start) in
+      let b = with_after BadNumber (answer_line start BadNumber) (possible start) in
       reports_none (SaysLogin service user) stop p b.0 (answer_line start BadNumber ++ b.1) b.2
 
   module _ (call : AppCall) (is : call ≡ Start service user) where
@@ -260,15 +260,15 @@ module _ (service : List ℕ) (user : Option (List ℕ)) where
     pub said_start_stopped : (stop : Stop) (p q : SinkState) → Reports {T = Answer} (SaysResult call) (Err stop) p q
         → Reports {T = Verdict} (SaysLogin service user) (Err stop) p q
     said_start_stopped stop p q r = reports_stop (SaysResult call) (SaysLogin service user) stop p q r
-        (λ answer text says. with_behind answer text (as_start answer text says))
+        (λ answer text says. with_after answer text (as_start answer text says))
 
     module _ (answer : Answer) (p q : SinkState) (r : Reports {T = Answer} (SaysResult call) (Ok answer) p q) where
       begun : (refused : Bool) → is_refused answer ≡ refused → (verdict : Verdict) (text rest : List ℕ) → SaysResult call answer text
-          → SaysBehind refused verdict rest
+          → SaysAfter refused verdict rest
           → SaysLogin service user verdict (text ++ rest)
-      begun refused e verdict text rest says behind =
+      begun refused e verdict text rest says past_end =
           let mine = as_start answer text says in
-          record { answer = answer; can = mine.0; rest = rest; text_is = ap (λ (x : List ℕ). x ++ rest) mine.1; follows = rw e behind }
+          record { answer = answer; can = mine.0; rest = rest; text_is = ap (λ (x : List ℕ). x ++ rest) mine.1; follows = rw e past_end }
 
       pub said_refused : is_refused answer ≡ true → Reports {T = Verdict} (SaysLogin service user) (Ok Refused) p q
       said_refused e = reports_as (SaysResult call) (SaysLogin service user) answer Refused p q r (λ text says.

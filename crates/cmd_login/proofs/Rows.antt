@@ -9,7 +9,7 @@ use Rattle.pam_outside.specs.Files.{no_locks}
 use Rattle.pam_outside.specs.Paths.{path_of}
 use Rattle.cmd_run.specs.conf_lex.specs.Answer.{answer_to}
 use Rattle.cmd_run.specs.conf_lex.specs.Lexing.{answer_at}
-use Rattle.cmd_run.specs.conf_lex.specs.Reading.{first_piece, pieces_behind}
+use Rattle.cmd_run.specs.conf_lex.specs.Reading.{first_piece, pieces_after}
 use Rattle.cmd_run.specs.service_load.specs.Entry.{entry_of}
 use Rattle.cmd_run.specs.service_load.specs.FirstFault.{look}
 use Rattle.cmd_run.specs.service_load.specs.Order.{items}
@@ -63,7 +63,7 @@ all_succeed func = Code.Success
 
 passed : login_by all_succeed
     ≡ codes "1 start SUCCESS 0\n1 authenticate SUCCESS 0\n1 acct_mgmt SUCCESS 0\n1 setcred SUCCESS 0\n1 open_session SUCCESS 0\n1 close_session SUCCESS 0\n1 setcred SUCCESS 0\n1 end SUCCESS 0\n"
-unfolding course stepped digits look items answer_to answer_at pieces_behind first_piece entry_of nodes path_of
+unfolding course stepped digits look items answer_to answer_at pieces_after first_piece entry_of nodes path_of
 passed = refl
 
 denied_when_authenticating : Func → Code
@@ -71,7 +71,7 @@ denied_when_authenticating funcs.Authenticate = Code.AuthErr
 denied_when_authenticating func = Code.Success
 
 denied : login_by denied_when_authenticating ≡ codes "1 start SUCCESS 0\n1 authenticate AUTH_ERR 7\n1 end SUCCESS 0\ndenied AUTH_ERR 7\n"
-unfolding denied_when_authenticating course stepped digits look items answer_to answer_at pieces_behind first_piece entry_of nodes path_of
+unfolding denied_when_authenticating course stepped digits look items answer_to answer_at pieces_after first_piece entry_of nodes path_of
 denied = refl
 
 -- a token that is too old is changed
@@ -82,7 +82,7 @@ too_old func = Code.Success
 renewed : login_by too_old
     ≡ codes "1 start SUCCESS 0\n1 authenticate SUCCESS 0\n1 acct_mgmt NEW_AUTHTOK_REQD 12\n1 chauthtok SUCCESS 0\n1 setcred SUCCESS 0\n1 open_session SUCCESS 0\n"
     ++ codes "1 close_session SUCCESS 0\n1 setcred SUCCESS 0\n1 end SUCCESS 0\n"
-unfolding too_old course stepped digits look items answer_to answer_at pieces_behind first_piece entry_of nodes path_of
+unfolding too_old course stepped digits look items answer_to answer_at pieces_after first_piece entry_of nodes path_of
 renewed = refl
 
 -- an account that has expired, and what may go wrong after the session
@@ -91,7 +91,7 @@ expired funcs.AcctMgmt = Code.AcctExpired
 expired func = Code.Success
 
 account_denied : login_by expired ≡ codes "1 start SUCCESS 0\n1 authenticate SUCCESS 0\n1 acct_mgmt ACCT_EXPIRED 13\n1 end SUCCESS 0\ndenied ACCT_EXPIRED 13\n"
-unfolding expired course stepped digits look items answer_to answer_at pieces_behind first_piece entry_of nodes path_of
+unfolding expired course stepped digits look items answer_to answer_at pieces_after first_piece entry_of nodes path_of
 account_denied = refl
 
 session_stays : Func → Code
@@ -101,10 +101,10 @@ session_stays func = Code.Success
 passed_all_the_same : login_by session_stays
     ≡ codes "1 start SUCCESS 0\n1 authenticate SUCCESS 0\n1 acct_mgmt SUCCESS 0\n1 setcred SUCCESS 0\n1 open_session SUCCESS 0\n1 close_session SESSION_ERR 14\n"
     ++ codes "1 setcred SUCCESS 0\n1 end SUCCESS 0\n"
-unfolding session_stays course stepped digits look items answer_to answer_at pieces_behind first_piece entry_of nodes path_of
+unfolding session_stays course stepped digits look items answer_to answer_at pieces_after first_piece entry_of nodes path_of
 passed_all_the_same = refl
 
 -- a service that doesn't exist
 refused : login_text (login_of (with_answers all_succeed) (codes "u") None start) ≡ codes "refused /etc/pam.d/u 0 NoService 15\n"
-unfolding course stepped digits look items answer_to answer_at pieces_behind first_piece entry_of nodes path_of
+unfolding course stepped digits look items answer_to answer_at pieces_after first_piece entry_of nodes path_of
 refused = refl

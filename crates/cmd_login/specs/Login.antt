@@ -47,9 +47,9 @@ answer_line call answer = answer_text 1 (word_of_call call) answer
 abbrev pub made_line : Made → List ℕ
 made_line m = answer_line m.call m.answer
 
-abbrev pub state_behind : RunState → List Made → RunState
-state_behind s [] = s
-state_behind s (m ∷ made) = state_behind m.state made
+abbrev pub state_past : RunState → List Made → RunState
+state_past s [] = s
+state_past s (m ∷ made) = state_past m.state made
 
 -- ---- the calls between start and end
 
@@ -104,24 +104,24 @@ login_end setting denied s = record {
 }
 
 -- some calls come before a login's
-abbrev pub behind_calls : List Made → Login → Login
-behind_calls made l = record { made = made ++ l.made; verdict = l.verdict }
+abbrev pub past_calls : List Made → Login → Login
+past_calls made l = record { made = made ++ l.made; verdict = l.verdict }
 
 -- the calls of a course, and then the end
 abbrev pub login_by_course : Setting → RunState → Course → Login
-login_by_course setting s c = behind_calls c.made (login_end setting c.denied (state_behind s c.made))
+login_by_course setting s c = past_calls c.made (login_end setting c.denied (state_past s c.made))
 
 abbrev pub logging_in : Setting → RunState → Login
 logging_in setting s = login_by_course setting s (course setting login_calls Success s)
 
 -- after a start that was refused nothing more is done
-abbrev pub login_behind : Setting → Made → Bool → Login
-login_behind setting start true = record { made = start ∷ []; verdict = Refused }
-login_behind setting start false = behind_calls (start ∷ []) (logging_in setting start.state)
+abbrev pub login_after : Setting → Made → Bool → Login
+login_after setting start true = record { made = start ∷ []; verdict = Refused }
+login_after setting start false = past_calls (start ∷ []) (logging_in setting start.state)
 
 abbrev pub login_of : Setting → List ℕ → Option (List ℕ) → RunState → Login
 login_of setting service user s = let start = make setting (Start service user) s in
-    login_behind setting start (is_refused start.answer)
+    login_after setting start (is_refused start.answer)
 
 -- ---- what is written
 

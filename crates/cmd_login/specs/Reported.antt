@@ -87,9 +87,9 @@ pub record SaysCalls (verdict : Verdict) (text : List ℕ) : Type 0 where
   pub last_lines : SaysLastLines denied verdict end
 
 -- after a start that is refused nothing follows
-abbrev pub SaysBehind : Bool → Verdict → List ℕ → Type 0
-SaysBehind true verdict text = (verdict ≡ Refused) × (text ≡ [])
-SaysBehind false verdict text = SaysCalls verdict text
+abbrev pub SaysAfter : Bool → Verdict → List ℕ → Type 0
+SaysAfter true verdict text = (verdict ≡ Refused) × (text ≡ [])
+SaysAfter false verdict text = SaysCalls verdict text
 
 -- the line of the start, and then the others
 pub record SaysLogin (service : List ℕ) (user : Option (List ℕ)) (verdict : Verdict)
@@ -98,7 +98,7 @@ pub record SaysLogin (service : List ℕ) (user : Option (List ℕ)) (verdict : 
   pub can : IsResult (Start service user) answer
   pub rest : List ℕ
   pub text_is : text ≡ answer_line (Start service user) answer ++ rest
-  pub follows : SaysBehind (is_refused answer) verdict rest
+  pub follows : SaysAfter (is_refused answer) verdict rest
 
 -- ---- what is written
 

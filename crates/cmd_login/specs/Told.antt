@@ -14,7 +14,7 @@ use Rattle.cmd_run.specs.State.{Setting, RunState}
 use Rattle.cmd_run.specs.Step.{CallFails}
 use Rattle.cmd_login.specs.declared.attempt.Verdict.{Verdict}
 use Rattle.cmd_login.specs.declared.attempt.Verdict.TheVariants.{Passed, Denied, Refused}
-use Rattle.cmd_login.specs.Login.{Course, Login, Made, answer_line, denied_line, end_call, last_line, lines_of_calls, make, made_line, state_behind, step_of}
+use Rattle.cmd_login.specs.Login.{Course, Login, Made, answer_line, denied_line, end_call, last_line, lines_of_calls, make, made_line, state_past, step_of}
 
 -- ---- a call that stops the login
 
@@ -31,10 +31,10 @@ StopsIn setting NoMemory s m t = (t ≡ m.state) ⊎ ((t ≡ s) ⊎ CallFails se
 abbrev pub CallsLead : {T : Type 0} → Setting → Result T Stop → RunState → RunState → List Made
     → List Made → List ℕ → Type 0
 CallsLead setting (Ok done) s t whole others part = (others ≡ []) × (part ≡ [])
-    × (t ≡ state_behind s whole)
+    × (t ≡ state_past s whole)
 CallsLead setting (Err stop) s t whole [] part = ⊥
 CallsLead setting (Err stop) s t whole (m ∷ made) part = CutBy stop part (made_line m)
-    × StopsIn setting stop (state_behind s whole) m t
+    × StopsIn setting stop (state_past s whole) m t
 
 pub record MakesCalls {T : Type 0} (setting : Setting) (made : List Made) (result : Result T Stop)
     (s t : RunState) (old new : SinkState) : Type 0 where
@@ -63,23 +63,23 @@ pub record MakesCourse (setting : Setting) (c : Course) (result : Result (Option
 -- last line, or in a call. After a stop something may still be done to the state.
 abbrev pub LoginLeads : Setting → (Stop → RunState → RunState) → Login → Result Verdict Stop → RunState
     → RunState → List Made → List Made → List ℕ → Type 0
-LoginLeads setting behind l (Ok verdict) s t whole others part = (others ≡ [])
-    × (part ≡ last_line verdict) × (verdict ≡ l.verdict) × (t ≡ state_behind s whole)
-LoginLeads setting behind l (Err stop) s t whole [] part =
+LoginLeads setting past_end l (Ok verdict) s t whole others part = (others ≡ [])
+    × (part ≡ last_line verdict) × (verdict ≡ l.verdict) × (t ≡ state_past s whole)
+LoginLeads setting past_end l (Err stop) s t whole [] part =
     (code : Code) × (l.verdict ≡ Denied code) × CutBy stop part (denied_line code)
-    × (t ≡ behind stop (state_behind s whole))
-LoginLeads setting behind l (Err stop) s t whole (m ∷ made) part =
-    (d : RunState) × CutBy stop part (made_line m) × StopsIn setting stop (state_behind s whole) m d
-    × (t ≡ behind stop d)
+    × (t ≡ past_end stop (state_past s whole))
+LoginLeads setting past_end l (Err stop) s t whole (m ∷ made) part =
+    (d : RunState) × CutBy stop part (made_line m) × StopsIn setting stop (state_past s whole) m d
+    × (t ≡ past_end stop d)
 
-pub record LogsInThen (setting : Setting) (behind : Stop → RunState → RunState) (l : Login)
+pub record LogsInThen (setting : Setting) (past_end : Stop → RunState → RunState) (l : Login)
     (result : Result Verdict Stop) (s t : RunState) (old new : SinkState) : Type 0 where
   pub whole : List Made
   pub others : List Made
   pub among : l.made ≡ whole ++ others
   pub part : List ℕ
   pub written : new.written ≡ old.written ++ (lines_of_calls whole ++ part)
-  pub to : LoginLeads setting behind l result s t whole others part
+  pub to : LoginLeads setting past_end l result s t whole others part
 
 abbrev pub as_it_is : Stop → RunState → RunState
 as_it_is stop s = s

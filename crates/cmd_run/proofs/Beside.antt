@@ -16,7 +16,7 @@ use Rattle.record_reader.specs.Looked.{looked}
 use Rattle.report_step.specs.Step.{step_text}
 use Rattle.cmd_run.specs.State.{Setting, RunState}
 use Rattle.cmd_run.specs.Step.{applied_or_refused, line_step}
-use Rattle.cmd_run.specs.SideBySide.{TellsSteps, report_of_steps, step_of, steps_behind, steps_in, steps_of}
+use Rattle.cmd_run.specs.SideBySide.{TellsSteps, report_of_steps, step_of, steps_after, steps_in, steps_of}
 
 module _ (setting : Setting) where
   -- a line that was applied, by the step as which it is read
@@ -84,7 +84,7 @@ module _ (setting : Setting) where
 
   slots_by : (n : ℕ) (s : RunState) (l : List ℕ) (ls : List (List ℕ)) → ((t : RunState) → SlotsAre t (steps_in setting (n + 1) t ls) (rest_of n ls t).last)
       → (r : Result (RunState × List ℕ) ScriptKind) → step_at (line_step setting) n s l ≡ r
-      → SlotsAre s (steps_behind setting s l r (λ t. steps_in setting (n + 1) t ls)) (after n s r (rest_of n ls)).last
+      → SlotsAre s (steps_after setting s l r (λ t. steps_in setting (n + 1) t ls)) (after n s r (rest_of n ls)).last
   slots_by n s l ls next (Ok x) e =
       slots-append (step_of s (parsed l)) (steps_in setting (n + 1) x.0 ls) s.slots
       ∙ ap (λ (slots : List PlainSlot). slots_after setting.players setting.delay slots (steps_in setting (n + 1) x.0 ls))
@@ -100,15 +100,15 @@ module _ (setting : Setting) where
   text_by : (n : ℕ) (s : RunState) (l : List ℕ) (ls : List (List ℕ))
       → ((t : RunState) → (rest_of n ls t).text ≡ report_of_steps setting t.slots (steps_in setting (n + 1) t ls))
       → (r : Result (RunState × List ℕ) ScriptKind) → step_at (line_step setting) n s l ≡ r
-      → (after n s r (rest_of n ls)).text ≡ report_of_steps setting s.slots (steps_behind setting s l r (λ t. steps_in setting (n + 1) t ls))
+      → (after n s r (rest_of n ls)).text ≡ report_of_steps setting s.slots (steps_after setting s l r (λ t. steps_in setting (n + 1) t ls))
   text_by n s l ls next (Ok x) e =
       let read = as_read n s l x e in
-      let behind = steps_in setting (n + 1) x.0 ls in
+      let past_end = steps_in setting (n + 1) x.0 ls in
       ap (λ (t : List ℕ). x.1 ++ t) (next x.0)
-      ∙ ap (λ (t : List ℕ). t ++ report_of_steps setting x.0.slots behind) (sym (one_text s (parsed l) x read))
-      ∙ ap (λ (slots : List PlainSlot). report_of_steps setting s.slots (step_of s (parsed l)) ++ report_of_steps setting slots behind)
+      ∙ ap (λ (t : List ℕ). t ++ report_of_steps setting x.0.slots past_end) (sym (one_text s (parsed l) x read))
+      ∙ ap (λ (slots : List PlainSlot). report_of_steps setting s.slots (step_of s (parsed l)) ++ report_of_steps setting slots past_end)
       (sym (one_slots s (parsed l) x read))
-      ∙ sym (report-append (step_of s (parsed l)) behind s.slots)
+      ∙ sym (report-append (step_of s (parsed l)) past_end s.slots)
   text_by n s l ls next (Err kind) e = refl
 
   pub text_in : (n : ℕ) (s : RunState) (ls : List (List ℕ))

@@ -22,12 +22,12 @@ use Rattle.cmd_run.specs.Step.{Fails}
 use Rattle.cmd_run.specs.Whole.{Completes, RunsScript, script_last}
 use Rattle.cmd_run.proofs.Asking.{AllLooked, by_ending, by_line, by_stop}
 use Rattle.cmd_run.proofs.Consuming.{script_left, script_read}
-use Rattle.cmd_run.proofs.Cutting.{cut_behind, cut_short}
-use Rattle.cmd_run.proofs.Happening.{CallsStand, EndStands, run_stands}
-use Rattle.cmd_run.proofs.Wholly.{ended_run, stopped_behind, stopped_lines}
+use Rattle.cmd_run.proofs.Cutting.{cut_after, cut_short}
+use Rattle.cmd_run.proofs.Happening.{CallsAddEvents, EndStands, run_stands}
+use Rattle.cmd_run.proofs.Wholly.{ended_run, stopped_after, stopped_lines}
 
 -- if all objects are modelled
-pub runs_script : AllLooked → ((setting : Setting) → CallsStand setting) → ((setting : Setting) (code : Code) → EndStands setting.players code)
+pub runs_script : AllLooked → ((setting : Setting) → CallsAddEvents setting) → ((setting : Setting) (code : Code) → EndStands setting.players code)
     → (setting : Setting) (result : Result Ending Stop) (start end : RunState) (x y : SourceState) (p q : SinkState)
     → RunsOrStops looked line_asked as_it_is script_last script_step Fails setting result start end x y p q → RunsScript setting result start end x y p q
 runs_script all calls ends setting (Ok ending) start end x y p q r =
@@ -38,8 +38,8 @@ runs_script all calls ends setting (Err stop) start end x y p q (inl r) =
     stopped_lines setting start x y p q all stop r.items r.last end r.serves.runs r.stops.closed
     (λ text written. cut_short setting all (calls setting) (stop_status stop) r.items start r.last end x.left text p q r.serves.served r.stops.closes written)
 runs_script all calls ends setting (Err stop) start end x y p q (inr r) =
-    stopped_behind setting start x y p r.between r.ending r.items r.last r.middle q r.serves.runs stop end r.ends r.stops.closed
-    (cut_behind setting all (calls setting) (ending_status r.ending) (stop_status stop) r.items start r.last end r.middle.world.process.ledger
+    stopped_after setting start x y p r.between r.ending r.items r.last r.middle q r.serves.runs stop end r.ends r.stops.closed
+    (cut_after setting all (calls setting) (ending_status r.ending) (stop_status stop) r.items start r.last end r.middle.world.process.ledger
     (lists_of r.middle.slots) x.left p r.between
     r.serves.served r.closes r.stops.closes)
 

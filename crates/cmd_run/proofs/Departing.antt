@@ -10,7 +10,7 @@ use Rattle.report_step.specs.pam_room.specs.State.{PlainWorld}
 use Rattle.report_step.specs.pam_library.specs.Alike.{AreAlike}
 use Rattle.report_step.specs.pam_library.specs.Slots.{PlainSlot, closed, opened, slot_at}
 use Rattle.report_step.specs.pam_library.specs.Step.{Stepped, stepped, stepped_at}
-use Rattle.cmd_run.specs.Closings.{all_closed, closings_behind, last_state, world_behind}
+use Rattle.cmd_run.specs.Closings.{all_closed, closings_after, last_state, world_after}
 use Rattle.cmd_run.specs.State.{RunState, Setting, state_of}
 use Rattle.cmd_run.specs.Isolation.{world_left}
 use Rattle.cmd_run.proofs.Isolating.{Alike, OtherCalls, OwnCalls}
@@ -65,53 +65,53 @@ module _ (setting : Setting) (status : Code) where
       ap (ends_from (suc i) k) stays ∙ none_left k (suc i) s (omega arith)
 
   -- a slot after its end
-  abbrev pub left_behind : PlainSlot → PlainSlot
-  left_behind (closed conv) = closed conv
-  left_behind (opened h) = closed h.room.conv
+  abbrev pub left_after : PlainSlot → PlainSlot
+  left_after (closed conv) = closed conv
+  left_after (opened h) = closed h.room.conv
 
   ends_place : (x : PlainSlot) (front slots : List PlainSlot) (w : PlainWorld)
       → by_place (suc (length front)) (state_of (front ++ x ∷ slots) w) (Some x)
-      ≡ state_of (front ++ left_behind x ∷ slots) (world_left setting.players status x w)
+      ≡ state_of (front ++ left_after x ∷ slots) (world_left setting.players status x w)
   ends_place (closed conv) front slots w = ap (λ (l : List PlainSlot). state_of l w) (set_at_front front slots (closed conv) (closed conv))
-  ends_place (opened h) front slots w = ap (λ (l : List PlainSlot). state_of l (world_behind setting.players status h w))
+  ends_place (opened h) front slots w = ap (λ (l : List PlainSlot). state_of l (world_after setting.players status h w))
       (set_at_front front slots (opened h) (closed h.room.conv))
 
   pub ends_next : (x : PlainSlot) (front slots : List PlainSlot) (i : ℕ) (w : PlainWorld) → i ≡ length front
-      → end_at (suc i) (state_of (front ++ x ∷ slots) w) ≡ state_of (front ++ left_behind x ∷ slots) (world_left setting.players status x w)
+      → end_at (suc i) (state_of (front ++ x ∷ slots) w) ≡ state_of (front ++ left_after x ∷ slots) (world_left setting.players status x w)
   ends_next x front slots i w at =
       ap (λ (j : ℕ). end_at (suc j) (state_of (front ++ x ∷ slots) w)) at
       ∙ by_found (suc (length front)) (state_of (front ++ x ∷ slots) w) (Some x) (at_front front slots x)
       ∙ ends_place x front slots w
 
-  behind_all : (x : PlainSlot) (front slots : List PlainSlot) (w : PlainWorld) →
-      last_state (state_of (front ++ x ∷ slots) w) (closings_behind setting.players status front (x ∷ slots) w)
-      ≡ last_state (state_of ((front ++ left_behind x ∷ []) ++ slots) (world_left setting.players status x w))
-      (closings_behind setting.players status (front ++ left_behind x ∷ []) slots (world_left setting.players status x w))
-  unfolding closings_behind
-  behind_all (closed conv) front slots w =
-      ap (λ (l : List PlainSlot). last_state (state_of l w) (closings_behind setting.players status (front ++ closed conv ∷ []) slots w))
+  past_all : (x : PlainSlot) (front slots : List PlainSlot) (w : PlainWorld) →
+      last_state (state_of (front ++ x ∷ slots) w) (closings_after setting.players status front (x ∷ slots) w)
+      ≡ last_state (state_of ((front ++ left_after x ∷ []) ++ slots) (world_left setting.players status x w))
+      (closings_after setting.players status (front ++ left_after x ∷ []) slots (world_left setting.players status x w))
+  unfolding closings_after
+  past_all (closed conv) front slots w =
+      ap (λ (l : List PlainSlot). last_state (state_of l w) (closings_after setting.players status (front ++ closed conv ∷ []) slots w))
       (sym (append_assoc front (closed conv ∷ []) slots))
-  behind_all (opened h) front slots w =
-      ap (λ (l : List PlainSlot). last_state (state_of l (world_behind setting.players status h w))
-      (closings_behind setting.players status (front ++ closed h.room.conv ∷ []) slots (world_behind setting.players status h w)))
+  past_all (opened h) front slots w =
+      ap (λ (l : List PlainSlot). last_state (state_of l (world_after setting.players status h w))
+      (closings_after setting.players status (front ++ closed h.room.conv ∷ []) slots (world_after setting.players status h w)))
       (sym (append_assoc front (closed h.room.conv ∷ []) slots))
 
   closed_by_calls : (slots front : List PlainSlot) (i k : ℕ) (w : PlainWorld) → i ≡ length front → length slots ≤ k →
-      last_state (state_of (front ++ slots) w) (closings_behind setting.players status front slots w) ≡ ends_from i k (state_of (front ++ slots) w)
-  unfolding closings_behind ends_from
+      last_state (state_of (front ++ slots) w) (closings_after setting.players status front slots w) ≡ ends_from i k (state_of (front ++ slots) w)
+  unfolding closings_after ends_from
   closed_by_calls [] front i k w at fits =
       let all : length (front ++ []) ≤ i = subst (λ (l : List PlainSlot). length l ≤ i) (sym (append-nil front)) (omega (arith, at)) in
       sym (none_left k i (state_of (front ++ []) w) all)
   closed_by_calls (x ∷ slots) front i zero w at fits = absurd (omega arith)
   closed_by_calls (x ∷ slots) front i (suc k) w at fits =
-      let more : List PlainSlot = front ++ left_behind x ∷ [] in
+      let more : List PlainSlot = front ++ left_after x ∷ [] in
       let v : PlainWorld = world_left setting.players status x w in
-      let next : suc i ≡ length more = ap suc at ∙ sym (one_longer front (left_behind x)) in
-      let rest : last_state (state_of (more ++ slots) v) (closings_behind setting.players status more slots v)
+      let next : suc i ≡ length more = ap suc at ∙ sym (one_longer front (left_after x)) in
+      let rest : last_state (state_of (more ++ slots) v) (closings_after setting.players status more slots v)
       ≡ ends_from (suc i) k (state_of (more ++ slots) v) = closed_by_calls slots more (suc i) k v next (omega arith) in
-      behind_all x front slots w
+      past_all x front slots w
       ∙ rest
-      ∙ ap (λ (l : List PlainSlot). ends_from (suc i) k (state_of l v)) (append_assoc front (left_behind x ∷ []) slots)
+      ∙ ap (λ (l : List PlainSlot). ends_from (suc i) k (state_of l v)) (append_assoc front (left_after x ∷ []) slots)
       ∙ ap (ends_from (suc i) k) (sym (ends_next x front slots i w at))
 
   all_by_calls : (s : RunState) (k : ℕ) → length s.slots ≤ k → all_closed setting.players status s ≡ ends_from 0 k s

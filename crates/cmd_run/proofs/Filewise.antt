@@ -17,8 +17,8 @@ use Rattle.script_lang.specs.declared.line.Line.TheVariants as lines
 use Rattle.script_lang.specs.Line.{parsed}
 use Rattle.record_reader.specs.Run.{after, run_items}
 use Rattle.record_reader.specs.LineRun.{run_lines, step_at}
-use Rattle.cmd_run.specs.Closings.{all_closed, closings_behind, last_state, world_behind}
-use Rattle.cmd_run.specs.SideBySide.{step_of, steps_behind, steps_in}
+use Rattle.cmd_run.specs.Closings.{all_closed, closings_after, last_state, world_after}
+use Rattle.cmd_run.specs.SideBySide.{step_of, steps_after, steps_in}
 use Rattle.cmd_run.specs.State.{RunState, Setting, state_of}
 use Rattle.cmd_run.specs.Step.{applied, applied_or_refused, line_step}
 use Rattle.cmd_run.specs.Visits.{StepsAsk}
@@ -73,30 +73,30 @@ module _ (setting : Setting) (asks : AllStepsAsk) (at_once : AllStepsAskAtOnce) 
       either s (parsed line) (nat_le 65536 n) (Err TooManyLines) _ tt (either s (parsed line) (nat_lt 513 (length line)) (Err LineTooLong) _ tt
       (parsed_leads s (parsed line)))
 
-  behind : (n : ℕ) (s : RunState) (l : List ℕ) (ls : List (List ℕ)) (r : Result (RunState × List ℕ) ScriptKind) → LineLeads s (parsed l) r
+  past_end : (n : ℕ) (s : RunState) (l : List ℕ) (ls : List (List ℕ)) (r : Result (RunState × List ℕ) ScriptKind) → LineLeads s (parsed l) r
       → ((t : RunState) → Leads t (steps_in setting (n + 1) t ls) (run_lines (line_step setting) (n + 1) t ls).last.world.vault.files)
-      → Leads s (steps_behind setting s l r (λ t. steps_in setting (n + 1) t ls))
+      → Leads s (steps_after setting s l r (λ t. steps_in setting (n + 1) t ls))
       (after n s r (λ t. run_lines (line_step setting) (n + 1) t ls)).last.world.vault.files
-  behind n s l ls (Ok x) leads more = leads (steps_in setting (n + 1) x.0 ls) _ (more x.0)
-  behind n s l ls (Err kind) leads more = ([], refl, refl)
+  past_end n s l ls (Ok x) leads more = leads (steps_in setting (n + 1) x.0 ls) _ (more x.0)
+  past_end n s l ls (Err kind) leads more = ([], refl, refl)
 
   pub script_leads : (script : List (List ℕ)) (n : ℕ) (s : RunState)
       → Leads s (steps_in setting n s script) (run_lines (line_step setting) n s script).last.world.vault.files
   unfolding run_items steps_in
   script_leads [] n s = ([], refl, refl)
-  script_leads (l ∷ ls) n s = behind n s l ls (step_at (line_step setting) n s l) (line_leads n s l) (λ t. script_leads ls (n + 1) t)
+  script_leads (l ∷ ls) n s = past_end n s l ls (step_at (line_step setting) n s l) (line_leads n s l) (λ t. script_leads ls (n + 1) t)
 
 -- ---- the implicit ends after them
 
 module _ (players : List Player) (status : Code) where
   closings_leave : (slots front : List PlainSlot) (w : PlainWorld) (s : RunState) → s.world.vault.files ≡ w.vault.files
-      → (last_state s (closings_behind players status front slots w)).world.vault.files ≡ w.vault.files
-  unfolding closings_behind
+      → (last_state s (closings_after players status front slots w)).world.vault.files ≡ w.vault.files
+  unfolding closings_after
   closings_leave [] front w s same = same
   closings_leave (closed conv ∷ slots) front w s same = closings_leave slots (front ++ closed conv ∷ []) w s same
   closings_leave (opened h ∷ slots) front w s same =
-      closings_leave slots (front ++ closed h.room.conv ∷ []) (world_behind players status h w)
-      (state_of (front ++ closed h.room.conv ∷ slots) (world_behind players status h w)) refl
+      closings_leave slots (front ++ closed h.room.conv ∷ []) (world_after players status h w)
+      (state_of (front ++ closed h.room.conv ∷ slots) (world_after players status h w)) refl
 
   pub all_closed_leave : (s : RunState) → (all_closed players status s).world.vault.files ≡ s.world.vault.files
   all_closed_leave s = closings_leave s.slots [] s.world s refl

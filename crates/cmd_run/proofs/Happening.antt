@@ -6,7 +6,7 @@ use Rattle.std.proofs.lemmas.Bool.Decides.{nat_tests}
 use Rattle.data_cleanup.specs.Cleanup.{Notes, ledger_after}
 use Rattle.data_cleanup.specs.Due.{Event, ends}
 use Rattle.data_cleanup.specs.Ledger.{PlainLedger}
-use Rattle.data_cleanup.specs.Stands.{Lists, StandFor, clean_list}
+use Rattle.data_cleanup.specs.Modelled.{Lists, ModelsEvents, clean_list}
 use Rattle.pam_base.specs.Code.{number_of}
 use Rattle.pam_base.specs.Lines.{lines_of}
 use Rattle.pam_base.specs.declared.code.Code.{Code}
@@ -22,8 +22,8 @@ use Rattle.cmd_run.specs.State.{Setting, RunState, state_of}
 use Rattle.record_reader.specs.Looked.{looked}
 use Rattle.cmd_run.specs.Script.{line_asked, script_step}
 use Rattle.cmd_run.specs.Step.{line_step}
-use Rattle.cmd_run.specs.Closings.{all_closed, closings_behind, last_state, world_behind}
-use Rattle.cmd_run.specs.Events.{LeadOn, Served, StandOn, closing_events, line_calls, line_events, run_events}
+use Rattle.cmd_run.specs.Closings.{all_closed, closings_after, last_state, world_after}
+use Rattle.cmd_run.specs.Events.{LeadOn, Served, AddsEvents, closing_events, line_calls, line_events, run_events}
 use Rattle.cmd_run.proofs.Asking.{AllLooked}
 use Rattle.cmd_run.proofs.Scripting.{asked_for}
 
@@ -64,13 +64,13 @@ module _ (setting : Setting) where
   lead_runs [] n m s t text a = rw (a.0, a.1, a.2) refl
   lead_runs (l ∷ ls) n m s t text a = rw (a.4, lead_runs ls (n + 1) m a.0 t a.2 a.6, a.3) refl
 
-  abbrev pub CallsStand : Type 0
-  CallsStand = (note : Notes) (limit : ℕ) (calls : List Moved) (ledger : PlainLedger) (lists : Lists) (events : List Event)
-      → StandFor note limit ledger lists events → MoveOn note limit ledger lists calls
-      → StandFor note limit (last_ledger ledger calls) (last_lists lists calls) (events ++ events_of ledger calls)
+  abbrev pub CallsAddEvents : Type 0
+  CallsAddEvents = (note : Notes) (limit : ℕ) (calls : List Moved) (ledger : PlainLedger) (lists : Lists) (events : List Event)
+      → ModelsEvents note limit ledger lists events → MoveOn note limit ledger lists calls
+      → ModelsEvents note limit (last_ledger ledger calls) (last_lists lists calls) (events ++ events_of ledger calls)
 
-  pub lines_stand : CallsStand → (ls : List (List ℕ)) (m : ℕ) (s t : RunState) (text : List ℕ) → LinesLead 0 s ls m t text
-      → StandOn note (line_events setting s ls) s t
+  pub lines_stand : CallsAddEvents → (ls : List (List ℕ)) (m : ℕ) (s t : RunState) (text : List ℕ) → LinesLead 0 s ls m t text
+      → AddsEvents note (line_events setting s ls) s t
   lines_stand law ls m s t text a = λ events stand.
       rw (ledger_is ls 0 m s t text a, lists_are ls 0 m s t text a) at
       (law note 17 (line_calls setting 0 s ls) s.world.process.ledger (lists_of s.slots) events stand (calls_move ls 0 m s t text a))
@@ -123,24 +123,24 @@ list_here front rest x = ap (data_in (suc (length front))) (here front rest x)
 module _ (players : List Player) (code : Code) where
   abbrev pub EndStands : Type 0
   EndStands = (note : Notes) (limit handle status : ℕ) (events : List Event) (before after : PlainLedger) (lists next : Lists)
-      → StandFor note limit before lists events → handle < limit → after ≡ ledger_after note status (reverse (lists handle).live) before
+      → ModelsEvents note limit before lists events → handle < limit → after ≡ ledger_after note status (reverse (lists handle).live) before
       → next handle ≡ clean_list handle []
-      → ((h : ℕ) → nat_eq h handle ≡ false → next h ≡ lists h) → StandFor note limit after next (events ++ ends handle status ∷ [])
+      → ((h : ℕ) → nat_eq h handle ≡ false → next h ≡ lists h) → ModelsEvents note limit after next (events ++ ends handle status ∷ [])
 
   abbrev Stand : PlainWorld → List PlainSlot → List Event → Type 0
-  Stand w slots events = StandFor (notes_of players) 17 w.process.ledger (lists_of slots) events
+  Stand w slots events = ModelsEvents (notes_of players) 17 w.process.ledger (lists_of slots) events
 
-  abbrev Behind : List PlainSlot → List PlainSlot → PlainWorld → List Event → Type 0
-  Behind front slots w events =
-      let t = last_state (state_of (front ++ slots) w) (closings_behind players code front slots w) in
+  abbrev Past : List PlainSlot → List PlainSlot → PlainWorld → List Event → Type 0
+  Past front slots w events =
+      let t = last_state (state_of (front ++ slots) w) (closings_after players code front slots w) in
       Stand t.world t.slots (events ++ closing_events (length front + 1) (number_of code) slots)
 
   one_end : EndStands → (front rest : List PlainSlot) (h : PlainHandle) (w : PlainWorld) (events : List Event) → length front + 1 < 17
-      → Stand w (front ++ opened h ∷ rest) events → Stand (world_behind players code h w) (front ++ closed h.room.conv ∷ rest)
+      → Stand w (front ++ opened h ∷ rest) events → Stand (world_after players code h w) (front ++ closed h.room.conv ∷ rest)
       (events ++ ends (length front + 1) (number_of code) ∷ [])
   one_end law front rest h w events few stand =
       let k : length front + 1 ≡ suc (length front) = omega arith in
-      law (notes_of players) 17 (length front + 1) (number_of code) events w.process.ledger (world_behind players code h w).process.ledger
+      law (notes_of players) 17 (length front + 1) (number_of code) events w.process.ledger (world_after players code h w).process.ledger
       (lists_of (front ++ opened h ∷ rest)) (lists_of (front ++ closed h.room.conv ∷ rest))
       stand few
       (rw (k, list_here front rest (opened h)) refl)
@@ -153,23 +153,23 @@ module _ (players : List Player) (code : Code) where
   one_longer : (front : List PlainSlot) (x : PlainSlot) → length (front ++ x ∷ []) ≡ length front + 1
   one_longer front x = length-append front (x ∷ [])
 
-  behind : EndStands → (slots front : List PlainSlot) (w : PlainWorld) (events : List Event) → length front + length slots ≤ 16
-      → Stand w (front ++ slots) events → Behind front slots w events
-  unfolding closings_behind
-  behind law [] front w events few stand = rw (append-nil events) stand
-  behind law (closed conv ∷ slots) front w events few stand =
+  past_end : EndStands → (slots front : List PlainSlot) (w : PlainWorld) (events : List Event) → length front + length slots ≤ 16
+      → Stand w (front ++ slots) events → Past front slots w events
+  unfolding closings_after
+  past_end law [] front w events few stand = rw (append-nil events) stand
+  past_end law (closed conv ∷ slots) front w events few stand =
       let front2 : List PlainSlot = front ++ closed conv ∷ [] in
       let stand2 : Stand w (front2 ++ slots) events = subst (λ (l : List PlainSlot). Stand w l events) (sym (moved_over front slots (closed conv))) stand in
-      let rest : Behind front2 slots w events = behind law slots front2 w events (omega (arith, few, one_longer front (closed conv))) stand2 in
+      let rest : Past front2 slots w events = past_end law slots front2 w events (omega (arith, few, one_longer front (closed conv))) stand2 in
       rw (moved_over front slots (closed conv), one_longer front (closed conv)) at rest
-  behind law (opened h ∷ slots) front w events few stand =
+  past_end law (opened h ∷ slots) front w events few stand =
       let x : PlainSlot = closed h.room.conv in
       let front2 : List PlainSlot = front ++ x ∷ [] in
-      let v : PlainWorld = world_behind players code h w in
+      let v : PlainWorld = world_after players code h w in
       let more : List Event = events ++ ends (length front + 1) (number_of code) ∷ [] in
       let stand2 : Stand v (front2 ++ slots) more = subst (λ (l : List PlainSlot). Stand v l more) (sym (moved_over front slots x))
       (one_end law front slots h w events (omega (arith, few)) stand) in
-      let rest : Behind front2 slots v more = behind law slots front2 v more (omega (arith, few, one_longer front x)) stand2 in
+      let rest : Past front2 slots v more = past_end law slots front2 v more (omega (arith, few, one_longer front x)) stand2 in
       rw (
         moved_over front slots x,
         one_longer front x,
@@ -178,15 +178,15 @@ module _ (players : List Player) (code : Code) where
       ) at rest
 
   pub closings_stand : EndStands → (s : RunState) → length s.slots ≤ 16
-      → StandOn (notes_of players) (closing_events 1 (number_of code) s.slots) s (all_closed players code s)
-  closings_stand law s few = λ events stand. behind law s.slots [] s.world events (omega (arith, few)) stand
+      → AddsEvents (notes_of players) (closing_events 1 (number_of code) s.slots) s (all_closed players code s)
+  closings_stand law s few = λ events stand. past_end law s.slots [] s.world events (omega (arith, few)) stand
 
 -- ---- a whole run
 
-pub run_stands : AllLooked → (setting : Setting) (code : Code) → CallsStand setting → EndStands setting.players code
+pub run_stands : AllLooked → (setting : Setting) (code : Code) → CallsAddEvents setting → EndStands setting.players code
     → (m : ℕ) (s t end : RunState) (input : List ℕ) (others : List (List ℕ)) (p q : SinkState) → LinesServed setting 0 m s t input others p q
     → length t.slots ≤ 16
-    → end ≡ all_closed setting.players code t → StandOn (notes_of setting.players) (run_events setting code s input m t) s end
+    → end ≡ all_closed setting.players code t → AddsEvents (notes_of setting.players) (run_events setting code s input m t) s end
 run_stands all setting code calls law m s t end input others p q w few e = λ events stand.
     let front = lines_stand setting calls w.served m s t w.text w.lead events stand in
     let whole = closings_stand setting.players code law t few (events ++ line_events setting s w.served) front in

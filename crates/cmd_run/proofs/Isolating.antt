@@ -18,7 +18,7 @@ use Rattle.report_step.specs.dispatch_core.specs.Lines.{names_of}
 use Rattle.pam_outside.specs.Time.{ClockState, Time, time_of}
 use Rattle.report_step.specs.pam_room.specs.Module.{Player}
 use Rattle.report_step.specs.pam_room.specs.State.{PlainWorld}
-use Rattle.report_step.specs.pam_library.specs.Alike.{AreAlike, Cleaned, ComeToSame, Shown, cleaned_as, cleaned_behind, cleaned_by, shown_to, told_in}
+use Rattle.report_step.specs.pam_library.specs.Alike.{AreAlike, Cleaned, ComeToSame, Shown, cleaned_as, cleaned_after, cleaned_by, shown_to, told_in}
 use Rattle.report_step.specs.pam_library.specs.Outcome.{PlainOutcome}
 use Rattle.report_step.specs.pam_library.specs.Slots.{PlainSlot}
 use Rattle.report_step.specs.pam_library.specs.Step.{Stepped, stepped}
@@ -78,7 +78,7 @@ pub record Seen : Type 0 where
   pub cleaned : List Cleaned
 
 abbrev pub seen : MadeStep → Seen
-seen c = record { step = c.step; told = told_in c.outcome; cleaned = cleaned_behind c.outcome.filed_from c.ledger }
+seen c = record { step = c.step; told = told_in c.outcome; cleaned = cleaned_after c.outcome.filed_from c.ledger }
 
 module _ (setting : Setting) where
   by_length : (b : Bool) (s : RunState) (line : List ℕ) → nat_lt 513 (length line) ≡ b

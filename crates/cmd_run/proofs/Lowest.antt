@@ -12,19 +12,19 @@ use Rattle.report_step.specs.pam_handle.specs.Handle.{PlainHandle}
 use Rattle.report_step.specs.pam_library.specs.Slots.{PlainSlot, NoneIsOpen, closed, opened, with_slot}
 use Rattle.report_step.specs.pam_library.specs.Closing.{ClosedOne, ClosesAs, first_open, ended_at, closed_one}
 use Rattle.cmd_run.specs.State.{RunState, state_of}
-use Rattle.cmd_run.specs.Closings.{Closing, EndsNext, all_closed, last_state, open_count, world_behind, text_of_end, closings_behind, closings}
+use Rattle.cmd_run.specs.Closings.{Closing, EndsNext, all_closed, last_state, open_count, world_after, text_of_end, closings_after, closings}
 
 -- ---- one slot in place of another
 
-set-behind : (front rest : List PlainSlot) (old new : PlainSlot) → slice_set (front ++ old ∷ rest) (length front) new ≡ front ++ new ∷ rest
-set-behind [] rest old new = refl
-set-behind (x ∷ front) rest old new = ap (λ (xs : List PlainSlot). x ∷ xs) (set-behind front rest old new)
+set-past_end : (front rest : List PlainSlot) (old new : PlainSlot) → slice_set (front ++ old ∷ rest) (length front) new ≡ front ++ new ∷ rest
+set-past_end [] rest old new = refl
+set-past_end (x ∷ front) rest old new = ap (λ (xs : List PlainSlot). x ∷ xs) (set-past_end front rest old new)
 
-count-behind : (front rest : List PlainSlot) (h : PlainHandle) → open_count (front ++ closed h.room.conv ∷ rest) < open_count (front ++ opened h ∷ rest)
+count-past_end : (front rest : List PlainSlot) (h : PlainHandle) → open_count (front ++ closed h.room.conv ∷ rest) < open_count (front ++ opened h ∷ rest)
 unfolding open_count
-count-behind [] rest h = omega arith
-count-behind (closed conv ∷ front) rest h = count-behind front rest h
-count-behind (opened g ∷ front) rest h = omega (arith, count-behind front rest h)
+count-past_end [] rest h = omega arith
+count-past_end (closed conv ∷ front) rest h = count-past_end front rest h
+count-past_end (opened g ∷ front) rest h = omega (arith, count-past_end front rest h)
 
 -- ---- the first open slot
 
@@ -36,7 +36,7 @@ module _ (players : List Player) (status : Code) where
     parts : slots ≡ before ++ opened h ∷ after
     number_is : number ≡ n + length before
     skip : (front rest : List PlainSlot) (w : PlainWorld)
-        → closings_behind players status front (before ++ rest) w ≡ closings_behind players status (front ++ before) rest w
+        → closings_after players status front (before ++ rest) w ≡ closings_after players status (front ++ before) rest w
 
   opens_here : (n number : ℕ) (g h : PlainHandle) (slots : List PlainSlot) → n ≡ number → g ≡ h → Opens n (opened g ∷ slots) number h
   opens_here n number g h slots e f = record {
@@ -44,18 +44,18 @@ module _ (players : List Player) (status : Code) where
     after = slots;
     parts = ap (λ (x : PlainHandle). opened x ∷ slots) f;
     number_is = omega (arith, e);
-    skip = λ front rest w. ap (λ (l : List PlainSlot). closings_behind players status l rest w) (sym (append-nil front));
+    skip = λ front rest w. ap (λ (l : List PlainSlot). closings_after players status l rest w) (sym (append-nil front));
   }
 
   opens_later : (n number : ℕ) (conv : ConvState) (h : PlainHandle) (slots : List PlainSlot) → Opens (n + 1) slots number h
       → Opens n (closed conv ∷ slots) number h
-  unfolding closings_behind
+  unfolding closings_after
   opens_later n number conv h slots o = record {
     before = closed conv ∷ o.before;
     after = o.after;
     parts = ap (λ (l : List PlainSlot). closed conv ∷ l) o.parts;
     number_is = omega (arith, o.number_is);
-    skip = λ front rest w. o.skip (front ++ closed conv ∷ []) rest w ∙ ap (λ (l : List PlainSlot). closings_behind players status l rest w)
+    skip = λ front rest w. o.skip (front ++ closed conv ∷ []) rest w ∙ ap (λ (l : List PlainSlot). closings_after players status l rest w)
         (append_assoc front (closed conv ∷ []) o.before);
   }
 
@@ -68,22 +68,22 @@ module _ (players : List Player) (status : Code) where
 
   -- what is left once it was ended
   core : (before after : List PlainSlot) (h : PlainHandle) (w : PlainWorld)
-      → ((front rest : List PlainSlot) (v : PlainWorld) → closings_behind players status front (before ++ rest) v
-      ≡ closings_behind players status (front ++ before) rest v)
+      → ((front rest : List PlainSlot) (v : PlainWorld) → closings_after players status front (before ++ rest) v
+      ≡ closings_after players status (front ++ before) rest v)
       → closings players status (state_of (before ++ opened h ∷ after) w)
       ≡ record {
-        text = text_of_end players status (length before + 1) w (world_behind players status h w);
-        state = state_of (before ++ closed h.room.conv ∷ after) (world_behind players status h w);
+        text = text_of_end players status (length before + 1) w (world_after players status h w);
+        state = state_of (before ++ closed h.room.conv ∷ after) (world_after players status h w);
       }
-      ∷ closings players status (state_of (before ++ closed h.room.conv ∷ after) (world_behind players status h w))
-  unfolding closings_behind
+      ∷ closings players status (state_of (before ++ closed h.room.conv ∷ after) (world_after players status h w))
+  unfolding closings_after
   core before after h w skip =
       skip [] (opened h ∷ after) w
       ∙ ap (λ (cs : List Closing). record {
-        text = text_of_end players status (length before + 1) w (world_behind players status h w);
-        state = state_of (before ++ closed h.room.conv ∷ after) (world_behind players status h w);
+        text = text_of_end players status (length before + 1) w (world_after players status h w);
+        state = state_of (before ++ closed h.room.conv ∷ after) (world_after players status h w);
       } ∷ cs)
-      (sym (skip [] (closed h.room.conv ∷ after) (world_behind players status h w)))
+      (sym (skip [] (closed h.room.conv ∷ after) (world_after players status h w)))
 
   abbrev ended : List PlainSlot → PlainWorld → ℕ × PlainHandle → ClosedOne
   ended slots w found = ended_at (notes_of players) (number_of status) slots w found
@@ -96,10 +96,10 @@ module _ (players : List Player) (status : Code) where
       let k : number ≡ suc (length o.before) = omega (arith, o.number_is) in
       let l : length o.before + 1 ≡ number = omega (arith, o.number_is) in
       let set : with_slot slots number (closed h.room.conv) ≡ o.before ++ closed h.room.conv ∷ o.after =
-      rw (k, o.parts) (set-behind o.before o.after (opened h) (closed h.room.conv)) in
+      rw (k, o.parts) (set-past_end o.before o.after (opened h) (closed h.room.conv)) in
       record {
         first = rw (set, o.parts, ← l) (core o.before o.after h w o.skip);
-        fewer = rw (set, o.parts) (count-behind o.before o.after h);
+        fewer = rw (set, o.parts) (count-past_end o.before o.after h);
         receipts = omega (
           arith,
           length-append w.process.ledger.filed (receipts_for (notes_of players) (number_of status) (length w.process.ledger.births)
@@ -120,11 +120,11 @@ module _ (players : List Player) (status : Code) where
   closes_one slots w c e = by_found slots w c (first_open 1 slots) refl e
 
   -- if no transaction is open, there is no implicit end
-  none_behind : (n : ℕ) (front slots : List PlainSlot) (w : PlainWorld) → first_open n slots ≡ None → closings_behind players status front slots w ≡ []
-  unfolding closings_behind
-  none_behind n front [] w e = refl
-  none_behind n front (closed conv ∷ slots) w e = none_behind (n + 1) (front ++ closed conv ∷ []) slots w e
-  none_behind n front (opened h ∷ slots) w e = absurd cc
+  none_past : (n : ℕ) (front slots : List PlainSlot) (w : PlainWorld) → first_open n slots ≡ None → closings_after players status front slots w ≡ []
+  unfolding closings_after
+  none_past n front [] w e = refl
+  none_past n front (closed conv ∷ slots) w e = none_past (n + 1) (front ++ closed conv ∷ []) slots w e
+  none_past n front (opened h ∷ slots) w e = absurd cc
 
   none_found : (slots : List PlainSlot) (w : PlainWorld) (o : Option (ℕ × PlainHandle)) → first_open 1 slots ≡ o → option_map (ended slots w) o ≡ None
       → first_open 1 slots ≡ None
@@ -134,10 +134,10 @@ module _ (players : List Player) (status : Code) where
   pub closes_none : (slots : List PlainSlot) (w : PlainWorld) → closed_one (notes_of players) (number_of status) slots w ≡ None
       → closings players status (state_of slots w) ≡ []
   unfolding closed_one
-  closes_none slots w e = none_behind 1 [] slots w (none_found slots w (first_open 1 slots) refl e)
+  closes_none slots w e = none_past 1 [] slots w (none_found slots w (first_open 1 slots) refl e)
 
-  none_of : (front slots : List PlainSlot) (w : PlainWorld) → NoneIsOpen slots → closings_behind players status front slots w ≡ []
-  unfolding closings_behind
+  none_of : (front slots : List PlainSlot) (w : PlainWorld) → NoneIsOpen slots → closings_after players status front slots w ≡ []
+  unfolding closings_after
   none_of front [] w none = refl
   none_of front (closed conv ∷ slots) w none = none_of (front ++ closed conv ∷ []) slots w none.1
   none_of front (opened h ∷ slots) w none = absurd cc

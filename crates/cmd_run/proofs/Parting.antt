@@ -15,20 +15,20 @@ use Rattle.data_cleanup.specs.declared.receipt.Receipt.{Receipt}
 use Rattle.report_step.specs.dispatch_core.specs.Lines.{names_of}
 use Rattle.report_step.specs.pam_room.specs.State.{PlainWorld}
 use Rattle.report_step.specs.pam_handle.specs.Handle.{PlainHandle}
-use Rattle.report_step.specs.pam_library.specs.Alike.{Cleaned, ComeToSame, cleaned_behind, slot_without_ids}
+use Rattle.report_step.specs.pam_library.specs.Alike.{Cleaned, ComeToSame, cleaned_after, slot_without_ids}
 use Rattle.report_step.specs.pam_library.specs.Slots.{PlainSlot, closed, opened}
 use Rattle.report_step.specs.pam_library.specs.Step.{Stepped, stepped, stepped_at}
 use Rattle.report_step.specs.report_lines.specs.Line.{code_words, number_words, words_text}
 use Rattle.report_step.specs.Cleaned.{receipt_text}
 use Rattle.report_step.specs.Closing.{closing_text}
-use Rattle.cmd_run.specs.Closings.{all_closed, closings, closings_behind, closings_text, world_behind}
+use Rattle.cmd_run.specs.Closings.{all_closed, closings, closings_after, closings_text, world_after}
 use Rattle.cmd_run.specs.Isolation.{MadeStep, GoesAsAlone, IsQuietStart, LeaveFiles, all_closing_texts, alone, steps_among}
 use Rattle.cmd_run.specs.Isolation.{closed_text_with, closing_text_with, closing_without_ids, filed_text_with, receipt_text_with}
-use Rattle.cmd_run.specs.Isolation.{state_behind, world_after_places, world_left}
+use Rattle.cmd_run.specs.Isolation.{state_past, world_after_places, world_left}
 use Rattle.cmd_run.specs.State.{RunState, Setting, state_of}
 use Rattle.cmd_run.specs.Step.{line_step}
 use Rattle.record_reader.specs.LineRun.{run_lines}
-use Rattle.cmd_run.proofs.Departing.{at_front, closed_alike, end_step, ends_alike, ends_from, ends_next, left_behind, one_longer}
+use Rattle.cmd_run.proofs.Departing.{at_front, closed_alike, end_step, ends_alike, ends_from, ends_next, left_after, one_longer}
 use Rattle.cmd_run.proofs.Isolating.{Alike, GoAlike, OtherCalls, OwnCalls, cleaned_text, cleanups_seen, from_start, outcomes_seen, report_seen}
 
 -- ---- slots in a list
@@ -57,9 +57,9 @@ module _ (setting : Setting) (status : Code) where
   ends_some zero i front slots w at fits = record { front = front; long = omega (arith, at); is = refl }
   ends_some (suc k) i front [] w at fits = absurd (omega arith)
   ends_some (suc k) i front (x ∷ slots) w at fits =
-      let more : List PlainSlot = front ++ left_behind setting status x ∷ [] in
+      let more : List PlainSlot = front ++ left_after setting status x ∷ [] in
       let v : PlainWorld = world_left setting.players status x w in
-      let next : suc i ≡ length more = ap suc at ∙ sym (one_longer front (left_behind setting status x)) in
+      let next : suc i ≡ length more = ap suc at ∙ sym (one_longer front (left_after setting status x)) in
       let rest : EndedUpTo (suc i) k (state_of (more ++ slots) v) (drop k slots) (world_after_places setting.players status (take k slots) v) =
       ends_some k (suc i) more slots v next (omega arith) in
       record {
@@ -68,7 +68,7 @@ module _ (setting : Setting) (status : Code) where
         is =
             ap (ends_from setting status (suc i) k) (ends_next setting status x front slots i w at)
             ∙ ap (λ (l : List PlainSlot). ends_from setting status (suc i) k (state_of l v))
-            (sym (append_assoc front (left_behind setting status x ∷ []) slots))
+            (sym (append_assoc front (left_after setting status x ∷ []) slots))
             ∙ rest.is;
       }
 
@@ -76,7 +76,7 @@ module _ (setting : Setting) (status : Code) where
 
   abbrev words_for : ℕ → Stepped → List ℕ
   words_for number t =
-      flat_map (cleaned_text number (names_of setting.players)) (cleaned_behind t.outcome.filed_from t.world.process.ledger)
+      flat_map (cleaned_text number (names_of setting.players)) (cleaned_after t.outcome.filed_from t.world.process.ledger)
       ++ words_text number (codes "closed") (code_words status)
 
   abbrev end_of : ℕ → List PlainSlot → PlainWorld → Stepped
@@ -88,7 +88,7 @@ module _ (setting : Setting) (status : Code) where
   written k front rest h w at =
       let slots : List PlainSlot = front ++ opened h ∷ rest in
       let found : slice_get slots k ≡ Some (opened h) = subst (λ (j : ℕ). slice_get slots j ≡ Some (opened h)) (sym at) (at_front front rest (opened h)) in
-      let after : PlainLedger = (world_behind setting.players status h w).process.ledger in
+      let after : PlainLedger = (world_after setting.players status h w).process.ledger in
       ap (λ (text : List ℕ). text ++ words_text (suc k) (codes "closed") (code_words status))
       (cleanups_seen (suc k) (names_of setting.players) after.births (drop (length w.process.ledger.filed) after.filed))
       ∙ ap (λ (p : Option PlainSlot). words_for (suc k) (stepped_at setting.players setting.delay slots w (suc k) (End (number_of status)) p)) (sym found)
@@ -181,42 +181,42 @@ module _ (setting : Setting) (status : Code) where
   place_text number w x = closed_text_with setting.players status number_words number w (Some x)
 
   one_place : (i : ℕ) (x : PlainSlot) (front slots : List PlainSlot) (w : PlainWorld) → i ≡ length front →
-      closings_text (closings_behind setting.players status front (x ∷ slots) w)
-      ≡ place_text (suc i) w x ++ closings_text (closings_behind setting.players status (front ++ left_behind setting status x ∷ []) slots
+      closings_text (closings_after setting.players status front (x ∷ slots) w)
+      ≡ place_text (suc i) w x ++ closings_text (closings_after setting.players status (front ++ left_after setting status x ∷ []) slots
       (world_left setting.players status x w))
-  unfolding closings_behind
+  unfolding closings_after
   one_place i (closed conv) front slots w at = refl
   one_place i (opened h) front slots w at =
-      let after : PlainLedger = (world_behind setting.players status h w).process.ledger in
+      let after : PlainLedger = (world_after setting.players status h w).process.ledger in
       let number : length front + 1 ≡ suc i = omega (arith, at) in
-      let rest : List ℕ = closings_text (closings_behind setting.players status (front ++ closed h.room.conv ∷ []) slots
-      (world_behind setting.players status h w)) in
+      let rest : List ℕ = closings_text (closings_after setting.players status (front ++ closed h.room.conv ∷ []) slots
+      (world_after setting.players status h w)) in
       ap (λ (m : ℕ). closing_text (names_of setting.players) m status after (length w.process.ledger.filed) ++ rest) number
       ∙ ap (λ (text : List ℕ). text ++ rest) (plain_words (suc i) after (length w.process.ledger.filed))
 
   texts_by_number : (slots front before : List PlainSlot) (i : ℕ) (w : PlainWorld) → i ≡ length front → i ≡ length before →
-      closings_text (closings_behind setting.players status front slots (world_after_places setting.players status before w))
+      closings_text (closings_after setting.players status front slots (world_after_places setting.players status before w))
       ≡ flat_map (closing_text_with setting.players status number_words (state_of (before ++ slots) w)) (range_with_len (suc i) (length slots))
-  unfolding closings_behind
-  texts_by_number [] front before i w at behind = refl
-  texts_by_number (x ∷ slots) front before i w at behind =
+  unfolding closings_after
+  texts_by_number [] front before i w at past_end = refl
+  texts_by_number (x ∷ slots) front before i w at past_end =
       let now : PlainWorld = world_after_places setting.players status before w in
       let all : List PlainSlot = before ++ x ∷ slots in
       let more : List PlainSlot = before ++ x ∷ [] in
-      let next : List PlainSlot = front ++ left_behind setting status x ∷ [] in
-      let taken : take i all ≡ before = subst (λ (j : ℕ). take j all ≡ before) (sym behind) (take-append_seam before (x ∷ slots)) in
-      let found : slice_get all i ≡ Some x = subst (λ (j : ℕ). slice_get all j ≡ Some x) (sym behind) (at_front before slots x) in
+      let next : List PlainSlot = front ++ left_after setting status x ∷ [] in
+      let taken : take i all ≡ before = subst (λ (j : ℕ). take j all ≡ before) (sym past_end) (take-append_seam before (x ∷ slots)) in
+      let found : slice_get all i ≡ Some x = subst (λ (j : ℕ). slice_get all j ≡ Some x) (sym past_end) (at_front before slots x) in
       let here : closing_text_with setting.players status number_words (state_of all w) (suc i) ≡ place_text (suc i) now x =
       ap (λ (l : List PlainSlot). closed_text_with setting.players status number_words (suc i) (world_after_places setting.players status l w)
       (slice_get all i)) taken
       ∙ ap (closed_text_with setting.players status number_words (suc i) now) found in
-      let rest : closings_text (closings_behind setting.players status next slots (world_after_places setting.players status more w))
+      let rest : closings_text (closings_after setting.players status next slots (world_after_places setting.players status more w))
       ≡ flat_map (closing_text_with setting.players status number_words (state_of (more ++ slots) w)) (range_with_len (suc (suc i)) (length slots)) =
-      texts_by_number slots next more (suc i) w (ap suc at ∙ sym (one_longer front (left_behind setting status x)))
-      (ap suc behind ∙ sym (one_longer before x)) in
+      texts_by_number slots next more (suc i) w (ap suc at ∙ sym (one_longer front (left_after setting status x)))
+      (ap suc past_end ∙ sym (one_longer before x)) in
       let one_more : suc (suc i) ≡ suc i + 1 = omega arith in
       one_place i x front slots now at
-      ∙ ap (λ (v : PlainWorld). place_text (suc i) now x ++ closings_text (closings_behind setting.players status next slots v)) (sym (after_one before x w))
+      ∙ ap (λ (v : PlainWorld). place_text (suc i) now x ++ closings_text (closings_after setting.players status next slots v)) (sym (after_one before x w))
       ∙ ap (λ (text : List ℕ). place_text (suc i) now x ++ text) rest
       ∙ ap (λ (l : List PlainSlot). place_text (suc i) now x ++ flat_map (closing_text_with setting.players status number_words (state_of l w))
       (range_with_len (suc (suc i)) (length slots))) (append_assoc before (x ∷ []) slots)
@@ -236,8 +236,8 @@ pub goes_as_alone : OwnCalls → OtherCalls → (setting : Setting) (number n : 
 goes_as_alone own other setting number n s script start stays =
     let cs : List MadeStep = steps_among setting number n s script in
     let ds : List MadeStep = steps_among setting number n s (alone number script) in
-    let x : RunState = state_behind setting n s script in
-    let y : RunState = state_behind setting n s (alone number script) in
+    let x : RunState = state_past setting n s script in
+    let y : RunState = state_past setting n s (alone number script) in
     let both : GoAlike setting number cs ds (run_lines (line_step setting) n s script) (run_lines (line_step setting) n s (alone number script)) =
     from_start setting number own other n s script start stays in
     let ended : (status : Code) → Alike setting number (all_closed setting.players status x) (all_closed setting.players status y) =

@@ -7,7 +7,7 @@ use Rattle.data_cleanup.specs.Ledger.{PlainLedger}
 use Rattle.data_cleanup.specs.Cleanup.{Notes, receipts_for}
 use Rattle.data_cleanup.specs.Due.{Event, birth, ends}
 use Rattle.data_cleanup.specs.Grows.{Grows}
-use Rattle.data_cleanup.specs.Stands.{Lists}
+use Rattle.data_cleanup.specs.Modelled.{Lists}
 use Rattle.data_cleanup.specs.Moves.{Moves}
 use Rattle.report_step.specs.pam_library.specs.AnyWorld.{SpendsAs, SpendsAt, end_at}
 use Rattle.report_step.specs.pam_library.specs.Closing.{end_of}

@@ -10,7 +10,7 @@ use Rattle.pam_outside.specs.Paths.{path_of}
 use Rattle.pam_outside.specs.Files.{File, no_locks}
 use Rattle.report_step.specs.conf_lex.specs.Answer.{answer_to}
 use Rattle.report_step.specs.conf_lex.specs.Lexing.{answer_at}
-use Rattle.report_step.specs.conf_lex.specs.Reading.{first_piece, pieces_behind}
+use Rattle.report_step.specs.conf_lex.specs.Reading.{first_piece, pieces_after}
 use Rattle.pam_base.specs.declared.code.Code.TheVariants as Code
 use Rattle.report_step.specs.pam_room.specs.Call.{PlainCall}
 use Rattle.report_step.specs.pam_room.specs.Module.{NamedData, Player, SeenRoom, Sight, length_note, never_breaks, same_locks}
@@ -29,7 +29,7 @@ use Rattle.cmd_run.specs.State.{Setting, RunState, state_of}
 use Rattle.cmd_run.specs.Ends.{HasEnd, IsEndOfRun}
 use Rattle.cmd_run.specs.Isolation.{LeaveFiles, alone, texts_among}
 use Rattle.cmd_run.specs.Step.{at_moment, line_step}
-use Rattle.cmd_run.specs.Closings.{closings_behind}
+use Rattle.cmd_run.specs.Closings.{closings_after}
 use Rattle.cmd_run.specs.Whole.{last_words}
 
 setting : Setting
@@ -55,11 +55,11 @@ unfolding start setting places world run_of_items run_items step_at line_step lo
 refused_third_line = refl
 
 its_last_words : last_words [] (Refused BadWord) 2 start ≡ codes "script 3 BadWord 1\n"
-unfolding start places world closings_behind digits
+unfolding start places world closings_after digits
 its_last_words = refl
 
 words_of_a_read_fault : last_words [] ReadFault 2 start ≡ codes "read fault\n"
-unfolding start places world closings_behind
+unfolding start places world closings_after
 words_of_a_read_fault = refl
 
 -- ---- ends
@@ -67,11 +67,11 @@ words_of_a_read_fault = refl
 -- the second line asks for the end of transaction 3, with a status of 32 bits
 end_with_a_high_bit : HasEnd (codes "at 5\nend 3 0x80000007\nx") 3 2147483655
 unfolding lines_of cut words_of
-end_with_a_high_bit = record { line = codes "end 3 0x80000007"; before = codes "at 5" ∷ []; behind = codes "x" ∷ []; among = refl; asks = refl }
+end_with_a_high_bit = record { line = codes "end 3 0x80000007"; before = codes "at 5" ∷ []; past_end = codes "x" ∷ []; among = refl; asks = refl }
 
 -- after the lines a transaction is ended with ABORT if one was refused
-end_behind_a_refused_line : IsEndOfRun true (codes "x") 3 26
-end_behind_a_refused_line = λ told. inl (inl (Refused BadWord, refl))
+end_after_a_refused_line : IsEndOfRun true (codes "x") 3 26
+end_after_a_refused_line = λ told. inl (inl (Refused BadWord, refl))
 
 -- ---- two transactions, and the first of them alone: its lines are the same except for the id of its data
 
@@ -112,19 +112,19 @@ interleaved = codes "start 1 t" ∷ codes "start 2 t" ∷ codes "authenticate 2"
 
 its_lines : texts_among with_module 1 0 with_service interleaved
     ≡ codes "1 start SUCCESS 0\n" ∷ codes "1 line 1 p SUCCESS 0\n1 authenticate SUCCESS 0\n" ∷ codes "1 clean 1 00000000 1 p a\n1 end SUCCESS 0\n" ∷ []
-unfolding step_at line_step words_of stepped digits look items answer_to answer_at pieces_behind first_piece entry_of nodes path_of
+unfolding step_at line_step words_of stepped digits look items answer_to answer_at pieces_after first_piece entry_of nodes path_of
 its_lines = refl
 
 its_lines_alone : texts_among with_module 1 0 with_service (alone 1 interleaved)
     ≡ codes "1 start SUCCESS 0\n" ∷ codes "1 line 1 p SUCCESS 0\n1 authenticate SUCCESS 0\n" ∷ codes "1 clean 0 00000000 1 p a\n1 end SUCCESS 0\n" ∷ []
-unfolding step_at line_step words_of stepped digits look items answer_to answer_at pieces_behind first_piece entry_of nodes path_of
+unfolding step_at line_step words_of stepped digits look items answer_to answer_at pieces_after first_piece entry_of nodes path_of
 its_lines_alone = refl
 
 by_these : {a c : List File} (b : List File) → a ≡ b → c ≡ b → a ≡ c
 by_these b first second = first ∙ sym second
 
 others_leave_files : LeaveFiles with_module 1 0 with_service interleaved
-unfolding step_at line_step words_of stepped digits look items answer_to answer_at pieces_behind first_piece entry_of nodes path_of
+unfolding step_at line_step words_of stepped digits look items answer_to answer_at pieces_after first_piece entry_of nodes path_of
 others_leave_files = (λ e. absurd cc, (λ e. by_these service_files refl refl, (λ e. by_these service_files refl refl, (λ e. absurd cc, (λ e. absurd cc, tt)))))
 
 -- ---- a step on another number that changes a file: the law's premise fails, and so does its conclusion
@@ -152,12 +152,12 @@ with_file = record { players = notes_in_file ∷ []; delay = λ code asked. 0 }
 abbrev one_before_the_other : List (List ℕ)
 one_before_the_other = codes "start 1 t" ∷ codes "start 2 t" ∷ codes "authenticate 2" ∷ codes "authenticate 1" ∷ []
 
-its_lines_behind_the_file : texts_among with_file 1 0 with_service one_before_the_other
+its_lines_after_the_file : texts_among with_file 1 0 with_service one_before_the_other
     ≡ codes "1 start SUCCESS 0\n" ∷ codes "1 line 1 p AUTH_ERR 7\n1 authenticate AUTH_ERR 7\n" ∷ []
-unfolding step_at line_step words_of stepped digits look items answer_to answer_at pieces_behind first_piece entry_of nodes path_of
-its_lines_behind_the_file = refl
+unfolding step_at line_step words_of stepped digits look items answer_to answer_at pieces_after first_piece entry_of nodes path_of
+its_lines_after_the_file = refl
 
 its_lines_without_the_file : texts_among with_file 1 0 with_service (alone 1 one_before_the_other)
     ≡ codes "1 start SUCCESS 0\n" ∷ codes "1 line 1 p SUCCESS 0\n1 authenticate SUCCESS 0\n" ∷ []
-unfolding step_at line_step words_of stepped digits look items answer_to answer_at pieces_behind first_piece entry_of nodes path_of
+unfolding step_at line_step words_of stepped digits look items answer_to answer_at pieces_after first_piece entry_of nodes path_of
 its_lines_without_the_file = refl

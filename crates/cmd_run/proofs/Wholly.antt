@@ -11,7 +11,7 @@ use Rattle.record_reader.specs.Turns.{begun_items}
 use Rattle.record_reader.specs.Looked.{looked}
 use Rattle.cmd_run.specs.State.{Setting, RunState}
 use Rattle.cmd_run.specs.Step.{line_step, Fails}
-use Rattle.cmd_run.specs.Events.{StandOn, StandsBehind, StandsCut, run_events}
+use Rattle.cmd_run.specs.Events.{AddsEvents, EventsAfterLines, EventsUntilCut, run_events}
 use Rattle.cmd_run.specs.Closings.{Closing, closings, closings_text, last_state, all_closed}
 use Rattle.cmd_run.specs.Reported.{wrapped_closing, wrapped_closings}
 use Rattle.cmd_run.specs.Run.{EndsTo, EndsWith}
@@ -81,7 +81,7 @@ module _ (setting : Setting) (start : RunState) (x y : SourceState) (p q : SinkS
   -- it stopped among its lines
   pub stopped_lines : AllLooked → (stop : Stop) (n : ℕ) (t u : RunState) → Runs (line_step setting) (Fails setting) (Err stop) n start t x y p q
       → u ≡ all_closed setting.players (stop_status stop) t
-      → ((text : List ℕ) → q.written ≡ p.written ++ text → StandsCut setting (stop_status stop) n start u x.left text)
+      → ((text : List ℕ) → q.written ≡ p.written ++ text → EventsUntilCut setting (stop_status stop) n start u x.left text)
       → RunsScript setting (Err stop) start u x y p q
   stopped_lines all stop n t u r e stands = record {
     taken = r.taken;
@@ -111,7 +111,7 @@ module _ (setting : Setting) (start : RunState) (x y : SourceState) (p q : SinkS
     writes words w = omega (arith, w, r.writes_ok, length-append r.text words)
 
     pub ended_run : (done : Unit {0}) → EndsWith as_it_is script_last setting.players ending n (Ok done) s t q z
-        → ((t ≡ all_closed setting.players (ending_status ending) s) → StandOn (notes_of setting.players)
+        → ((t ≡ all_closed setting.players (ending_status ending) s) → AddsEvents (notes_of setting.players)
         (run_events setting (ending_status ending) start x.left n s) start t)
         → RunsScript setting (Ok ending) start t x y p z
     ended_run done w stands =
@@ -136,10 +136,10 @@ module _ (setting : Setting) (start : RunState) (x y : SourceState) (p q : SinkS
           writes = writes words w.calls;
         }
 
-    pub stopped_behind : (stop : Stop) (u : RunState) → EndsWith as_it_is script_last setting.players ending n (Err stop) s t q z
+    pub stopped_after : (stop : Stop) (u : RunState) → EndsWith as_it_is script_last setting.players ending n (Err stop) s t q z
         → u ≡ all_closed setting.players (stop_status stop) t
-        → StandsBehind setting (ending_status ending) (stop_status stop) n start u x.left → RunsScript setting (Err stop) start u x y p z
-    stopped_behind stop u w e stands =
+        → EventsAfterLines setting (ending_status ending) (stop_status stop) n start u x.left → RunsScript setting (Err stop) start u x y p z
+    stopped_after stop u w e stands =
         let words = closings_text w.whole ++ w.part in
         record {
           taken = r.taken;

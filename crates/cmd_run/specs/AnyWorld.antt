@@ -3,7 +3,7 @@ use Rattle.std.specs.Prelude.{◌≡◌, ℕ, List, [], ◌∷◌, ◌++◌}
 use Rattle.data_cleanup.specs.Ledger.{PlainLedger}
 use Rattle.data_cleanup.specs.Cleanup.{Notes}
 use Rattle.data_cleanup.specs.Due.{Event}
-use Rattle.data_cleanup.specs.Stands.{Lists, StandFor}
+use Rattle.data_cleanup.specs.Modelled.{Lists, ModelsEvents}
 use Rattle.report_step.specs.pam_room.specs.Module.{Player, notes_of}
 use Rattle.report_step.specs.pam_library.specs.Calls.{MoveOn, Moved, events_of, last_ledger, last_lists}
 use Rattle.report_step.specs.pam_library.specs.Slots.{PlainSlot, handle_limit, lists_of}
@@ -19,10 +19,10 @@ pub record Proceeds (note : Notes) (before : PlainLedger) (lists : Lists) (after
   pub lists_are : last_lists lists calls ≡ next
 
 -- If cleanup log and module data model some events before calls, they model these and those of the calls after them.
-abbrev pub CallsStand : Type 0
-CallsStand = (note : Notes) (before after : PlainLedger) (lists next : Lists) (events : List Event)
-    → (p : Proceeds note before lists after next) → StandFor note handle_limit before lists events
-    → StandFor note handle_limit after next (events ++ events_of before p.calls)
+abbrev pub CallsAddEvents : Type 0
+CallsAddEvents = (note : Notes) (before after : PlainLedger) (lists next : Lists) (events : List Event)
+    → (p : Proceeds note before lists after next) → ModelsEvents note handle_limit before lists events
+    → ModelsEvents note handle_limit after next (events ++ events_of before p.calls)
 
 -- all ends of these calls are among these
 abbrev pub AllEndsAre : (ℕ → ℕ → Type 0) → List Moved → Type 0

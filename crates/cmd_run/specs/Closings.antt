@@ -18,8 +18,8 @@ pub record Closing : Type 0 where
   pub state : RunState
 
 module _ (players : List Player) (status : Code) where
-  abbrev pub world_behind : PlainHandle → PlainWorld → PlainWorld
-  world_behind h w = world_after_end (notes_of players) (number_of status) h w
+  abbrev pub world_after : PlainHandle → PlainWorld → PlainWorld
+  world_after h w = world_after_end (notes_of players) (number_of status) h w
 
   abbrev pub text_of_end : ℕ → PlainWorld → PlainWorld → List ℕ
   text_of_end number before after =
@@ -28,17 +28,17 @@ module _ (players : List Player) (status : Code) where
 
   -- Each open transaction, in the order of their slots, after some that are closed. An ended transaction leaves its
   -- conversation in its slot.
-  unfoldable pub closings_behind : List PlainSlot → List PlainSlot → PlainWorld → List Closing
-  closings_behind front [] w = []
-  closings_behind front (closed conv ∷ slots) w =
-      closings_behind (front ++ closed conv ∷ []) slots w
-  closings_behind front (opened h ∷ slots) w = record {
-    text = text_of_end (length front + 1) w (world_behind h w);
-    state = state_of (front ++ closed h.room.conv ∷ slots) (world_behind h w);
-  } ∷ closings_behind (front ++ closed h.room.conv ∷ []) slots (world_behind h w)
+  unfoldable pub closings_after : List PlainSlot → List PlainSlot → PlainWorld → List Closing
+  closings_after front [] w = []
+  closings_after front (closed conv ∷ slots) w =
+      closings_after (front ++ closed conv ∷ []) slots w
+  closings_after front (opened h ∷ slots) w = record {
+    text = text_of_end (length front + 1) w (world_after h w);
+    state = state_of (front ++ closed h.room.conv ∷ slots) (world_after h w);
+  } ∷ closings_after (front ++ closed h.room.conv ∷ []) slots (world_after h w)
 
   abbrev pub closings : RunState → List Closing
-  closings s = closings_behind [] s.slots s.world
+  closings s = closings_after [] s.slots s.world
 
 -- how many transactions are open
 unfoldable pub open_count : List PlainSlot → ℕ

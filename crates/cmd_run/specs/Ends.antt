@@ -26,8 +26,8 @@ AsksEnd line number status = parsed line ≡ Ok (Step (record { number = number;
 pub record HasEnd (text : List ℕ) (number status : ℕ) : Type 0 where
   pub line : List ℕ
   pub before : List (List ℕ)
-  pub behind : List (List ℕ)
-  pub among : lines_of text ≡ before ++ line ∷ behind
+  pub past_end : List (List ℕ)
+  pub among : lines_of text ≡ before ++ line ∷ past_end
   pub asks : AsksEnd line number status
 
 -- ---- after the lines

@@ -9,7 +9,7 @@ use Rattle.data_cleanup.specs.Cleanup.{Notes}
 use Rattle.data_cleanup.specs.Due.{Event, ends, due}
 use Rattle.data_cleanup.specs.Ledger.{PlainLedger}
 use Rattle.data_cleanup.specs.Moves.{Moves}
-use Rattle.data_cleanup.specs.Stands.{StandFor, births_of, receipts_in}
+use Rattle.data_cleanup.specs.Modelled.{ModelsEvents, births_of, receipts_in}
 use Rattle.report_step.specs.pam_room.specs.Module.{notes_of}
 use Rattle.report_step.specs.pam_library.specs.AnyWorld.{end_at}
 use Rattle.report_step.specs.pam_library.specs.Calls.{Moved, events_of}
@@ -50,16 +50,16 @@ moved_by s line t = record {
 }
 
 module _ (setting : Setting) where
-  abbrev pub calls_behind : RunState → List ℕ → Result (RunState × List ℕ) ScriptKind
+  abbrev pub calls_past : RunState → List ℕ → Result (RunState × List ℕ) ScriptKind
       → (RunState → List Moved) → List Moved
-  calls_behind s line (Ok applied) next = moved_by s line applied.0 ∷ next applied.0
-  calls_behind s line (Err kind) next = []
+  calls_past s line (Ok applied) next = moved_by s line applied.0 ∷ next applied.0
+  calls_past s line (Err kind) next = []
 
   -- lines that have n lines before them, up to the first that is refused
   unfoldable pub line_calls : ℕ → RunState → List (List ℕ) → List Moved
   line_calls n s [] = []
   line_calls n s (line ∷ rest) =
-      calls_behind s line (step_at (line_step setting) n s line) (λ t. line_calls (n + 1) t rest)
+      calls_past s line (step_at (line_step setting) n s line) (λ t. line_calls (n + 1) t rest)
 
   -- their events: for each line the data that it sets, in order, and then the end that it is
   abbrev pub line_events : RunState → List (List ℕ) → List Event
@@ -83,10 +83,10 @@ run_events setting status start script lines last =
     ++ closing_events 1 (number_of status) last.slots
 
 -- whatever cleanup log and data modelled, they model it and then these events
-abbrev pub StandOn : Notes → List Event → RunState → RunState → Type 0
-StandOn note added s t = (events : List Event)
-    → StandFor note handle_limit s.world.process.ledger (lists_of s.slots) events
-    → StandFor note handle_limit t.world.process.ledger (lists_of t.slots) (events ++ added)
+abbrev pub AddsEvents : Notes → List Event → RunState → RunState → Type 0
+AddsEvents note added s t = (events : List Event)
+    → ModelsEvents note handle_limit s.world.process.ledger (lists_of s.slots) events
+    → ModelsEvents note handle_limit t.world.process.ledger (lists_of t.slots) (events ++ added)
 
 -- ---- while it goes on
 
@@ -179,7 +179,7 @@ IsLaterEnd status others number ended = IsAskedBy others number ended
 -- The run stopped among its lines: the whole text of n lines is in what was written. Cleanup log
 -- and data model their events, and then others, whose ends the next line asked for or have this
 -- status.
-pub record StandsCut (setting : Setting) (status : Code) (lines : ℕ) (start end : RunState)
+pub record EventsUntilCut (setting : Setting) (status : Code) (lines : ℕ) (start end : RunState)
     (input text : List ℕ) : Type 0 where
   pub middle : RunState
   pub whole : List ℕ
@@ -189,17 +189,17 @@ pub record StandsCut (setting : Setting) (status : Code) (lines : ℕ) (start en
   pub parts : text ≡ whole ++ part
   pub later : List Event
   pub ends_are : EndsAre (IsLaterEnd status (drop lines (lines_of input))) later
-  pub stand : StandOn (notes_of setting.players)
+  pub stand : AddsEvents (notes_of setting.players)
       (line_events setting start (take lines (lines_of input)) ++ later) start end
 
 -- The run stopped after its lines: cleanup log and data model the events of the lines, and then
 -- others, whose ends have one of these two statuses.
-pub record StandsBehind (setting : Setting) (status stopped : Code) (lines : ℕ)
+pub record EventsAfterLines (setting : Setting) (status stopped : Code) (lines : ℕ)
     (start end : RunState) (input : List ℕ) : Type 0 where
   pub later : List Event
   pub ends_are : EndsAre (λ (number : ℕ) (ended : ℕ). IsStatusOf status number ended
       ⊎ IsStatusOf stopped number ended) later
-  pub stand : StandOn (notes_of setting.players)
+  pub stand : AddsEvents (notes_of setting.players)
       (line_events setting start (take lines (lines_of input)) ++ later) start end
 
 -- The records of a cleanup log, of sets and of cleanups, are those of these events, in order.

@@ -31,7 +31,7 @@ use Rattle.report_step.specs.Said.{messages_text}
 use Rattle.report_step.specs.Step.{step_text}
 use Rattle.report_step.specs.Visited.{visits_text}
 use Rattle.report_step.specs.Waited.{waited_text}
-use Rattle.cmd_run.specs.Closings.{all_closed, closings as all_closings, closings_text, world_behind}
+use Rattle.cmd_run.specs.Closings.{all_closed, closings as all_closings, closings_text, world_after}
 use Rattle.cmd_run.specs.State.{Setting, RunState}
 use Rattle.cmd_run.specs.Step.{line_step}
 
@@ -158,7 +158,7 @@ module _ (players : List Player) (status : Code) where
   -- what the end of a slot leaves, if it is open
   abbrev pub world_left : PlainSlot → PlainWorld → PlainWorld
   world_left (closed conv) w = w
-  world_left (opened h) w = world_behind players status h w
+  world_left (opened h) w = world_after players status h w
 
   -- the world when some slots are closed, one after another
   unfoldable pub world_after_places : List PlainSlot → PlainWorld → PlainWorld
@@ -170,7 +170,7 @@ module _ (players : List Player) (status : Code) where
   closed_text_with id_words number w None = []
   closed_text_with id_words number w (Some (closed conv)) = []
   closed_text_with id_words number w (Some (opened h)) =
-      let after = (world_behind players status h w).process.ledger in
+      let after = (world_after players status h w).process.ledger in
       flat_map (filed_text_with id_words number (names_of players) after.births)
       (drop (length w.process.ledger.filed) after.filed)
       ++ words_text number (codes "closed") (code_words status)
@@ -193,8 +193,8 @@ module _ (players : List Player) (status : Code) where
 -- ---- a transaction does what it would do alone
 
 -- the state after the lines of a script, which follow n lines
-abbrev pub state_behind : Setting → ℕ → RunState → List (List ℕ) → RunState
-state_behind setting n s script = (run_lines (line_step setting) n s script).last
+abbrev pub state_past : Setting → ℕ → RunState → List (List ℕ) → RunState
+state_past setting n s script = (run_lines (line_step setting) n s script).last
 
 -- A run and that of the script of one number alone, from the same start: the number's steps report and return the same,
 -- and its sets and cleanups are the same, in their order and except for ids and positions in the log, after the lines
@@ -204,28 +204,28 @@ pub record GoesAsAlone (setting : Setting) (number n : ℕ) (s : RunState)
     (script : List (List ℕ)) : Type 0 where
   pub outcomes : map (λ (c : MadeStep). told_in c.outcome) (steps_among setting number n s script)
       ≡ map (λ (c : MadeStep). told_in c.outcome) (steps_among setting number n s (alone number script))
-  pub births : births_on number (state_behind setting n s script).world.process.ledger.births
-      ≡ births_on number (state_behind setting n s
+  pub births : births_on number (state_past setting n s script).world.process.ledger.births
+      ≡ births_on number (state_past setting n s
       (alone number script)).world.process.ledger.births
-  pub receipts : receipts_on number (state_behind setting n s script).world.process.ledger
-      ≡ receipts_on number (state_behind setting n s (alone number script)).world.process.ledger
+  pub receipts : receipts_on number (state_past setting n s script).world.process.ledger
+      ≡ receipts_on number (state_past setting n s (alone number script)).world.process.ledger
   pub ended_births : (status : Code)
       → births_on number (all_closed setting.players status
-      (state_behind setting n s script)).world.process.ledger.births
+      (state_past setting n s script)).world.process.ledger.births
       ≡ births_on number (all_closed setting.players status
-      (state_behind setting n s (alone number script))).world.process.ledger.births
+      (state_past setting n s (alone number script))).world.process.ledger.births
   pub ended_receipts : (status : Code)
       → receipts_on number (all_closed setting.players status
-      (state_behind setting n s script)).world.process.ledger
+      (state_past setting n s script)).world.process.ledger
       ≡ receipts_on number (all_closed setting.players status
-      (state_behind setting n s (alone number script))).world.process.ledger
+      (state_past setting n s (alone number script))).world.process.ledger
   pub report : map (text_without_ids (names_of setting.players))
       (steps_among setting number n s script)
       ≡ map (text_without_ids (names_of setting.players))
       (steps_among setting number n s (alone number script))
   pub closing : (status : Code)
-      → closing_without_ids setting.players status (state_behind setting n s script) number
-      ≡ closing_without_ids setting.players status (state_behind setting n s (alone number script))
+      → closing_without_ids setting.players status (state_past setting n s script) number
+      ≡ closing_without_ids setting.players status (state_past setting n s (alone number script))
       number
   pub lines : (run_lines (line_step setting) n s script).items
       ≡ (run_lines (line_step setting) n s (alone number script)).items
@@ -234,7 +234,7 @@ pub record GoesAsAlone (setting : Setting) (number n : ℕ) (s : RunState)
 
 -- The same holds for each number, from a start with no planned failure, if no step on another
 -- number changes a file.
-pub record TransactionsStandAlone : Type 0 where
+pub record TransactionsGoAlone : Type 0 where
   pub goes : (setting : Setting) (number n : ℕ) (s : RunState) (script : List (List ℕ))
       → IsQuietStart s → LeaveFiles setting number n s script
       → GoesAsAlone setting number n s script

@@ -25,15 +25,15 @@ step_of s (Err kind) = []
 
 module _ (setting : Setting) where
   -- the steps of a line that was applied, and of those after it
-  abbrev pub steps_behind : RunState → List ℕ → Result (RunState × List ℕ) ScriptKind
+  abbrev pub steps_after : RunState → List ℕ → Result (RunState × List ℕ) ScriptKind
       → (RunState → List Met) → List Met
-  steps_behind s line (Ok applied) next = step_of s (parsed line) ++ next applied.0
-  steps_behind s line (Err kind) next = []
+  steps_after s line (Ok applied) next = step_of s (parsed line) ++ next applied.0
+  steps_after s line (Err kind) next = []
 
   -- the steps of some lines that have n lines before them, up to the first that is refused
   unfoldable pub steps_in : ℕ → RunState → List (List ℕ) → List Met
   steps_in n s [] = []
-  steps_in n s (line ∷ rest) = steps_behind s line (step_at (line_step setting) n s line) (λ t.
+  steps_in n s (line ∷ rest) = steps_after s line (step_at (line_step setting) n s line) (λ t.
       steps_in (n + 1) t rest)
 
   -- what is reported of some steps, one after another: for each its outcome, with the cleanup records that it filed
@@ -65,7 +65,7 @@ module _ (setting : Setting) where
         (own_steps number (steps_of s bytes ended))
 
 -- this holds for each number, and the report is that of all steps, in order
-pub record NumbersStandApart : Type 0 where
+pub record NumbersGoAlone : Type 0 where
   pub alone : (setting : Setting) (start : RunState) (bytes : List ℕ) (ended : Bool) (number : ℕ)
       (slot : PlainSlot) → slot_at start.slots number ≡ Some slot
       → ComesAlone setting start bytes ended number slot

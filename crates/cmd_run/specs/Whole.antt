@@ -12,7 +12,7 @@ use Rattle.report_step.specs.Script.{read_fault_text}
 pub use Rattle.cmd_run.specs.Endings.{ending_status, stop_status}
 use Rattle.cmd_run.specs.State.{Setting, RunState}
 use Rattle.cmd_run.specs.Step.{line_step, Fails}
-use Rattle.cmd_run.specs.Events.{StandOn, StandsBehind, StandsCut, run_events}
+use Rattle.cmd_run.specs.Events.{AddsEvents, EventsAfterLines, EventsUntilCut, run_events}
 use Rattle.cmd_run.specs.Closings.{Closing, closings, closings_text, all_closed}
 use Rattle.cmd_run.specs.Reading.{refused_in}
 use Rattle.cmd_run.specs.Reported.{CutBy}
@@ -70,7 +70,7 @@ module _ (setting : Setting) where
         left body
     pub whole : text ≡ body ++ last_words setting.players ending lines last
     pub closed : end ≡ all_closed setting.players (ending_status ending) last
-    pub stands : StandOn (notes_of setting.players)
+    pub stands : AddsEvents (notes_of setting.players)
         (run_events setting (ending_status ending) start input lines last) start end
 
   -- It stops among its lines, and all transactions are ended; nothing is written after that. The
@@ -82,10 +82,10 @@ module _ (setting : Setting) where
     pub stops : StopsBy (line_step setting) (Fails setting) stop 0 lines start last taken left text
     pub first : stops.served ≡ take lines (lines_of input)
     pub closed : end ≡ all_closed setting.players (stop_status stop) last
-    pub stands : StandsCut setting (stop_status stop) lines start end input text
+    pub stands : EventsUntilCut setting (stop_status stop) lines start end input text
 
   -- the run stops after its lines
-  pub record StopsBehindLines (stop : Stop) (start end : RunState)
+  pub record StopsAfterLines (stop : Stop) (start end : RunState)
       (input taken left text : List ℕ) : Type 0 where
     pub ending : Ending
     pub lines : ℕ
@@ -96,7 +96,7 @@ module _ (setting : Setting) where
     pub words : List ℕ
     pub written : text ≡ body ++ words
     pub stops : StopsClosing setting.players stop ending lines last end words
-    pub stands : StandsBehind setting (ending_status ending) (stop_status stop) lines start end
+    pub stands : EventsAfterLines setting (ending_status ending) (stop_status stop) lines start end
         input
 
   abbrev pub EndsOrStops : Result Ending Stop → RunState → RunState → List ℕ → List ℕ → List ℕ
@@ -105,7 +105,7 @@ module _ (setting : Setting) where
       EndsAs ending start end input taken left text
   EndsOrStops (Err stop) start end input taken left text =
       StopsAmongLines stop start end input taken left text
-      ⊎ StopsBehindLines stop start end input taken left text
+      ⊎ StopsAfterLines stop start end input taken left text
 
   -- what was taken and written, and how often it was read and written
   pub record RunsScript (result : Result Ending Stop) (start end : RunState) (x y : SourceState)

@@ -1,15 +1,15 @@
-ghost use Rattle.cmd_run.specs.AnyWorld.{CallsStand};
-ghost use Rattle.cmd_run.specs.Isolation.{TransactionsStandAlone};
+ghost use Rattle.cmd_run.specs.AnyWorld.{CallsAddEvents};
+ghost use Rattle.cmd_run.specs.Isolation.{TransactionsGoAlone};
 ghost use Rattle.cmd_run.specs.Reading.{RefusesByBytes};
-ghost use Rattle.cmd_run.specs.SideBySide.{NumbersStandApart};
+ghost use Rattle.cmd_run.specs.SideBySide.{NumbersGoAlone};
 ghost use Rattle.cmd_run.specs.Visits.{FilesChangeByPlays};
 
 /// If the cleanup log and the module data model some events before a run, they model these events
 /// followed by those of the run's calls after it.
-pub fn proceeding_stands()
-    ensures { CallsStand }
+pub fn proceeding_adds_events()
+    ensures { CallsAddEvents }
 {
-    report_step::pam_library::laws::calls_stand_for_their_events();
+    report_step::pam_library::laws::calls_add_their_events();
 }
 
 /// A transaction does what it would do alone.
@@ -19,7 +19,7 @@ pub fn proceeding_stands()
 /// return the same, and the same module data is set and cleaned up in the same order; only the numbers of data sets
 /// and the positions in the cleanup log may differ. This holds whatever the modules do.
 pub fn transactions_go_as_alone()
-    ensures { TransactionsStandAlone }
+    ensures { TransactionsGoAlone }
 {
     report_step::pam_library::laws::calls_keep_to_themselves();
 }
@@ -27,10 +27,10 @@ pub fn transactions_go_as_alone()
 /// What the lines in some bytes do, for each transaction number. The slot of a number after them,
 /// and the results of the steps on it, are those of its own steps alone, each in the world as it
 /// was before that step (`alone`). The report is that of all steps, in order (`steps`).
-pub fn numbers_stand_side_by_side()
-    ensures { NumbersStandApart }
+pub fn numbers_go_alone()
+    ensures { NumbersGoAlone }
 {
-    report_step::pam_library::laws::places_stand_side_by_side();
+    report_step::pam_library::laws::places_go_alone();
 }
 
 /// Which line in some bytes is refused, and why, depends on the bytes alone: a run over them refuses the same line,

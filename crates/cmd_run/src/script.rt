@@ -92,8 +92,8 @@ impl Protocol for Script {
     fn does() {}
 
     fn ends() {
-        report_step::pam_library::laws::calls_stand_for_their_events();
-        data_cleanup::due_laws::end_stands();
+        report_step::pam_library::laws::calls_add_their_events();
+        data_cleanup::due_laws::end_adds_its_event();
         record_reader::laws::whole_input_is_looked_at();
     }
 

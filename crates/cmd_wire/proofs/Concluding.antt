@@ -22,7 +22,7 @@ use Rattle.cmd_wire.specs.Step.{Fails, answers, frame_asked, frame_step}
 use Rattle.cmd_wire.specs.Whole.{Completes, RunsAnswered}
 use Rattle.cmd_wire.proofs.Asking.{by_ending, by_frame, by_stop}
 use Rattle.cmd_wire.proofs.Wholly.{broken, ended, stopped}
-use Rattle.cmd_wire.proofs.Wording.{answers_all, completes, completes_not, frames_left, frames_read, stops_among, stops_behind}
+use Rattle.cmd_wire.proofs.Wording.{answers_all, completes, completes_not, frames_left, frames_read, stops_among, stops_past}
 
 -- nothing comes after the answers of the implicit ends
 module _ (players : List Player) (ending : Ending FrameFault) (n : ℕ) (s t : RunState) (p q : SinkState) where
@@ -68,7 +68,7 @@ runs_frames spell steps served setting (Err stop) start end x y p q (inr r) =
     closes setting.players r.ending r.items r.last r.middle r.between q (Err stop) r.ends in
     record {
       told = broken setting start x y p r.ending r.items r.last r.middle end r.between q r.serves.runs stop closed r.stops.closed;
-      answered = inr (stops_behind setting spell (steps setting) start x y p r.ending r.items r.last end r.between q r.serves.runs r.takes stop r.middle closed
+      answered = inr (stops_past setting spell (steps setting) start x y p r.ending r.items r.last end r.between q r.serves.runs r.takes stop r.middle closed
           r.stops.closed);
     }
 

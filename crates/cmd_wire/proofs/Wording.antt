@@ -20,7 +20,7 @@ use Rattle.frame_stream.specs.declared.fault.FrameFault.{FrameFault}
 use Rattle.frame_stream.specs.Laws.{BytesSpell, RunIsOfSteps, ServedAreSteps}
 use Rattle.frame_stream.specs.Looked.{looked}
 use Rattle.frame_stream.specs.Run.{CallStep, step_at}
-use Rattle.frame_stream.specs.Spelled.{Spells, answers_to, state_behind}
+use Rattle.frame_stream.specs.Spelled.{Spells, answers_to, state_past}
 use Rattle.cmd_run.specs.Closings.{Closing, all_closed, closings as reported, closings_text, last_state}
 use Rattle.cmd_run.specs.Reading.{TakesBytes, AnyState, nowhere}
 use Rattle.cmd_run.specs.State.{Setting, RunState}
@@ -28,7 +28,7 @@ use Rattle.cmd_wire.specs.Answered.{Closes, answered_closing, closings}
 use Rattle.cmd_wire.specs.Endings.{ending_status, stop_status}
 use Rattle.cmd_wire.specs.Reading.{LooksBefore, ReadsAll, ReadsFrames, SpellsTo, call_read}
 use Rattle.cmd_wire.specs.Step.{answers, Fails}
-use Rattle.cmd_wire.specs.Whole.{AnswersAll, Completes, IsCutIn, IsNextStep, StopsAmong, StopsBehind, ending_by}
+use Rattle.cmd_wire.specs.Whole.{AnswersAll, Completes, IsCutIn, IsNextStep, StopsAmong, StopsAfter, ending_by}
 
 -- ---- how a run over the bytes taken ended
 
@@ -37,14 +37,14 @@ module _ {State : Type 0} (answer : CallStep State) (Failing : State → List �
   record IsRunOf (ending : Ending FrameFault) (m : ℕ) (c d : State) (taken left text : List ℕ) : Type 0 where
     spelled : SpellsTo ending taken left
     text_is : text ≡ answers_to answer c spelled.steps
-    state_is : d ≡ state_behind answer c spelled.steps
+    state_is : d ≡ state_past answer c spelled.steps
 
   module _ (spell : BytesSpell) (runs : RunIsOfSteps answer) where
     run_by : (ending : Ending FrameFault) (m : ℕ) (c d : State) (taken left text : List ℕ) → AreBytes taken
         → EndsBy looked (step_at answer) ending 0 m c d taken left text → IsRunOf ending m c d taken left text
     run_by ending m c d taken left text all e =
         let s = spell 0 taken e.ended (omega arith) all in
-        let same : come_to (answers_to answer c s.0) (state_behind answer c s.0) (0 + length s.0) s.2 ≡ come_to text d m (refusal_of ending) =
+        let same : come_to (answers_to answer c s.0) (state_past answer c s.0) (0 + length s.0) s.2 ≡ come_to text d m (refusal_of ending) =
         sym (runs 0 c taken e.ended s.0 s.1 s.2 all s.3) ∙ e.run in
         record {
           spelled = record {
@@ -170,10 +170,10 @@ module _ (setting : Setting) (spell : BytesSpell) (runs : RunIsOfSteps (answers 
           closed = c.to.2 ∙ ap (last_state last) whole ∙ answered_last last (reported setting.players (ending_status ending) last);
         }
 
-    pub stops_behind : (stop : Stop) (middle : RunState) → Closes setting.players (ending_status ending) (Err stop) last middle between q
+    pub stops_past : (stop : Stop) (middle : RunState) → Closes setting.players (ending_status ending) (Err stop) last middle between q
         → end ≡ all_closed setting.players (stop_status stop) middle
-        → StopsBehind setting stop start end x y p q
-    stops_behind stop middle c e = record {
+        → StopsAfter setting stop start end x y p q
+    stops_past stop middle c e = record {
       taken = r.taken;
       source = r.source;
       ending = ending;
@@ -208,11 +208,11 @@ module _ (setting : Setting) (served : ServedAreSteps (answers setting)) where
 
   only : (m : ℕ) (s t : RunState) (rest item text : List ℕ) (ended : Bool) (others : List (List ℕ)) (steps : List Step) (left : List ℕ)
       → AreFramesOf rest steps left → item ∷ [] ≡ map frame_of steps → text ≡ answers_to (answers setting) s steps
-      → t ≡ state_behind (answers setting) s steps → IsNext rest item s t text
+      → t ≡ state_past (answers setting) s steps → IsNext rest item s t text
   only m s t rest item text ended others [] left f i e d = absurd cc
   only m s t rest item text ended others (step ∷ []) left f i e d = record {
     step = step;
-    next = record { behind = left; frames = f };
+    next = record { past_end = left; frames = f };
     item_is = cc;
     state_is = d;
     text_is = e ∙ append-nil (answers setting s step).1;
@@ -242,8 +242,8 @@ module _ (setting : Setting) (served : ServedAreSteps (answers setting)) where
       begun_by step item i after e (inl h) = inl (h ∙ e)
       begun_by step item i after e (inr f) = inr (subst (λ (z : List ℕ). Fails setting s z d) i f)
 
-  bytes_behind : (taken rest : List ℕ) (steps : List Step) → AreFramesOf taken steps rest → AreBytes taken → AreBytes rest
-  bytes_behind taken rest steps f all =
+  bytes_after : (taken rest : List ℕ) (steps : List Step) → AreFramesOf taken steps rest → AreBytes taken → AreBytes rest
+  bytes_after taken rest steps f all =
       All-same (λ b. b < 256) rest (drop (length (frames_of steps)) taken)
       (sym (ap (drop (length (frames_of steps))) f.parts ∙ drop-append_seam (frames_of steps) rest))
       (All-drop (λ b. b < 256) (length (frames_of steps)) taken all)
@@ -267,7 +267,7 @@ module _ (setting : Setting) (served : ServedAreSteps (answers setting)) where
         written = r.sink ∙ ap (λ (z : List ℕ). p.written ++ z) (s.parts ∙ ap (λ (z : List ℕ). z ++ s.part) f.text_is);
         last = last;
         cut = subst (λ (z : RunState). IsCutIn setting stop f.rest z last s.part) f.state_is
-            (cut_in stop m s.begun s.middle last f.rest s.part s.ended s.others_met f.few (bytes_behind r.taken f.rest f.steps f.frames all)
+            (cut_in stop m s.begun s.middle last f.rest s.part s.ended s.others_met f.few (bytes_after r.taken f.rest f.steps f.frames all)
             f.others s.stopped);
         closed = e;
       }

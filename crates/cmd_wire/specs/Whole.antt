@@ -14,7 +14,7 @@ use Rattle.record_reader.specs.Whole.{Runs}
 use Rattle.frame_stream.specs.declared.fault.FrameFault.{FrameFault}
 use Rattle.frame_stream.specs.Looked.{looked}
 use Rattle.frame_stream.specs.Run.{step_at}
-use Rattle.frame_stream.specs.Spelled.{Spells, answers_to, state_behind}
+use Rattle.frame_stream.specs.Spelled.{Spells, answers_to, state_past}
 use Rattle.cmd_run.specs.State.{Setting, RunState}
 use Rattle.cmd_run.specs.Closings.{Closing, all_closed, closings_text}
 use Rattle.cmd_wire.specs.Answered.{Closes, ClosesTo, closings}
@@ -25,15 +25,15 @@ use Rattle.cmd_wire.specs.Step.{answers, Fails}
 -- What follows the frames, depending on how they ended or stopped and on the result of the run: all
 -- transactions are ended and answered; or those up to one whose answer isn't completely written,
 -- and the others are ended; or all are ended and nothing is written.
-abbrev pub IsBehind : List Player → Result (Ending FrameFault) Stop
+abbrev pub IsPast : List Player → Result (Ending FrameFault) Stop
     → Result (Ending FrameFault) Stop → RunState → RunState → SinkState → SinkState → Type 0
-IsBehind players (Ok ending) (Ok same) last end p q =
+IsPast players (Ok ending) (Ok same) last end p q =
     (same ≡ ending) × Closes players (ending_status ending) (Ok tt) last end p q
-IsBehind players (Ok ending) (Err stop) last end p q =
+IsPast players (Ok ending) (Err stop) last end p q =
     (middle : RunState) × Closes players (ending_status ending) (Err stop) last middle p q
     × (end ≡ all_closed players (stop_status stop) middle)
-IsBehind players (Err stop) (Ok ending) last end p q = ⊥
-IsBehind players (Err stop) (Err same) last end p q =
+IsPast players (Err stop) (Ok ending) last end p q = ⊥
+IsPast players (Err stop) (Err same) last end p q =
     (same ≡ stop) × (end ≡ all_closed players (stop_status stop) last) × (q ≡ p)
 
 -- the frames are served, and then the open transactions are ended
@@ -45,14 +45,14 @@ pub record RunsFrames (setting : Setting) (result : Result (Ending FrameFault) S
   pub between : SinkState
   pub runs : Runs looked (step_at (answers setting)) (Fails setting) served frames
       start last x y p between
-  pub behind : IsBehind setting.players served result last end between q
+  pub past_end : IsPast setting.players served result last end between q
 
 -- ---- by the steps that the bytes taken spell
 
 -- the step whose frame some bytes begin with
 pub record IsNextStep (rest : List ℕ) (step : Step) : Type 0 where
-  pub behind : List ℕ
-  pub frames : AreFramesOf rest (step ∷ []) behind
+  pub past_end : List ℕ
+  pub frames : AreFramesOf rest (step ∷ []) past_end
 
 module _ (setting : Setting) where
   -- It ended: what is written is the answers to these steps, one after the other, and then those of the implicit ends.
@@ -63,7 +63,7 @@ module _ (setting : Setting) where
     pub source : x.left ≡ taken ++ y.left
     pub spelled : SpellsTo ending taken y.left
     pub last : RunState
-    pub last_is : last ≡ state_behind (answers setting) start spelled.steps
+    pub last_is : last ≡ state_past (answers setting) start spelled.steps
     pub written : q.written ≡ p.written
         ++ (answers_to (answers setting) start spelled.steps
         ++ closings_text (closings setting.players (ending_status ending) last))
@@ -93,19 +93,19 @@ module _ (setting : Setting) where
     pub part : List ℕ
     pub written : q.written ≡ p.written ++ (answers_to (answers setting) start steps ++ part)
     pub last : RunState
-    pub cut : IsCutIn stop rest (state_behind (answers setting) start steps) last part
+    pub cut : IsCutIn stop rest (state_past (answers setting) start steps) last part
     pub closed : end ≡ all_closed setting.players (stop_status stop) last
 
   -- It stopped after them: all steps are answered, and some implicit ends, up to one whose answer isn't whole; the
   -- others are ended.
-  pub record StopsBehind (stop : Stop) (start end : RunState) (x y : SourceState)
+  pub record StopsAfter (stop : Stop) (start end : RunState) (x y : SourceState)
       (p q : SinkState) : Type 0 where
     pub taken : List ℕ
     pub source : x.left ≡ taken ++ y.left
     pub ending : Ending FrameFault
     pub spelled : SpellsTo ending taken y.left
     pub last : RunState
-    pub last_is : last ≡ state_behind (answers setting) start spelled.steps
+    pub last_is : last ≡ state_past (answers setting) start spelled.steps
     pub whole : List Closing
     pub others : List Closing
     pub among : closings setting.players (ending_status ending) last ≡ whole ++ others
@@ -121,7 +121,7 @@ module _ (setting : Setting) where
       → SourceState → SinkState → SinkState → Type 0
   Answers (Ok ending) start end x y p q = AnswersAll ending start end x y p q
   Answers (Err stop) start end x y p q =
-      StopsAmong stop start end x y p q ⊎ StopsBehind stop start end x y p q
+      StopsAmong stop start end x y p q ⊎ StopsAfter stop start end x y p q
 
 -- by its frames, and by the steps that the bytes taken spell
 pub record RunsAnswered (setting : Setting) (result : Result (Ending FrameFault) Stop)

@@ -12,7 +12,7 @@ use Rattle.conf_lex.specs.declared.token.RawRule.{RawRule}
 use Rattle.conf_lex.specs.declared.token.LexFault.{LexFault}
 use Rattle.conf_lex.specs.Piece.{Piece, newline, spelling, tokens_of, is_newline, is_open}
 use Rattle.conf_lex.specs.Reading.{pieces_of}
-use Rattle.conf_lex.specs.Rules.{newlines, JoinedLine, in_front, lines_of_pieces, numbered, joined_lines, rule_at, line_rules, line_fault, or_else, first_fault, Spells, HasLineFault, HasNul, IsFaultOf, IsFirstFault, HasNoFault}
+use Rattle.conf_lex.specs.Rules.{newlines, JoinedLine, put_before, lines_of_pieces, numbered, joined_lines, rule_at, line_rules, line_fault, or_else, first_fault, Spells, HasLineFault, HasNul, IsFaultOf, IsFirstFault, HasNoFault}
 use Rattle.conf_lex.specs.Lexing.{given, answer_at, Gives, IfNamed}
 use Rattle.conf_lex.proofs.Once.{either, one_reading}
 use Rattle.conf_lex.proofs.Every.{which, chosen, reading_is}
@@ -74,7 +74,7 @@ or_false false = refl
 abbrev any_open : List (List Piece) → Bool
 any_open ls = list_any (λ l. list_any is_open l) ls
 
-front_open : (p : Piece) (ls : List (List Piece)) → any_open (in_front p ls) ≡ (is_open p || any_open ls)
+front_open : (p : Piece) (ls : List (List Piece)) → any_open (put_before p ls) ≡ (is_open p || any_open ls)
 front_open p [] = or_false (is_open p || false)
 front_open p (l ∷ ls) = or_assoc (is_open p) (list_any is_open l) (any_open ls)
 

@@ -3,7 +3,7 @@ use Rattle.std.proofs.Common.{◌≡◌, ℕ, zero, suc, ◌<◌, ◌≤◌, Boo
 use Rattle.std.proofs.lemmas.Bool.{eqb-true}
 use Rattle.pam_base.specs.Bytes.{has_byte}
 use Rattle.pam_base.specs.White.{is_white}
-use Rattle.conf_lex.specs.Piece.{Join, feed, return_feed, join_bytes, BracketUnit, escaped, joined, single, unit_bytes, units_bytes, Piece, newline, white, join, plain, bracket, open_bracket, comment, piece_bytes, spelling, begins_with, at_line_end, join_after_backslash, join_at, has_join, begins_join, goes_on, all_go_on, is_single, unit_stands, units_stand, stands, Reads, IsReading}
+use Rattle.conf_lex.specs.Piece.{Join, feed, return_feed, join_bytes, BracketUnit, escaped, joined, single, unit_bytes, units_bytes, Piece, newline, white, join, plain, bracket, open_bracket, comment, piece_bytes, spelling, begins_with, at_line_end, join_after_backslash, join_at, has_join, begins_join, goes_on, all_go_on, is_single, unit_may_precede, units_may_precede, may_precede, Reads, IsReading}
 use Rattle.conf_lex.specs.Reading.{unit_at, pieces_of}
 use Rattle.conf_lex.proofs.Once.{both, either, one_reading}
 
@@ -73,7 +73,7 @@ is_join (b ∷ bs) j e =
 pub record IsUnit (text : List ℕ) (u : BracketUnit) : Type 0 where
   pub rest : List ℕ
   pub spelled : text ≡ unit_bytes u ++ rest
-  pub stand : unit_stands u rest ≡ true
+  pub stand : unit_may_precede u rest ≡ true
 
 pub which_join : (o : Option Join) → (o ≡ None) ⊎ ((j : Join) × (o ≡ Some j))
 which_join None = inl refl
@@ -120,7 +120,7 @@ pub record IsUnits (text : List ℕ) : Type 0 where
   pub units : List BracketUnit
   pub rest : List ℕ
   pub spelled : text ≡ units_bytes units ++ rest
-  pub stand : units_stand units rest ≡ true
+  pub stand : units_may_precede units rest ≡ true
   pub ends : unit_at rest ≡ None
 
 unit_length : (u : BracketUnit) → 0 < length (unit_bytes u)
@@ -134,7 +134,7 @@ unit_then text u is more = record {
   units = u ∷ more.units;
   rest = more.rest;
   spelled = is.spelled ∙ ap (λ (t : List ℕ). unit_bytes u ++ t) more.spelled ∙ sym (append_assoc (unit_bytes u) (units_bytes more.units) more.rest);
-  stand = and_true _ _ (ap (unit_stands u) (sym more.spelled) ∙ is.stand) more.stand;
+  stand = and_true _ _ (ap (unit_may_precede u) (sym more.spelled) ∙ is.stand) more.stand;
   ends = more.ends;
 }
 
@@ -196,7 +196,7 @@ line_in (b ∷ bs) =
 pub record IsPiece (text : List ℕ) (p : Piece) : Type 0 where
   pub rest : List ℕ
   pub spelled : text ≡ piece_bytes p ++ rest
-  pub stand : stands p rest ≡ true
+  pub stand : may_precede p rest ≡ true
 
 no_end : (b : ℕ) (bs : List ℕ) → unit_at (b ∷ bs) ≡ None → eqb b 93 ≡ false → eqb b 10 ≡ false → ⊥
 no_end b bs e no_close no_newline =
@@ -230,7 +230,7 @@ a_bracket : (b : ℕ) (bs : List ℕ) (us : IsUnits bs) (more : List ℕ) → b 
 a_bracket b bs us more is closed = record {
   rest = more;
   spelled = ap (λ (x : ℕ). x ∷ bs) is ∙ ap (λ (t : List ℕ). 91 ∷ t) (us.spelled ∙ ap (λ (t : List ℕ). units_bytes us.units ++ t) closed ∙ sym (append_assoc (units_bytes us.units) (93 ∷ []) more));
-  stand = ap (units_stand us.units) (sym closed) ∙ us.stand;
+  stand = ap (units_may_precede us.units) (sym closed) ∙ us.stand;
 }
 
 an_open_bracket : (b : ℕ) (bs : List ℕ) (us : IsUnits bs) → b ≡ 91 → at_line_end us.rest ≡ true → IsPiece (b ∷ bs) (open_bracket us.units)
@@ -287,10 +287,10 @@ which_piece b bs =
 pub reads_more : (text : List ℕ) (p : Piece) (is : IsPiece text p) (ps : List Piece) (rest : List ℕ) → Reads is.rest ps rest → Reads text (p ∷ ps) rest
 reads_more text p is ps rest r = record {
   spelled = is.spelled ∙ ap (λ (t : List ℕ). piece_bytes p ++ t) r.spelled ∙ sym (append_assoc (piece_bytes p) (spelling ps) rest);
-  stand = and_true _ _ (ap (stands p) (sym r.spelled) ∙ is.stand) r.stand;
+  stand = and_true _ _ (ap (may_precede p) (sym r.spelled) ∙ is.stand) r.stand;
 }
 
-piece_length : (p : Piece) (rest : List ℕ) → stands p rest ≡ true → 0 < length (piece_bytes p)
+piece_length : (p : Piece) (rest : List ℕ) → may_precede p rest ≡ true → 0 < length (piece_bytes p)
 piece_length newline rest e = omega arith
 piece_length (white b) rest e = omega arith
 piece_length (join feed) rest e = omega arith

@@ -39,10 +39,10 @@ before_short [] = omega arith
 before_short (b ∷ bs) = elim (which (eqb b 0)) [ inl y ↦ rw y (omega arith) | inr z ↦ rw z (omega (arith, before_short bs)) ]
 
 pub moves_none : (t : List ℕ) (m : ℕ) → Moves t t m m
-moves_none t m = record { nul = refl; behind = refl; fits = omega arith }
+moves_none t m = record { nul = refl; past_end = refl; fits = omega arith }
 
 pub moves_on : (s t u : List ℕ) (m k n : ℕ) → Moves s t m k → Moves t u k n → Moves s u m n
-moves_on s t u m k n a b = record { nul = b.nul ∙ a.nul; behind = omega (arith, a.behind, b.behind); fits = omega (arith, a.fits, b.fits) }
+moves_on s t u m k n a b = record { nul = b.nul ∙ a.nul; past_end = omega (arith, a.past_end, b.past_end); fits = omega (arith, a.fits, b.fits) }
 
 drop_length : (n : ℕ) (t : List ℕ) → n ≤ length t → length (drop n t) + n ≡ length t
 drop_length zero t e = omega arith
@@ -74,7 +74,7 @@ skip_moves n t rest m lines e is to =
     let left_before : length (before_nul rest) + n ≡ length (before_nul t) = ap (λ (s : List ℕ). length (before_nul s) + n) to ∙ (ap (λ (s : List ℕ). length s + n) (before_drop n t e) ∙ drop_length n (before_nul t) e) in
     record {
       nul = ap (λ (k : ℕ). nul_line (m + k) rest) is ∙ (ap (nul_line (m + newlines (take n (before_nul t)))) to ∙ nul_drop m n t e);
-      behind = omega (arith, left, left_before);
+      past_end = omega (arith, left, left_before);
       fits = omega (arith, left, is, lines_most n t e);
     }
 
@@ -193,8 +193,8 @@ pub record NulPlace (n line : ℕ) (t : List ℕ) : Type 0 where
   pub first : IsFirstPlace (Some place) 0 t
   pub line_is : line ≡ n + newlines (take place t)
 
-first_behind : (b place : ℕ) (bs : List ℕ) → eqb b 0 ≡ false → IsFirstPlace (Some place) 0 bs → IsFirstPlace (Some (suc place)) 0 (b ∷ bs)
-first_behind b place bs z at =
+first_after : (b place : ℕ) (bs : List ℕ) → eqb b 0 ≡ false → IsFirstPlace (Some place) 0 bs → IsFirstPlace (Some (suc place)) 0 (b ∷ bs)
+first_after b place bs z at =
     let next : suc (place + 1) ≡ suc place + 1 = omega arith in
     (omega (arith, at.0), rw (z, at.1) refl, ap (λ (l : List ℕ). b ∷ l) at.2 ∙ ap (λ (k : ℕ). b ∷ (take place bs ++ 0 ∷ drop k (b ∷ bs))) next)
 
@@ -210,7 +210,7 @@ nul_place n (b ∷ bs) line e =
           let more = nul_place (n + newlines (b ∷ [])) bs line (rw z at e) in
           record {
             place = suc more.place;
-            first = first_behind b more.place bs z more.first;
+            first = first_after b more.place bs z more.first;
             line_is = omega (arith, more.line_is, newlines-append (b ∷ []) (take more.place bs));
           }
     ]

@@ -4,8 +4,8 @@ use Rattle.std.proofs.Common.{◌≡◌, ℕ, zero, suc, ◌-◌, Bool, true, fa
 use Rattle.std.proofs.lemmas.Bool.{eqb-true}
 use Rattle.pam_base.specs.Bytes.{has_byte}
 use Rattle.pam_base.specs.White.{is_white}
-use Rattle.conf_lex.specs.Piece.{Join, feed, return_feed, BracketUnit, escaped, joined, single, unit_bytes, units_bytes, Piece, newline, white, join, plain, bracket, open_bracket, comment, piece_bytes, spelling, begins_with, at_line_end, join_at, has_join, begins_join, goes_on, all_go_on, is_single, unit_stands, units_stand, stands, all_stand, Reads, IsReading}
-use Rattle.conf_lex.specs.Reading.{run_of, rest_of_line, unit_at, units_behind, first_piece, pieces_behind, pieces_of}
+use Rattle.conf_lex.specs.Piece.{Join, feed, return_feed, BracketUnit, escaped, joined, single, unit_bytes, units_bytes, Piece, newline, white, join, plain, bracket, open_bracket, comment, piece_bytes, spelling, begins_with, at_line_end, join_at, has_join, begins_join, goes_on, all_go_on, is_single, unit_may_precede, units_may_precede, may_precede, all_may_precede, Reads, IsReading}
+use Rattle.conf_lex.specs.Reading.{run_of, rest_of_line, unit_at, units_after, first_piece, pieces_after, pieces_of}
 
 -- ---- tests
 
@@ -31,11 +31,11 @@ drop_front (x ∷ xs) ys = drop_front xs ys
 
 -- ---- units
 
-pub units_behind-drop : (n : ℕ) (text : List ℕ) → units_behind n text ≡ units_behind 0 (drop n text)
-unfolding units_behind
-units_behind-drop zero text = refl
-units_behind-drop (suc n) [] = refl
-units_behind-drop (suc n) (b ∷ bs) = units_behind-drop n bs
+pub units_after-drop : (n : ℕ) (text : List ℕ) → units_after n text ≡ units_after 0 (drop n text)
+unfolding units_after
+units_after-drop zero text = refl
+units_after-drop (suc n) [] = refl
+units_after-drop (suc n) (b ∷ bs) = units_after-drop n bs
 
 pub record IsSingle (b : ℕ) (rest : List ℕ) : Type 0 where
   pub no_close : eqb b 93 ≡ false
@@ -59,23 +59,23 @@ unit_at_single b rest e =
     let facts = is_single_facts b rest e in
     rw (facts.no_join_at, facts.no_escape, facts.no_close, facts.no_newline) refl
 
-pub unit_again : (u : BracketUnit) (rest : List ℕ) → unit_stands u rest ≡ true → units_behind 0 (unit_bytes u ++ rest) ≡ u ∷ units_behind 0 rest
-unfolding units_behind
+pub unit_again : (u : BracketUnit) (rest : List ℕ) → unit_may_precede u rest ≡ true → units_after 0 (unit_bytes u ++ rest) ≡ u ∷ units_after 0 rest
+unfolding units_after
 unit_again escaped rest e = refl
 unit_again (joined feed) rest e = refl
 unit_again (joined return_feed) rest e = refl
-unit_again (single b) rest e = rw (unit_at_single b rest e, units_behind) refl
+unit_again (single b) rest e = rw (unit_at_single b rest e, units_after) refl
 
-pub units_end : (rest : List ℕ) → unit_at rest ≡ None → units_behind 0 rest ≡ []
-unfolding units_behind
+pub units_end : (rest : List ℕ) → unit_at rest ≡ None → units_after 0 rest ≡ []
+unfolding units_after
 units_end [] e = refl
-units_end (b ∷ bs) e = rw (e, units_behind) refl
+units_end (b ∷ bs) e = rw (e, units_after) refl
 
-pub units_again : (us : List BracketUnit) (rest : List ℕ) → units_stand us rest ≡ true → units_behind 0 (units_bytes us ++ rest) ≡ us ++ units_behind 0 rest
+pub units_again : (us : List BracketUnit) (rest : List ℕ) → units_may_precede us rest ≡ true → units_after 0 (units_bytes us ++ rest) ≡ us ++ units_after 0 rest
 units_again [] rest e = refl
 units_again (u ∷ us) rest e =
-    let parts = both (unit_stands u (units_bytes us ++ rest)) (units_stand us rest) e in
-    ap (λ (t : List ℕ). units_behind 0 t) (append_assoc (unit_bytes u) (units_bytes us) rest) ∙ unit_again u (units_bytes us ++ rest) parts.0 ∙ ap (λ (vs : List BracketUnit). u ∷ vs) (units_again us rest parts.1)
+    let parts = both (unit_may_precede u (units_bytes us ++ rest)) (units_may_precede us rest) e in
+    ap (λ (t : List ℕ). units_after 0 t) (append_assoc (unit_bytes u) (units_bytes us) rest) ∙ unit_again u (units_bytes us ++ rest) parts.0 ∙ ap (λ (vs : List BracketUnit). u ∷ vs) (units_again us rest parts.1)
 
 pub no_unit_at_end : (rest : List ℕ) → at_line_end rest ≡ true → unit_at rest ≡ None
 no_unit_at_end [] e = refl
@@ -101,16 +101,16 @@ line_again (b ∷ bs) rest e end =
 
 -- ---- pieces
 
-pub pieces_behind-drop : (n : ℕ) (text : List ℕ) → pieces_behind n text ≡ pieces_behind 0 (drop n text)
-unfolding pieces_behind
-pieces_behind-drop zero text = refl
-pieces_behind-drop (suc n) [] = refl
-pieces_behind-drop (suc n) (b ∷ bs) = pieces_behind-drop n bs
+pub pieces_after-drop : (n : ℕ) (text : List ℕ) → pieces_after n text ≡ pieces_after 0 (drop n text)
+unfolding pieces_after
+pieces_after-drop zero text = refl
+pieces_after-drop (suc n) [] = refl
+pieces_after-drop (suc n) (b ∷ bs) = pieces_after-drop n bs
 
 from_first : (b : ℕ) (bs rest : List ℕ) (p : Piece) → first_piece (b ∷ bs) ≡ p → drop (length (piece_bytes p) - 1) bs ≡ rest
     → pieces_of (b ∷ bs) ≡ p ∷ pieces_of rest
-unfolding pieces_behind
-from_first b bs rest p is left = rw (is, pieces_behind-drop (length (piece_bytes p) - 1) bs, left) refl
+unfolding pieces_after
+from_first b bs rest p is left = rw (is, pieces_after-drop (length (piece_bytes p) - 1) bs, left) refl
 
 three : (x y z : Bool) → (x || y || z) ≡ true → (x ≡ true) ⊎ ((y ≡ true) ⊎ (z ≡ true))
 three true y z e = inl refl
@@ -131,10 +131,10 @@ comment_again : (text rest : List ℕ) → has_byte 10 text ≡ false → at_lin
 unfolding first_piece
 comment_again text rest e end = ap comment (line_again text rest e end)
 
-units_to : (us : List BracketUnit) (rest : List ℕ) → units_stand us rest ≡ true → unit_at rest ≡ None → units_behind 0 (units_bytes us ++ rest) ≡ us
+units_to : (us : List BracketUnit) (rest : List ℕ) → units_may_precede us rest ≡ true → unit_at rest ≡ None → units_after 0 (units_bytes us ++ rest) ≡ us
 units_to us rest e none = units_again us rest e ∙ ap (λ (vs : List BracketUnit). us ++ vs) (units_end rest none) ∙ append-nil us
 
-bracket_again : (us : List BracketUnit) (rest : List ℕ) → units_stand us (93 ∷ rest) ≡ true → first_piece (91 ∷ (units_bytes us ++ 93 ∷ rest)) ≡ bracket us
+bracket_again : (us : List BracketUnit) (rest : List ℕ) → units_may_precede us (93 ∷ rest) ≡ true → first_piece (91 ∷ (units_bytes us ++ 93 ∷ rest)) ≡ bracket us
 unfolding first_piece
 bracket_again us rest e = rw (units_to us (93 ∷ rest) e refl, drop_front (units_bytes us) (93 ∷ rest)) refl
 
@@ -142,7 +142,7 @@ not_close : (rest : List ℕ) → at_line_end rest ≡ true → begins_with 93 r
 not_close [] e = refl
 not_close (b ∷ bs) e = rw (eqb-true b 10 e) refl
 
-open_again : (us : List BracketUnit) (rest : List ℕ) → units_stand us rest ≡ true → at_line_end rest ≡ true
+open_again : (us : List BracketUnit) (rest : List ℕ) → units_may_precede us rest ≡ true → at_line_end rest ≡ true
     → first_piece (91 ∷ (units_bytes us ++ rest)) ≡ open_bracket us
 unfolding first_piece
 open_again us rest e end = rw (units_to us rest e (no_unit_at_end rest end), drop_front (units_bytes us) rest, not_close rest end) refl
@@ -174,7 +174,7 @@ pub record IsPlain (run rest : List ℕ) : Type 0 where
   pub on : all_go_on run rest ≡ true
   pub ends : goes_on rest ≡ false
 
-pub plain_facts : (run rest : List ℕ) → stands (plain run) rest ≡ true → IsPlain run rest
+pub plain_facts : (run rest : List ℕ) → may_precede (plain run) rest ≡ true → IsPlain run rest
 plain_facts run rest e =
     let last = both (not (at_line_end run) && not (begins_with 91 run) && all_go_on run rest) (not (goes_on rest)) e in
     let third = both (not (at_line_end run) && not (begins_with 91 run)) (all_go_on run rest) last.0 in
@@ -182,7 +182,7 @@ plain_facts run rest e =
     record { some = not_true (at_line_end run) first.0; no_bracket = not_true (begins_with 91 run) first.1; on = third.1; ends = not_true (goes_on rest) last.1 }
 
 -- a piece at the beginning of a text is the first of its pieces
-pub piece_again : (p : Piece) (rest : List ℕ) → stands p rest ≡ true → pieces_of (piece_bytes p ++ rest) ≡ p ∷ pieces_of rest
+pub piece_again : (p : Piece) (rest : List ℕ) → may_precede p rest ≡ true → pieces_of (piece_bytes p ++ rest) ≡ p ∷ pieces_of rest
 piece_again newline rest e = from_first 10 rest rest newline (unfold first_piece in refl) refl
 piece_again (white b) rest e = from_first b rest rest (white b) (white_again b rest e) refl
 piece_again (join feed) rest e = from_first 92 (10 ∷ rest) rest (join feed) (unfold first_piece in refl) refl
@@ -197,7 +197,7 @@ piece_again (bracket us) rest e =
     let regroup : (units_bytes us ++ 93 ∷ []) ++ rest ≡ units_bytes us ++ 93 ∷ rest = append_assoc (units_bytes us) (93 ∷ []) rest in
     from_first 91 ((units_bytes us ++ 93 ∷ []) ++ rest) rest (bracket us) (ap (λ (t : List ℕ). first_piece (91 ∷ t)) regroup ∙ bracket_again us rest e) (rw k (drop_front (units_bytes us ++ 93 ∷ []) rest))
 piece_again (open_bracket us) rest e =
-    let parts = both (units_stand us rest) (at_line_end rest) e in
+    let parts = both (units_may_precede us rest) (at_line_end rest) e in
     let k : suc (length (units_bytes us)) - 1 ≡ length (units_bytes us) = omega arith in
     from_first 91 (units_bytes us ++ rest) rest (open_bracket us) (open_again us rest parts.0 parts.1) (rw k (drop_front (units_bytes us) rest))
 piece_again (comment text) rest e =
@@ -206,17 +206,17 @@ piece_again (comment text) rest e =
     from_first 35 (text ++ rest) rest (comment text) (comment_again text rest (not_true (has_byte 10 text) parts.0) parts.1) (rw k (drop_front text rest))
 
 -- pieces at the beginning of a text are the first of its pieces
-pub pieces_again : (ps : List Piece) (rest : List ℕ) → all_stand ps rest ≡ true → pieces_of (spelling ps ++ rest) ≡ ps ++ pieces_of rest
+pub pieces_again : (ps : List Piece) (rest : List ℕ) → all_may_precede ps rest ≡ true → pieces_of (spelling ps ++ rest) ≡ ps ++ pieces_of rest
 pieces_again [] rest e = refl
 pieces_again (p ∷ ps) rest e =
-    let parts = both (stands p (spelling ps ++ rest)) (all_stand ps rest) e in
+    let parts = both (may_precede p (spelling ps ++ rest)) (all_may_precede ps rest) e in
     ap pieces_of (append_assoc (piece_bytes p) (spelling ps) rest) ∙ piece_again p (spelling ps ++ rest) parts.0 ∙ ap (λ (qs : List Piece). p ∷ qs) (pieces_again ps rest parts.1)
 
 pub reads_pieces : (text : List ℕ) (ps : List Piece) (rest : List ℕ) → Reads text ps rest → pieces_of text ≡ ps ++ pieces_of rest
 reads_pieces text ps rest r = ap pieces_of r.spelled ∙ pieces_again ps rest r.stand
 
 none_left : pieces_of [] ≡ []
-unfolding pieces_behind
+unfolding pieces_after
 none_left = refl
 
 -- a text has at most one reading

@@ -2,7 +2,7 @@
 use Rattle.std.proofs.Common.{◌≡◌, ℕ, ◌+◌, ◌<◌, ◌≤◌, Bool, true, false, cond, eqb, List, [], ◌∷◌, ◌++◌, length, drop, get_or, None, refl, sym, ap, ◌∙◌, arith, append_assoc, append-nil, length-append}
 use Rattle.std.proofs.lemmas.Grind.{flat_map-append}
 use Rattle.std.proofs.lemmas.List.Sums.{count_by-le-length, sum_by-append}
-use Rattle.conf_lex.specs.Piece.{Join, feed, return_feed, join_bytes, join_at, BracketUnit, joined, single, unit_bytes, unit_text, units_bytes, units_text, units_stand, unit_stands, goes_on}
+use Rattle.conf_lex.specs.Piece.{Join, feed, return_feed, join_bytes, join_at, BracketUnit, joined, single, unit_bytes, unit_text, units_bytes, units_text, units_may_precede, unit_may_precede, goes_on}
 use Rattle.conf_lex.specs.Reading.{run_of}
 use Rattle.conf_lex.specs.Rules.{newlines}
 use Rattle.conf_lex.specs.Lexing.{is_bracket_end, is_escape, TakesJoin, UnitTaken, TakesUnits}
@@ -40,7 +40,7 @@ pub alone_unit : (taken : Bool) (before mid after : List ℕ) (m k n : ℕ) → 
 alone_unit true before mid after m k n t e no_end no_escape rest line = absurd cc
 alone_unit false before mid after m k n t e no_end no_escape rest line =
     let one = single_unit mid k (ap join_at t.1 ∙ t.0) no_end no_escape in
-    record { unit = one.unit; spelled = sym t.1 ∙ one.spelled ∙ ap (λ (s : List ℕ). unit_bytes one.unit ++ s) (sym rest); stand = ap (unit_stands one.unit) rest ∙ one.stand; gives = one.gives; lines = line ∙ one.lines ∙ ap (λ (i : ℕ). i + newlines (unit_bytes one.unit)) t.2 }
+    record { unit = one.unit; spelled = sym t.1 ∙ one.spelled ∙ ap (λ (s : List ℕ). unit_bytes one.unit ++ s) (sym rest); stand = ap (unit_may_precede one.unit) rest ∙ one.stand; gives = one.gives; lines = line ∙ one.lines ∙ ap (λ (i : ℕ). i + newlines (unit_bytes one.unit)) t.2 }
 
 pub no_units : (text : List ℕ) (m : ℕ) → TakesUnits [] text text m m
 no_units text m = record { units = []; spelled = refl; stand = refl; gives = refl; lines = omega arith }
@@ -59,19 +59,19 @@ lines_pushed us u m k n e f =
     let bytes : units_bytes (us ++ u ∷ []) ≡ units_bytes us ++ unit_bytes u = rw (flat_map-append unit_bytes us (u ∷ []), append-nil (unit_bytes u)) refl in
     rw bytes (omega (arith, newlines-append (units_bytes us) (unit_bytes u)))
 
-units_stand-push : (us : List BracketUnit) (u : BracketUnit) (rest : List ℕ) → units_stand us (unit_bytes u ++ rest) ≡ true
-    → unit_stands u rest ≡ true → units_stand (us ++ u ∷ []) rest ≡ true
-units_stand-push [] u rest e f = rw f refl
-units_stand-push (v ∷ us) u rest e f =
-    let parts = both (unit_stands v (units_bytes us ++ (unit_bytes u ++ rest))) (units_stand us (unit_bytes u ++ rest)) e in
-    and_true _ _ (ap (unit_stands v) (pushed us u rest) ∙ parts.0) (units_stand-push us u rest parts.1 f)
+units_may_precede-push : (us : List BracketUnit) (u : BracketUnit) (rest : List ℕ) → units_may_precede us (unit_bytes u ++ rest) ≡ true
+    → unit_may_precede u rest ≡ true → units_may_precede (us ++ u ∷ []) rest ≡ true
+units_may_precede-push [] u rest e f = rw f refl
+units_may_precede-push (v ∷ us) u rest e f =
+    let parts = both (unit_may_precede v (units_bytes us ++ (unit_bytes u ++ rest))) (units_may_precede us (unit_bytes u ++ rest)) e in
+    and_true _ _ (ap (unit_may_precede v) (pushed us u rest) ∙ parts.0) (units_may_precede-push us u rest parts.1 f)
 
 pub push_unit : (text before mid after : List ℕ) (byte m k n : ℕ) → TakesUnits text before mid m k → UnitTaken byte mid after k n
     → TakesUnits (text ++ byte ∷ []) before after m n
 push_unit text before mid after byte m k n us u = record {
   units = us.units ++ u.unit ∷ [];
   spelled = us.spelled ∙ ap (λ (s : List ℕ). units_bytes us.units ++ s) u.spelled ∙ sym (pushed us.units u.unit after);
-  stand = units_stand-push us.units u.unit after (ap (units_stand us.units) (sym u.spelled) ∙ us.stand) u.stand;
+  stand = units_may_precede-push us.units u.unit after (ap (units_may_precede us.units) (sym u.spelled) ∙ us.stand) u.stand;
   gives = text_pushed us.units u.unit text byte us.gives u.gives;
   lines = lines_pushed us.units u.unit m k n us.lines u.lines;
 }

@@ -10,7 +10,7 @@ use Rattle.pam_base.specs.White.{is_white}
 use Rattle.conf_lex.specs.declared.lexer.LinePiece.{LinePiece}
 use Rattle.conf_lex.specs.declared.lexer.Line.{Line}
 use Rattle.conf_lex.specs.declared.lexer.LinePiece.TheVariants as founds
-use Rattle.conf_lex.specs.Piece.{BracketUnit, units_bytes, units_stand, Piece, white, join, plain, bracket, open_bracket, comment, piece_bytes, piece_tokens, spelling, tokens_of, is_newline, is_open, stands, all_stand, at_line_end, begins_with, goes_on, all_go_on, Reads}
+use Rattle.conf_lex.specs.Piece.{BracketUnit, units_bytes, units_may_precede, Piece, white, join, plain, bracket, open_bracket, comment, piece_bytes, piece_tokens, spelling, tokens_of, is_newline, is_open, may_precede, all_may_precede, at_line_end, begins_with, goes_on, all_go_on, Reads}
 use Rattle.conf_lex.specs.Reading.{unit_at, run_of}
 use Rattle.conf_lex.specs.Rules.{newlines}
 use Rattle.conf_lex.specs.Lexing.{begins_white, TakesJoin, TakesUnits, TakesPiece, TakesPieces, found_tokens, found_open}
@@ -138,7 +138,7 @@ bracket_piece before inside mid after text m k i n e is line us none within rest
     record {
       piece = bracket us.units;
       spelled = after_bracket before e ∙ ap (λ (t : List ℕ). 91 ∷ t) (sym is ∙ us.spelled ∙ ap (λ (t : List ℕ). units_bytes us.units ++ t) mid_is ∙ sym (append_assoc (units_bytes us.units) (93 ∷ []) after));
-      stand = ap (units_stand us.units) (sym mid_is) ∙ us.stand;
+      stand = ap (units_may_precede us.units) (sym mid_is) ∙ us.stand;
       within = refl;
       tokens = ap (λ (t : List ℕ). record { bracketed = true; text = t } ∷ []) us.gives;
       opened = refl;
@@ -167,18 +167,18 @@ or_false : (b : Bool) → (b || false) ≡ b
 or_false true = refl
 or_false false = refl
 
-all_stand-push : (ps : List Piece) (p : Piece) (rest : List ℕ) → all_stand ps (piece_bytes p ++ rest) ≡ true → stands p rest ≡ true
-    → all_stand (ps ++ p ∷ []) rest ≡ true
-all_stand-push [] p rest e f = rw f refl
-all_stand-push (q ∷ ps) p rest e f =
-    let parts = both (stands q (spelling ps ++ (piece_bytes p ++ rest))) (all_stand ps (piece_bytes p ++ rest)) e in
-    and_true _ _ (ap (stands q) (pushed ps p rest) ∙ parts.0) (all_stand-push ps p rest parts.1 f)
+all_may_precede-push : (ps : List Piece) (p : Piece) (rest : List ℕ) → all_may_precede ps (piece_bytes p ++ rest) ≡ true → may_precede p rest ≡ true
+    → all_may_precede (ps ++ p ∷ []) rest ≡ true
+all_may_precede-push [] p rest e f = rw f refl
+all_may_precede-push (q ∷ ps) p rest e f =
+    let parts = both (may_precede q (spelling ps ++ (piece_bytes p ++ rest))) (all_may_precede ps (piece_bytes p ++ rest)) e in
+    and_true _ _ (ap (may_precede q) (pushed ps p rest) ∙ parts.0) (all_may_precede-push ps p rest parts.1 f)
 
-push_reads : (before mid after : List ℕ) (ps : List Piece) (p : Piece) → Reads before ps mid → mid ≡ piece_bytes p ++ after → stands p after ≡ true
+push_reads : (before mid after : List ℕ) (ps : List Piece) (p : Piece) → Reads before ps mid → mid ≡ piece_bytes p ++ after → may_precede p after ≡ true
     → Reads before (ps ++ p ∷ []) after
 push_reads before mid after ps p r spelled stand = record {
   spelled = r.spelled ∙ ap (λ (s : List ℕ). spelling ps ++ s) spelled ∙ sym (pushed ps p after);
-  stand = all_stand-push ps p after (ap (all_stand ps) (sym spelled) ∙ r.stand) stand;
+  stand = all_may_precede-push ps p after (ap (all_may_precede ps) (sym spelled) ∙ r.stand) stand;
 }
 
 any_push : (f : Piece → Bool) (ps : List Piece) (p : Piece) → list_any f (ps ++ p ∷ []) ≡ (list_any f ps || f p)

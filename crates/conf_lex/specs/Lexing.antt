@@ -11,7 +11,7 @@ use Rattle.conf_lex.specs.declared.token.LexFault.{LexFault}
 use Rattle.conf_lex.specs.declared.lexer.LinePiece.{LinePiece}
 use Rattle.conf_lex.specs.declared.lexer.LinePiece.TheVariants as founds
 use Rattle.conf_lex.specs.declared.lexer.Line.{Line}
-use Rattle.conf_lex.specs.Piece.{Join, join_bytes, join_at, BracketUnit, unit_bytes, unit_text, units_bytes, units_text, units_stand, unit_stands, Piece, piece_bytes, piece_tokens, spelling, tokens_of, is_newline, is_open, stands, begins_with, Reads}
+use Rattle.conf_lex.specs.Piece.{Join, join_bytes, join_at, BracketUnit, unit_bytes, unit_text, units_bytes, units_text, units_may_precede, unit_may_precede, Piece, piece_bytes, piece_tokens, spelling, tokens_of, is_newline, is_open, may_precede, begins_with, Reads}
 use Rattle.conf_lex.specs.Reading.{unit_at, pieces_of}
 use Rattle.conf_lex.specs.Rules.{newlines, JoinedLine, lines_of_pieces, numbered, rule_at, line_rules, first_fault}
 
@@ -29,7 +29,7 @@ nul_line n (b ∷ bs) = if b == 0 then Some n else nul_line (n + newlines (b ∷
 -- follows it
 pub record Moves (before after : List ℕ) (old_line new_line : ℕ) : Type 0 where
   pub nul : nul_line new_line after ≡ nul_line old_line before
-  pub behind : length after + length (before_nul before) ≡ length before + length (before_nul after)
+  pub past_end : length after + length (before_nul before) ≡ length before + length (before_nul after)
   pub fits : new_line + length after ≤ old_line + length before
 
 -- whether a bracket's units end here, with a `]` or the line
@@ -58,7 +58,7 @@ TakesJoin false before after old_line new_line = (join_at before ≡ None) × (a
 pub record UnitTaken (byte : ℕ) (before after : List ℕ) (old_line new_line : ℕ) : Type 0 where
   pub unit : BracketUnit
   pub spelled : before ≡ unit_bytes unit ++ after
-  pub stand : unit_stands unit after ≡ true
+  pub stand : unit_may_precede unit after ≡ true
   pub gives : unit_text unit ≡ byte ∷ []
   pub lines : new_line ≡ old_line + newlines (unit_bytes unit)
 
@@ -72,7 +72,7 @@ TakesUnit None before after old_line new_line = (unit_at before ≡ None) × (af
 pub record TakesUnits (text before after : List ℕ) (old_line new_line : ℕ) : Type 0 where
   pub units : List BracketUnit
   pub spelled : before ≡ units_bytes units ++ after
-  pub stand : units_stand units after ≡ true
+  pub stand : units_may_precede units after ≡ true
   pub gives : text ≡ units_text units
   pub lines : new_line ≡ old_line + newlines (units_bytes units)
 
@@ -91,7 +91,7 @@ found_open _ = false
 pub record TakesPiece (found : LinePiece) (before after : List ℕ) (old_line new_line : ℕ) : Type 0 where
   pub piece : Piece
   pub spelled : before ≡ piece_bytes piece ++ after
-  pub stand : stands piece after ≡ true
+  pub stand : may_precede piece after ≡ true
   pub within : is_newline piece ≡ false
   pub tokens : found_tokens found ≡ piece_tokens piece
   pub opened : found_open found ≡ is_open piece
@@ -132,16 +132,16 @@ unfoldable pub answer_at : ℕ → List ℕ → Result (List RawRule) LexFault
 answer_at n text = answer_of (numbered n (lines_of_pieces (pieces_of text)))
 
 -- the same with the rules of earlier lines
-abbrev pub with_front : List RawRule → Result (List RawRule) LexFault
+abbrev pub with_rules_first : List RawRule → Result (List RawRule) LexFault
     → Result (List RawRule) LexFault
-with_front front (Ok rules) = Ok (front ++ rules)
-with_front front (Err f) = Err f
+with_rules_first front (Ok rules) = Ok (front ++ rules)
+with_rules_first front (Err f) = Err f
 
 -- unless memory ran out, a line has these tokens or this fault, and the rest of the text gives the
 -- other lines
 abbrev pub GivesLine : Result (List Token) (Refuse LexFault) → Result (List RawRule) LexFault → ℕ
     → Result (List RawRule) LexFault → Type 0
-GivesLine (Ok tokens) all first left = all ≡ with_front (rule_at first tokens) left
+GivesLine (Ok tokens) all first left = all ≡ with_rules_first (rule_at first tokens) left
 GivesLine (Err (refusals.Named f)) all first left = all ≡ Err f
 GivesLine (Err refusals.NoMemory) all first left = Unit {0}
 

@@ -142,37 +142,37 @@ is_single (b ∷ bs) = not (b == 93 || b == 10 || (b == 92 && begins_with 93 bs)
     || begins_join (b ∷ bs))
 
 -- whether a unit may come before the rest (own)
-abbrev pub unit_stands : BracketUnit → List ℕ → Bool
-unit_stands (single b) rest = is_single (b ∷ rest)
-unit_stands _ rest = true
+abbrev pub unit_may_precede : BracketUnit → List ℕ → Bool
+unit_may_precede (single b) rest = is_single (b ∷ rest)
+unit_may_precede _ rest = true
 
 -- whether each of these units may come before what follows it (own)
-abbrev pub units_stand : List BracketUnit → List ℕ → Bool
-units_stand [] rest = true
-units_stand (u ∷ us) rest = unit_stands u (units_bytes us ++ rest) && units_stand us rest
+abbrev pub units_may_precede : List BracketUnit → List ℕ → Bool
+units_may_precede [] rest = true
+units_may_precede (u ∷ us) rest = unit_may_precede u (units_bytes us ++ rest) && units_may_precede us rest
 
 -- whether a piece may come before the rest (pam.conf(5), own): a plain token is as long as possible
 -- and doesn't begin with `[`, a bracket is closed by the first `]` that has no backslash before it,
 -- and a comment or an open bracket goes on to the line's end
-abbrev pub stands : Piece → List ℕ → Bool
-stands newline rest = true
-stands (white b) rest = is_white b
-stands (join j) rest = true
-stands (plain run) rest = not (at_line_end run) && not (begins_with 91 run) && all_go_on run rest
+abbrev pub may_precede : Piece → List ℕ → Bool
+may_precede newline rest = true
+may_precede (white b) rest = is_white b
+may_precede (join j) rest = true
+may_precede (plain run) rest = not (at_line_end run) && not (begins_with 91 run) && all_go_on run rest
     && not (goes_on rest)
-stands (bracket us) rest = units_stand us (93 ∷ rest)
-stands (open_bracket us) rest = units_stand us rest && at_line_end rest
-stands (comment text) rest = not (has_byte 10 text) && at_line_end rest
+may_precede (bracket us) rest = units_may_precede us (93 ∷ rest)
+may_precede (open_bracket us) rest = units_may_precede us rest && at_line_end rest
+may_precede (comment text) rest = not (has_byte 10 text) && at_line_end rest
 
 -- whether each of these pieces may come before what follows it (own)
-abbrev pub all_stand : List Piece → List ℕ → Bool
-all_stand [] rest = true
-all_stand (p ∷ ps) rest = stands p (spelling ps ++ rest) && all_stand ps rest
+abbrev pub all_may_precede : List Piece → List ℕ → Bool
+all_may_precede [] rest = true
+all_may_precede (p ∷ ps) rest = may_precede p (spelling ps ++ rest) && all_may_precede ps rest
 
 -- these pieces spell a prefix of the text, which this rest follows (own)
 pub record Reads (text : List ℕ) (pieces : List Piece) (rest : List ℕ) : Type 0 where
   pub spelled : text ≡ spelling pieces ++ rest
-  pub stand : all_stand pieces rest ≡ true
+  pub stand : all_may_precede pieces rest ≡ true
 
 -- the text is spelled by these pieces (own)
 abbrev pub IsReading : List ℕ → List Piece → Type 0

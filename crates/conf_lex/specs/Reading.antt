@@ -26,11 +26,11 @@ unit_at [] = None
 unit_at (b ∷ bs) = unit_without_join (join_at (b ∷ bs)) b bs
 
 -- the units after the first n bytes, which an earlier unit has (own)
-unfoldable pub units_behind : ℕ → List ℕ → List BracketUnit
-units_behind n [] = []
-units_behind zero (b ∷ bs) =
-    elim (unit_at (b ∷ bs)) [ Some u ↦ u ∷ units_behind (length (unit_bytes u) - 1) bs | None ↦ [] ]
-units_behind (suc n) (b ∷ bs) = units_behind n bs
+unfoldable pub units_after : ℕ → List ℕ → List BracketUnit
+units_after n [] = []
+units_after zero (b ∷ bs) =
+    elim (unit_at (b ∷ bs)) [ Some u ↦ u ∷ units_after (length (unit_bytes u) - 1) bs | None ↦ [] ]
+units_after (suc n) (b ∷ bs) = units_after n bs
 
 -- the bracket of these units: what follows them decides whether it is closed (own)
 abbrev pub bracket_of : List BracketUnit → List ℕ → Piece
@@ -44,7 +44,7 @@ piece_without_join None b bs =
     if b == 10 then newline
     else if is_white b then white b
     else if b == 35 then comment (rest_of_line bs)
-    else if b == 91 then bracket_of (units_behind 0 bs) bs
+    else if b == 91 then bracket_of (units_after 0 bs) bs
     else plain (b ∷ run_of bs)
 
 -- the piece at the beginning of a text (own)
@@ -53,12 +53,12 @@ first_piece [] = newline
 first_piece (b ∷ bs) = piece_without_join (join_at (b ∷ bs)) b bs
 
 -- the pieces after the first n bytes, which an earlier piece has (own)
-unfoldable pub pieces_behind : ℕ → List ℕ → List Piece
-pieces_behind n [] = []
-pieces_behind zero (b ∷ bs) = first_piece (b ∷ bs)
-    ∷ pieces_behind (length (piece_bytes (first_piece (b ∷ bs))) - 1) bs
-pieces_behind (suc n) (b ∷ bs) = pieces_behind n bs
+unfoldable pub pieces_after : ℕ → List ℕ → List Piece
+pieces_after n [] = []
+pieces_after zero (b ∷ bs) = first_piece (b ∷ bs)
+    ∷ pieces_after (length (piece_bytes (first_piece (b ∷ bs))) - 1) bs
+pieces_after (suc n) (b ∷ bs) = pieces_after n bs
 
 -- the pieces of a text (own)
 abbrev pub pieces_of : List ℕ → List Piece
-pieces_of text = pieces_behind 0 text
+pieces_of text = pieces_after 0 text

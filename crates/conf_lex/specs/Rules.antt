@@ -14,16 +14,16 @@ abbrev pub newlines : List ℕ → ℕ
 newlines text = count_by (λ b. b == 10) text
 
 -- a piece before the first line (own)
-abbrev pub in_front : Piece → List (List Piece) → List (List Piece)
-in_front p [] = (p ∷ []) ∷ []
-in_front p (l ∷ ls) = (p ∷ l) ∷ ls
+abbrev pub put_before : Piece → List (List Piece) → List (List Piece)
+put_before p [] = (p ∷ []) ∷ []
+put_before p (l ∷ ls) = (p ∷ l) ∷ ls
 
 -- the pieces of each joined line (pam.conf(5): a rule is a line, with those joined to it): it ends
 -- at a newline that isn't part of a join
 abbrev pub lines_of_pieces : List Piece → List (List Piece)
 lines_of_pieces [] = [] ∷ []
 lines_of_pieces (p ∷ ps) = if is_newline p then [] ∷ lines_of_pieces ps
-    else in_front p (lines_of_pieces ps)
+    else put_before p (lines_of_pieces ps)
 
 -- a joined line with the number of its first physical line, from 1 (own)
 pub record JoinedLine : Type 0 where

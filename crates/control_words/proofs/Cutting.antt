@@ -4,7 +4,7 @@ use Rattle.std.specs.List.{position_or_len, before_first}
 use Rattle.std.proofs.lemmas.List.{drop-drop, nil_from_length}
 use Rattle.std.proofs.lemmas.List.Sums.{prefix_len-le-length}
 use Rattle.pam_base.specs.White.{is_white}
-use Rattle.control_words.specs.Entries.{ControlPair, FirstEntry, after_space, ends_name, entries_behind, entries_in, first_entry, from_first, is_other, with_name}
+use Rattle.control_words.specs.Entries.{ControlPair, FirstEntry, after_space, ends_name, entries_after, entries_in, first_entry, from_first, is_other, with_name}
 
 -- ---- the ends of a text
 
@@ -42,12 +42,12 @@ from_first-end test text = record { places = position_or_len test text; inside =
 -- ---- the first entry
 
 -- what follows an action
-behind_equals : (bs : List ℕ) → IsEnd bs (from_first is_white (after_space bs))
-behind_equals bs = end-end bs (after_space bs) _ (from_first-end is_other bs) (from_first-end is_white (after_space bs))
+after_equals : (bs : List ℕ) → IsEnd bs (from_first is_white (after_space bs))
+after_equals bs = end-end bs (after_space bs) _ (from_first-end is_other bs) (from_first-end is_white (after_space bs))
 
 module _ (name : List ℕ) where
   with_name-by : (b : ℕ) (bs : List ℕ) (is : Bool) → eqb b 61 ≡ is → IsEnd (b ∷ bs) (with_name name (b ∷ bs)).rest
-  with_name-by b bs true e = rw e (tail-end b bs _ (behind_equals bs))
+  with_name-by b bs true e = rw e (tail-end b bs _ (after_equals bs))
   with_name-by b bs false e = rw e (all-end (b ∷ bs))
 
   with_name-end : (text : List ℕ) → IsEnd text (with_name name text).rest
@@ -84,7 +84,7 @@ module _ (b : ℕ) (bs : List ℕ) (other : is_white b ≡ false) where
   -- at least one byte is taken
   first_entry-by : (is : Bool) → eqb b 61 ≡ is → IsEnd bs (first_entry (b ∷ bs)).rest
   unfolding name rest_at
-  first_entry-by true e = subst (λ (t : List ℕ). IsEnd bs t) (sym (equals_first e)) (behind_equals bs)
+  first_entry-by true e = subst (λ (t : List ℕ). IsEnd bs t) (sym (equals_first e)) (after_equals bs)
   first_entry-by false e =
       let goes_on : ends_name b ≡ false = rw (other, e) refl in
       let later : from_first ends_name (b ∷ bs) ≡ from_first ends_name bs = from_first-later ends_name b bs goes_on in
@@ -97,31 +97,31 @@ module _ (b : ℕ) (bs : List ℕ) (other : is_white b ≡ false) where
 
 -- ---- the entries
 
-entries_behind-dropped : (passed : ℕ) (text : List ℕ) → entries_behind passed text ≡ entries_behind 0 (drop passed text)
-unfolding entries_behind
-entries_behind-dropped zero text = refl
-entries_behind-dropped (suc passed) [] = refl
-entries_behind-dropped (suc passed) (b ∷ bs) = entries_behind-dropped passed bs
+entries_after-dropped : (passed : ℕ) (text : List ℕ) → entries_after passed text ≡ entries_after 0 (drop passed text)
+unfolding entries_after
+entries_after-dropped zero text = refl
+entries_after-dropped (suc passed) [] = refl
+entries_after-dropped (suc passed) (b ∷ bs) = entries_after-dropped passed bs
 
 entries-none : entries_in [] ≡ []
-unfolding entries_in entries_behind
+unfolding entries_in entries_after
 entries-none = refl
 
 entries-found : (b : ℕ) (bs : List ℕ) (found : FirstEntry) → is_white b ≡ false → first_entry (b ∷ bs) ≡ found
-    → entries_behind 0 (b ∷ bs) ≡ found.entry ∷ entries_behind (length bs - length found.rest) bs
-unfolding entries_behind
-entries-found b bs found other is = rw (other, entries_behind) (ap (λ (f : FirstEntry). f.entry ∷ entries_behind (length bs - length f.rest) bs) is)
+    → entries_after 0 (b ∷ bs) ≡ found.entry ∷ entries_after (length bs - length found.rest) bs
+unfolding entries_after
+entries-found b bs found other is = rw (other, entries_after) (ap (λ (f : FirstEntry). f.entry ∷ entries_after (length bs - length f.rest) bs) is)
 
 entries-other : (b : ℕ) (bs : List ℕ) → is_white b ≡ false → entries_in (b ∷ bs) ≡ (first_entry (b ∷ bs)).entry ∷ entries_in (first_entry (b ∷ bs)).rest
 unfolding entries_in
 entries-other b bs other =
     let rest : List ℕ = (first_entry (b ∷ bs)).rest in
-    let left : entries_behind (length bs - length rest) bs ≡ entries_behind 0 rest = entries_behind-dropped (length bs - length rest) bs ∙ ap (entries_behind 0) (end-dropped bs rest (first_entry-end b bs other)) in
+    let left : entries_after (length bs - length rest) bs ≡ entries_after 0 rest = entries_after-dropped (length bs - length rest) bs ∙ ap (entries_after 0) (end-dropped bs rest (first_entry-end b bs other)) in
     entries-found b bs (first_entry (b ∷ bs)) other refl ∙ ap (λ (es : List ControlPair). (first_entry (b ∷ bs)).entry ∷ es) left
 
 entries-later : (b : ℕ) (bs : List ℕ) → is_white b ≡ true → entries_in (b ∷ bs) ≡ entries_in bs
-unfolding entries_in entries_behind
-entries-later b bs space = rw (space, entries_behind) refl
+unfolding entries_in entries_after
+entries-later b bs space = rw (space, entries_after) refl
 
 -- whether the text doesn't begin with white space
 abbrev pub starts : List ℕ → Bool

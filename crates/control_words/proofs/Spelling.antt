@@ -51,8 +51,8 @@ blank-run (b ∷ bs) e =
     let parts = both (is_white b) (list_all is_white bs) e in
     rw (no_other (is_white b) parts.0) (blank-run bs parts.1)
 
-pub behind_blank : (blank more : List ℕ) → list_all is_white blank ≡ true → stops is_other more ≡ true → after_space (blank ++ more) ≡ more
-behind_blank blank more e ends = (up_to is_other blank more (blank-run blank e) ends).1
+pub after_blank : (blank more : List ℕ) → list_all is_white blank ≡ true → stops is_other more ≡ true → after_space (blank ++ more) ≡ more
+after_blank blank more e ends = (up_to is_other blank more (blank-run blank e) ends).1
 
 neither-space : (b : Bool) (c : Bool) → not (b || c) ≡ true → not b ≡ true
 neither-space true c e = absurd cc
@@ -62,23 +62,23 @@ neither-space false c e = refl
 
 pub entries-blank : (blank : List ℕ) → list_all is_white blank ≡ true → entries_in blank ≡ []
 entries-blank blank e =
-    let all : after_space (blank ++ []) ≡ [] = behind_blank blank [] e refl in
+    let all : after_space (blank ++ []) ≡ [] = after_blank blank [] e refl in
     entries-after_space blank ∙ ap (λ (t : List ℕ). entries_in (after_space t)) (sym (append-nil blank)) ∙ ap entries_in all ∙ none-left [] refl
 
 -- ---- an entry is its name and its action, whatever white space is around them
 
 module _ (before left right more : List ℕ) (n a : ℕ) (ns as_ : List ℕ) (before_blank : list_all is_white before ≡ true) (left_blank : list_all is_white left ≡ true) (right_blank : list_all is_white right ≡ true)
     (named : list_all (λ b. not (ends_name b)) (n ∷ ns) ≡ true) (acting : list_all is_other (a ∷ as_) ≡ true) (ends : stops is_white more ≡ true) where
-  abbrev behind_equals : List ℕ
-  behind_equals = right ++ ((a ∷ as_) ++ more)
+  abbrev after_equals : List ℕ
+  after_equals = right ++ ((a ∷ as_) ++ more)
 
   abbrev spelled : List ℕ
-  spelled = (n ∷ ns) ++ (left ++ 61 ∷ behind_equals)
+  spelled = (n ∷ ns) ++ (left ++ 61 ∷ after_equals)
 
   name_other : is_other n ≡ true
   name_other = neither-space (is_white n) (eqb n 61) (both (not (ends_name n)) (list_all (λ b. not (ends_name b)) ns) named).0
 
-  left_ends : (l : List ℕ) → list_all is_white l ≡ true → stops ends_name (l ++ 61 ∷ behind_equals) ≡ true
+  left_ends : (l : List ℕ) → list_all is_white l ≡ true → stops ends_name (l ++ 61 ∷ after_equals) ≡ true
   left_ends [] e = refl
   left_ends (b ∷ bs) e = rw (both (is_white b) (list_all is_white bs) e).0 refl
 
@@ -89,15 +89,15 @@ module _ (before left right more : List ℕ) (n a : ℕ) (ns as_ : List ℕ) (be
 
   first_of_it : first_entry spelled ≡ record { entry = record { name = n ∷ ns; action = a ∷ as_ }; rest = more }
   first_of_it =
-      let cut = up_to ends_name (n ∷ ns) (left ++ 61 ∷ behind_equals) named (left_ends left left_blank) in
-      let equals : after_space (left ++ 61 ∷ behind_equals) ≡ 61 ∷ behind_equals = behind_blank left (61 ∷ behind_equals) left_blank refl in
-      let action : after_space behind_equals ≡ (a ∷ as_) ++ more = behind_blank right ((a ∷ as_) ++ more) right_blank (both (is_other a) (list_all is_other as_) acting).0 in
-      let named_it : first_entry spelled ≡ with_name (n ∷ ns) (after_space (left ++ 61 ∷ behind_equals)) = λ i. with_name (cut.0 i) (after_space (cut.1 i)) in
+      let cut = up_to ends_name (n ∷ ns) (left ++ 61 ∷ after_equals) named (left_ends left left_blank) in
+      let equals : after_space (left ++ 61 ∷ after_equals) ≡ 61 ∷ after_equals = after_blank left (61 ∷ after_equals) left_blank refl in
+      let action : after_space after_equals ≡ (a ∷ as_) ++ more = after_blank right ((a ∷ as_) ++ more) right_blank (both (is_other a) (list_all is_other as_) acting).0 in
+      let named_it : first_entry spelled ≡ with_name (n ∷ ns) (after_space (left ++ 61 ∷ after_equals)) = λ i. with_name (cut.0 i) (after_space (cut.1 i)) in
       named_it ∙ ap (with_name (n ∷ ns)) equals ∙ ap (with_action (n ∷ ns)) action ∙ action_of_it
 
   pub entries-spelled : entries_in (before ++ spelled) ≡ record { name = n ∷ ns; action = a ∷ as_ } ∷ entries_in more
   entries-spelled =
       let some : 0 < length spelled = omega arith in
-      entries-after_space (before ++ spelled) ∙ ap entries_in (behind_blank before spelled before_blank name_other) ∙ entries-first spelled some name_other
+      entries-after_space (before ++ spelled) ∙ ap entries_in (after_blank before spelled before_blank name_other) ∙ entries-first spelled some name_other
       ∙ ap (λ (f : FirstEntry). f.entry ∷ entries_in (after_space f.rest)) first_of_it
       ∙ ap (λ (es : List ControlPair). record { name = n ∷ ns; action = a ∷ as_ } ∷ es) (sym (entries-after_space more))

@@ -53,15 +53,15 @@ first_entry text = with_name (before_first ends_name text)
 
 -- the entries after the first n bytes of a text, which were skipped; white space separates entries
 -- (pam.conf(5))
-unfoldable pub entries_behind : ℕ → List ℕ → List ControlPair
-entries_behind passed [] = []
-entries_behind (suc passed) (b ∷ bs) = entries_behind passed bs
-entries_behind zero (b ∷ bs) = elim (is_white b) [
-  | true ↦ entries_behind zero bs
+unfoldable pub entries_after : ℕ → List ℕ → List ControlPair
+entries_after passed [] = []
+entries_after (suc passed) (b ∷ bs) = entries_after passed bs
+entries_after zero (b ∷ bs) = elim (is_white b) [
+  | true ↦ entries_after zero bs
   | false ↦ (first_entry (b ∷ bs)).entry
-      ∷ entries_behind (length bs - length (first_entry (b ∷ bs)).rest) bs
+      ∷ entries_after (length bs - length (first_entry (b ∷ bs)).rest) bs
 ]
 
 -- the entries of a text, all of them (pam.conf(5))
 unfoldable pub entries_in : List ℕ → List ControlPair
-entries_in text = entries_behind 0 text
+entries_in text = entries_after 0 text

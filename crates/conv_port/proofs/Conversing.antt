@@ -8,12 +8,12 @@ use Rattle.conv_port.specs.declared.message.Message.{Message}
 use Rattle.conv_port.specs.declared.message.Reply.{Reply}
 use Rattle.pam_base.specs.Style.{is_prompt}
 use Rattle.conv_port.specs.Message.{AreReplies, IsReply}
-use Rattle.conv_port.specs.Terminal.{IsTyped, Types, all_shown, behind_line, behind_replies, has_lines, shown, typed_line, typed_replies}
+use Rattle.conv_port.specs.Terminal.{IsTyped, Types, all_shown, past_line, after_replies, has_lines, shown, typed_line, typed_replies}
 
 -- what was typed gives the replies so far, and then those to the other messages
 pub record IsTypedSoFar (messages rest : List Message) (done : List Reply) (bytes left : List ℕ) : Type 0 where
   pub replies : done ++ typed_replies rest left ≡ typed_replies messages bytes
-  pub left_is : behind_replies rest left ≡ behind_replies messages bytes
+  pub left_is : after_replies rest left ≡ after_replies messages bytes
   pub enough : has_lines rest left ≡ has_lines messages bytes
 
 abbrev pub TypesSoFar : List Message → List Message → List Reply → Option (List ℕ) → Option (List ℕ) → Type 0
@@ -35,11 +35,11 @@ typed_more messages ms m done r bytes left after t one = by (is_prompt m.style) 
     by : (b : Bool) → is_prompt m.style ≡ b → IsTypedSoFar messages ms (done ++ r ∷ []) bytes after
     by true e =
         let is : r ≡ record { text = typed_line left } = only r _ (rw e at one.replies_are) in
-        let after_is : after ≡ behind_line left = rw e at one.left_is in
+        let after_is : after ≡ past_line left = rw e at one.left_is in
         let found : nat_lt 0 (length left) ≡ true = and_true _ (rw e at one.enough) in
-        let replies : done ++ record { text = typed_line left } ∷ typed_replies ms (behind_line left) ≡ typed_replies messages bytes = rw e at t.replies in
-        let left_is : behind_replies ms (behind_line left) ≡ behind_replies messages bytes = rw e at t.left_is in
-        let enough : (nat_lt 0 (length left) && has_lines ms (behind_line left)) ≡ has_lines messages bytes = rw e at t.enough in
+        let replies : done ++ record { text = typed_line left } ∷ typed_replies ms (past_line left) ≡ typed_replies messages bytes = rw e at t.replies in
+        let left_is : after_replies ms (past_line left) ≡ after_replies messages bytes = rw e at t.left_is in
+        let enough : (nat_lt 0 (length left) && has_lines ms (past_line left)) ≡ has_lines messages bytes = rw e at t.enough in
         record {
           replies = append_assoc done (r ∷ []) (typed_replies ms after) ∙ rw (is, after_is) replies;
           left_is = rw after_is left_is;
@@ -49,7 +49,7 @@ typed_more messages ms m done r bytes left after t one = by (is_prompt m.style) 
         let is : r ≡ record { text = [] } = only r _ (rw e at one.replies_are) in
         let after_is : after ≡ left = rw e at one.left_is in
         let replies : done ++ record { text = [] } ∷ typed_replies ms left ≡ typed_replies messages bytes = rw e at t.replies in
-        let left_is : behind_replies ms left ≡ behind_replies messages bytes = rw e at t.left_is in
+        let left_is : after_replies ms left ≡ after_replies messages bytes = rw e at t.left_is in
         let enough : has_lines ms left ≡ has_lines messages bytes = rw e at t.enough in
         record {
           replies = append_assoc done (r ∷ []) (typed_replies ms after) ∙ rw (is, after_is) replies;

@@ -10,8 +10,8 @@ use Rattle.conv_port.specs.Terminal.{is_newline, IsLine, TypesLine}
 abbrev line : ℕ → List ℕ → List ℕ
 line n bytes = before_first is_newline (take n bytes)
 
-abbrev behind : ℕ → List ℕ → List ℕ
-behind n bytes = after_first is_newline (take n bytes) ++ drop n bytes
+abbrev past_end : ℕ → List ℕ → List ℕ
+past_end n bytes = after_first is_newline (take n bytes) ++ drop n bytes
 
 neither : (a b : Bool) → (a || b) ≡ false → (a ≡ false) × (b ≡ false)
 neither true b e = absurd cc
@@ -26,33 +26,33 @@ after-cons b xs e = rw e (let one : 1 + position_or_len is_newline xs + 1 ≡ su
 -- a text is the first line of some bytes, and others follow it
 record IsCut (n : ℕ) (bytes text left : List ℕ) : Type 0 where
   line_is : line n bytes ≡ text
-  behind_is : behind n bytes ≡ left
+  past_is : past_end n bytes ≡ left
 
 one_more : (n b : ℕ) (bytes text left : List ℕ) → is_newline b ≡ false → IsCut n bytes text left → IsCut (suc n) (b ∷ bytes) (b ∷ text) left
 one_more n b bytes text left e c = record {
   line_is = before-cons b (take n bytes) e ∙ ap (λ (xs : List ℕ). b ∷ xs) c.line_is;
-  behind_is = ap (λ (xs : List ℕ). xs ++ drop n bytes) (after-cons b (take n bytes) e) ∙ c.behind_is;
+  past_is = ap (λ (xs : List ℕ). xs ++ drop n bytes) (after-cons b (take n bytes) e) ∙ c.past_is;
 }
 
 -- at a newline
 ended : (n : ℕ) (text more : List ℕ) → has_byte 10 text ≡ false → length text < n → IsCut n (text ++ 10 ∷ more) text more
 ended zero text more plain lt = absurd (omega (arith, lt))
-ended (suc n) [] more plain lt = record { line_is = refl; behind_is = take-append-drop n more }
+ended (suc n) [] more plain lt = record { line_is = refl; past_is = take-append-drop n more }
 ended (suc n) (b ∷ text) more plain lt =
     let both = neither (eqb b 10) (has_byte 10 text) plain in
     one_more n b (text ++ 10 ∷ more) text more both.0 (ended n text more both.1 (omega (arith, lt)))
 
 -- after n bytes
 full : (text more : List ℕ) → has_byte 10 text ≡ false → IsCut (length text) (text ++ more) text more
-full [] more plain = record { line_is = refl; behind_is = refl }
+full [] more plain = record { line_is = refl; past_is = refl }
 full (b ∷ text) more plain =
     let both = neither (eqb b 10) (has_byte 10 text) plain in
     one_more (length text) b (text ++ more) text more both.0 (full text more both.1)
 
 -- at the end
 at_end : (n : ℕ) (text : List ℕ) → has_byte 10 text ≡ false → length text ≤ n → IsCut n text text []
-at_end zero [] plain le = record { line_is = refl; behind_is = refl }
-at_end (suc n) [] plain le = record { line_is = refl; behind_is = refl }
+at_end zero [] plain le = record { line_is = refl; past_is = refl }
+at_end (suc n) [] plain le = record { line_is = refl; past_is = refl }
 at_end zero (b ∷ text) plain le = absurd (omega (arith, le))
 at_end (suc n) (b ∷ text) plain le =
     let both = neither (eqb b 10) (has_byte 10 text) plain in
@@ -61,7 +61,7 @@ at_end (suc n) (b ∷ text) plain le =
 -- ---- if it is known what was typed
 
 line_is : (text bytes left : List ℕ) → 0 < length bytes → IsCut 512 bytes text left → IsLine text bytes left
-line_is text bytes left lt c = record { some = lt; text_is = sym c.line_is; left_is = sym c.behind_is }
+line_is text bytes left lt c = record { some = lt; text_is = sym c.line_is; left_is = sym c.past_is }
 
 pub line_ended : (old now new : Option (List ℕ)) (text : List ℕ) (b : ℕ) → Consumes old now text → Consumes now new (b ∷ []) → b ≡ 10
     → has_byte 10 text ≡ false → length text < 512 → TypesLine text old new

@@ -19,27 +19,27 @@ abbrev pub typed_line : List ℕ → List ℕ
 typed_line bytes = before_first is_newline (take 512 bytes)
 
 -- what is left after it: its newline is dropped too, if it is among the first 512 bytes
-abbrev pub behind_line : List ℕ → List ℕ
-behind_line bytes = after_first is_newline (take 512 bytes) ++ drop 512 bytes
+abbrev pub past_line : List ℕ → List ℕ
+past_line bytes = after_first is_newline (take 512 bytes) ++ drop 512 bytes
 
 -- each prompt takes the next line, and any other message has the empty reply
 abbrev pub typed_replies : List Message → List ℕ → List Reply
 typed_replies [] bytes = []
 typed_replies (m ∷ ms) bytes = if is_prompt m.style
-    then record { text = typed_line bytes } ∷ typed_replies ms (behind_line bytes)
+    then record { text = typed_line bytes } ∷ typed_replies ms (past_line bytes)
     else record { text = [] } ∷ typed_replies ms bytes
 
 -- what is left after them
-abbrev pub behind_replies : List Message → List ℕ → List ℕ
-behind_replies [] bytes = bytes
-behind_replies (m ∷ ms) bytes = if is_prompt m.style then behind_replies ms (behind_line bytes)
-    else behind_replies ms bytes
+abbrev pub after_replies : List Message → List ℕ → List ℕ
+after_replies [] bytes = bytes
+after_replies (m ∷ ms) bytes = if is_prompt m.style then after_replies ms (past_line bytes)
+    else after_replies ms bytes
 
 -- whether each prompt finds a byte
 abbrev pub has_lines : List Message → List ℕ → Bool
 has_lines [] bytes = true
 has_lines (m ∷ ms) bytes = if is_prompt m.style then nat_lt 0 (length bytes)
-    && has_lines ms (behind_line bytes) else has_lines ms bytes
+    && has_lines ms (past_line bytes) else has_lines ms bytes
 
 -- the text of a message as it is shown: one that isn't a prompt ends its line
 abbrev pub shown : Message → List ℕ
@@ -52,7 +52,7 @@ all_shown messages = flat_map shown messages
 pub record IsTyped (messages : List Message) (replies : List Reply) (bytes left : List ℕ) : Type
     0 where
   pub replies_are : replies ≡ typed_replies messages bytes
-  pub left_is : left ≡ behind_replies messages bytes
+  pub left_is : left ≡ after_replies messages bytes
   pub enough : has_lines messages bytes ≡ true
 
 -- the same, if it is known what was typed
@@ -65,7 +65,7 @@ Types messages replies (Some bytes) (Some left) = IsTyped messages replies bytes
 pub record IsLine (text bytes left : List ℕ) : Type 0 where
   pub some : 0 < length bytes
   pub text_is : text ≡ typed_line bytes
-  pub left_is : left ≡ behind_line bytes
+  pub left_is : left ≡ past_line bytes
 
 abbrev pub TypesLine : List ℕ → Option (List ℕ) → Option (List ℕ) → Type 0
 TypesLine text None new = ⊤

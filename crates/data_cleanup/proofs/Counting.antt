@@ -10,7 +10,7 @@ use Rattle.data_cleanup.specs.Grows.{with_births}
 use Rattle.data_cleanup.specs.declared.datum.Birth.{Birth}
 use Rattle.data_cleanup.specs.declared.receipt.Receipt.{Receipt}
 use Rattle.data_cleanup.specs.Holding.{receipts, replaced_data}
-use Rattle.data_cleanup.specs.Stands.{times_filed, times_held}
+use Rattle.data_cleanup.specs.Modelled.{times_filed, times_held}
 use Rattle.data_cleanup.proofs.Naming.{by_test}
 use Rattle.data_cleanup.proofs.Looking.{replaced_data-cons}
 

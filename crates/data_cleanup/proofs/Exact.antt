@@ -11,7 +11,7 @@ use Rattle.data_cleanup.specs.Due.{Event}
 use Rattle.data_cleanup.specs.declared.datum.Birth.{Birth}
 use Rattle.data_cleanup.specs.declared.receipt.Filed.{Filed}
 use Rattle.data_cleanup.specs.Holding.{births_since, data_held}
-use Rattle.data_cleanup.specs.Stands.{EachOnce, receipts_in, times_filed, times_held}
+use Rattle.data_cleanup.specs.Modelled.{EachOnce, receipts_in, times_filed, times_held}
 use Rattle.data_cleanup.proofs.FiledOnce.{none_unfiled}
 use Rattle.data_cleanup.proofs.Naming.{by_test}
 

@@ -9,7 +9,7 @@ use Rattle.data_cleanup.specs.Cleanup.{Notes}
 use Rattle.data_cleanup.specs.Grows.{AreSwept, replacements}
 use Rattle.data_cleanup.specs.declared.datum.Birth.{Birth}
 use Rattle.data_cleanup.specs.declared.receipt.Filed.{Filed}
-use Rattle.data_cleanup.specs.Stands.{receipts_in, times_filed}
+use Rattle.data_cleanup.specs.Modelled.{receipts_in, times_filed}
 use Rattle.data_cleanup.proofs.Naming.{by_test}
 use Rattle.data_cleanup.proofs.Every.{every, every-append}
 use Rattle.data_cleanup.proofs.Tidying.{each_placed}

@@ -11,7 +11,7 @@ use Rattle.data_cleanup.specs.declared.datum.Birth.{Birth}
 use Rattle.data_cleanup.specs.declared.receipt.Filed.{Filed}
 use Rattle.data_cleanup.specs.Latest.{IsLatest}
 use Rattle.data_cleanup.specs.Holding.{births_since, data_held, receipts, replaced_data}
-use Rattle.data_cleanup.specs.Stands.{receipts_in, times_filed, times_held}
+use Rattle.data_cleanup.specs.Modelled.{receipts_in, times_filed, times_held}
 use Rattle.data_cleanup.proofs.Lists.{GrowsLive, StandLive}
 use Rattle.data_cleanup.proofs.Naming.{by_test}
 use Rattle.data_cleanup.proofs.Looking.{reverse_front, since_own, since_ended, with_births-append, law_births, law_end}

@@ -12,7 +12,7 @@ use Rattle.data_cleanup.specs.Due.{Event, due}
 use Rattle.data_cleanup.specs.declared.datum.Birth.{Birth}
 use Rattle.data_cleanup.specs.declared.receipt.Filed.{Filed}
 use Rattle.data_cleanup.specs.Holding.{data_held}
-use Rattle.data_cleanup.specs.Stands.{EachOnce, births_of, receipts_in}
+use Rattle.data_cleanup.specs.Modelled.{EachOnce, births_of, receipts_in}
 use Rattle.data_cleanup.specs.Kept.{IsOfHandle}
 
 pub record GrowsLive (note : Notes) (modules handle : ℕ) (old : List PlainDatum) (before : PlainLedger) (new : List PlainDatum) (after : PlainLedger) : Type 0 where

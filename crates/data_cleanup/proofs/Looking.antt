@@ -7,7 +7,7 @@ use Rattle.data_cleanup.specs.Datum.{PlainDatum}
 use Rattle.data_cleanup.specs.DataList.{data_named, datum_of, with_datum}
 use Rattle.data_cleanup.specs.Cleanup.{Notes, data_replace}
 use Rattle.data_cleanup.specs.Grows.{replacements, with_births}
-use Rattle.data_cleanup.specs.Due.{Event, birth, due, due_after, ends, first_of_each, latest, made_due, receipt_of, since_end, standing_births}
+use Rattle.data_cleanup.specs.Due.{Event, birth, due, due_after, ends, first_of_each, latest, made_due, receipt_of, since_end, unreplaced_births}
 use Rattle.data_cleanup.specs.declared.datum.Birth.{Birth}
 use Rattle.data_cleanup.specs.declared.receipt.Receipt.{Receipt}
 use Rattle.data_cleanup.specs.Holding.{data_held, receipts, replaced_data}
@@ -153,12 +153,12 @@ spread_back (b ∷ before) =
     rw e (ap (λ (ds : List PlainDatum). ds ++ spread (with_datum live d) (first_of_each before)) here ∙ ap (λ (ds : List PlainDatum). d ∷ ds) more
     ∙ sym (ap reverse longer ∙ reverse-append (renewed d live) (d ∷ []))))
 
-pub standing_is : (births : List Birth) → map datum_of (standing_births births) ≡ reverse (hold_back births)
+pub standing_is : (births : List Birth) → map datum_of (unreplaced_births births) ≡ reverse (hold_back births)
 standing_is births = standing_spread births (first_of_each births) ∙ spread_back births
 
 pub due_end : (note : Notes) (h status : ℕ) (past : List Event)
     → due_after note past (ends h status ∷ []) ≡ receipts note status (reverse (hold_back (since_end h past)))
-due_end note h status past = append-nil _ ∙ receipts_of_births note status (standing_births (since_end h past)) ∙ ap (receipts note status) (standing_is (since_end h past))
+due_end note h status past = append-nil _ ∙ receipts_of_births note status (unreplaced_births (since_end h past)) ∙ ap (receipts note status) (standing_is (since_end h past))
 
 pub reverse_front : {A : Type 0} (x : A) (xs past : List A) → reverse (x ∷ xs) ++ past ≡ reverse xs ++ x ∷ past
 reverse_front x xs past = ap (λ l. l ++ past) (reverse-append (x ∷ []) xs) ∙ append_assoc (reverse xs) (x ∷ []) past

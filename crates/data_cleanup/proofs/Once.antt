@@ -7,7 +7,7 @@ use Rattle.data_cleanup.specs.Cleanup.{Notes, data_replace, times}
 use Rattle.data_cleanup.specs.Due.{Event, birth, due, ends}
 use Rattle.data_cleanup.specs.declared.datum.Birth.{Birth}
 use Rattle.data_cleanup.specs.Holding.{data_held, receipts, replaced_data}
-use Rattle.data_cleanup.specs.Stands.{AreBelow, births_of, handle_of, times_filed, times_held}
+use Rattle.data_cleanup.specs.Modelled.{AreBelow, births_of, handle_of, times_filed, times_held}
 use Rattle.data_cleanup.proofs.Looking.{law_births, law_end}
 use Rattle.data_cleanup.proofs.Counting.{times-with_births, times-reverse, filed-append, filed-receipts, times-numbered, numbered-back, data_held-moves, none_held}
 use Rattle.data_cleanup.proofs.Every.{every-front, every-back}

@@ -7,7 +7,7 @@ use Rattle.data_cleanup.specs.Cleanup.{Notes, data_replace, ledger_after, receip
 use Rattle.data_cleanup.specs.Grows.{replacements}
 use Rattle.data_cleanup.specs.declared.datum.Birth.{Birth}
 use Rattle.data_cleanup.specs.Holding.{receipts, replaced_data}
-use Rattle.data_cleanup.specs.Stands.{EachOnce, receipts_in, times_filed}
+use Rattle.data_cleanup.specs.Modelled.{EachOnce, receipts_in, times_filed}
 use Rattle.data_cleanup.proofs.Lists.{GrowsLive}
 use Rattle.data_cleanup.proofs.Counting.{times-with_births, times-reverse, filed-append, filed-receipts, times-numbered, numbered-back, data_held-moves}
 use Rattle.data_cleanup.proofs.Tidying.{swept_receipts, tidied_receipts}

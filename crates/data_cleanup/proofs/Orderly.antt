@@ -10,7 +10,7 @@ use Rattle.data_cleanup.specs.Tidy.{Tidy}
 use Rattle.data_cleanup.specs.Due.{Event}
 use Rattle.data_cleanup.specs.declared.receipt.Filed.{Filed}
 use Rattle.data_cleanup.specs.Latest.{AreLatest, IsLatest}
-use Rattle.data_cleanup.specs.Stands.{Lists, StandFor}
+use Rattle.data_cleanup.specs.Modelled.{Lists, ModelsEvents}
 use Rattle.data_cleanup.proofs.Every.{every, every-append, every-reverse}
 use Rattle.data_cleanup.proofs.OnceMore.{fresh_numbers}
 use Rattle.data_cleanup.proofs.FiledOnce.{replaced_later, swept_low, swept_within}
@@ -49,5 +49,5 @@ tidy_on_end note status list before after t latest is sound =
     }
 
 pub stand_latest : (note : Notes) (limit handle : ℕ) (ledger : PlainLedger) (lists : Lists) (events : List Event)
-    → StandFor note limit ledger lists events → AreLatest ledger.births (lists handle)
+    → ModelsEvents note limit ledger lists events → AreLatest ledger.births (lists handle)
 stand_latest note limit handle ledger lists events s = rw (s.lists_are handle, s.births) (held_latest handle events (rw s.births at s.tidy.numbered))

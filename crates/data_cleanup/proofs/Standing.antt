@@ -10,7 +10,7 @@ use Rattle.data_cleanup.specs.Due.{Event, birth, ends, since_end}
 use Rattle.data_cleanup.specs.declared.datum.Birth.{Birth}
 use Rattle.data_cleanup.specs.Holding.{data_held}
 use Rattle.data_cleanup.specs.Latest.{IsLatest}
-use Rattle.data_cleanup.specs.Stands.{births_of}
+use Rattle.data_cleanup.specs.Modelled.{births_of}
 use Rattle.data_cleanup.proofs.Naming.{by_test, name_is, name_same, Apart, has}
 use Rattle.data_cleanup.proofs.Looking.{hold_back, apart_back, with_births-reverse}
 use Rattle.data_cleanup.proofs.Every.{every, every-reverse}

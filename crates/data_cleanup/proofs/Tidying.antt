@@ -13,7 +13,7 @@ use Rattle.data_cleanup.specs.declared.receipt.Filed.{Filed}
 use Rattle.data_cleanup.specs.declared.receipt.Receipt.{Receipt}
 use Rattle.data_cleanup.specs.Latest.{IsLatest}
 use Rattle.data_cleanup.specs.Holding.{receipts}
-use Rattle.data_cleanup.specs.Stands.{receipts_in}
+use Rattle.data_cleanup.specs.Modelled.{receipts_in}
 use Rattle.data_cleanup.proofs.Naming.{by_test}
 use Rattle.data_cleanup.proofs.Every.{every, both, every-append, every-back}
 

@@ -8,7 +8,7 @@ use Rattle.data_cleanup.specs.Ledger.{PlainLedger, AreNumbered}
 use Rattle.data_cleanup.specs.Cleanup.{Notes, AwaitCleanup, ledger_after}
 use Rattle.data_cleanup.specs.Grows.{Grows, with_births}
 use Rattle.data_cleanup.specs.Due.{Event, birth, ends}
-use Rattle.data_cleanup.specs.Stands.{Lists, StandFor, clean_list}
+use Rattle.data_cleanup.specs.Modelled.{Lists, ModelsEvents, clean_list}
 use Rattle.data_cleanup.specs.Kept.{AreHeld}
 use Rattle.data_cleanup.specs.Moves.{Moves}
 use Rattle.data_cleanup.proofs.Lists.{StandLive, HeldLive, grows_live}
@@ -20,7 +20,7 @@ use Rattle.data_cleanup.proofs.Held.{held_at_first, held_on_growth, held_on_end,
 abbrev live_of : Lists → ℕ → List PlainDatum
 live_of lists handle = (lists handle).live
 
-live_stand : (note : Notes) (limit : ℕ) (ledger : PlainLedger) (lists : Lists) (events : List Event) → StandFor note limit ledger lists events
+live_stand : (note : Notes) (limit : ℕ) (ledger : PlainLedger) (lists : Lists) (events : List Event) → ModelsEvents note limit ledger lists events
     → StandLive note limit ledger (live_of lists) events
 live_stand note limit ledger lists events s = record {
   births = s.births;
@@ -35,7 +35,7 @@ whole : (h : ℕ) (l : PlainDataList) (live : List PlainDatum) → l ≡ clean_l
 whole h l live clean e = clean ∙ ap (clean_list h) e
 
 whole_stand : (note : Notes) (limit : ℕ) (ledger : PlainLedger) (lists : Lists) (events : List Event)
-    → ((h : ℕ) → lists h ≡ clean_list h (lists h).live) → StandLive note limit ledger (live_of lists) events → StandFor note limit ledger lists events
+    → ((h : ℕ) → lists h ≡ clean_list h (lists h).live) → StandLive note limit ledger (live_of lists) events → ModelsEvents note limit ledger lists events
 whole_stand note limit ledger lists events clean s = record {
   births = s.births;
   receipts = s.receipts;
@@ -45,7 +45,7 @@ whole_stand note limit ledger lists events clean s = record {
 }
 
 -- lists that model events have no data that wait for their cleanup
-stand_clean : (note : Notes) (limit : ℕ) (ledger : PlainLedger) (lists : Lists) (events : List Event) → StandFor note limit ledger lists events
+stand_clean : (note : Notes) (limit : ℕ) (ledger : PlainLedger) (lists : Lists) (events : List Event) → ModelsEvents note limit ledger lists events
     → (h : ℕ) → lists h ≡ clean_list h (lists h).live
 stand_clean note limit ledger lists events s h = s.lists_are h ∙ ap (clean_list h) (sym (ap (λ (l : PlainDataList). l.live) (s.lists_are h)))
 
@@ -73,14 +73,14 @@ same_live handle lists next same h e = ap (λ (l : PlainDataList). l.live) (same
 abbrev pub no_lists : Lists
 no_lists h = clean_list h []
 
-pub stands_at_first : (note : Notes) (limit : ℕ) → StandFor note limit (record { births = []; filed = [] }) (λ (h : ℕ). clean_list h []) []
+pub stands_at_first : (note : Notes) (limit : ℕ) → ModelsEvents note limit (record { births = []; filed = [] }) (λ (h : ℕ). clean_list h []) []
 stands_at_first note limit = whole_stand note limit _ no_lists [] (λ h. refl) (stand_at_first note limit)
 
 pub stands_on_growth : (note : Notes) (modules limit handle : ℕ) (events : List Event) (before after : PlainLedger) (lists next : Lists)
-    → StandFor note limit before lists events → handle < limit
+    → ModelsEvents note limit before lists events → handle < limit
     → (g : Grows note modules (lists handle) before (next handle) after) → ((h : ℕ) → eqb h handle ≡ false → next h ≡ lists h)
     → AreNumbered 0 after.births
-    → StandFor note limit after next (events ++ map birth g.added)
+    → ModelsEvents note limit after next (events ++ map birth g.added)
 stands_on_growth note modules limit handle events before after lists next s lt g same numbered =
     let clean = stand_clean note limit before lists events s in
     let own = handle_of_clean handle (lists handle) (clean handle) in
@@ -90,9 +90,9 @@ stands_on_growth note modules limit handle events before after lists next s lt g
     (grows_live note modules handle (lists handle) (next handle) before after own g) (same_live handle lists next same) numbered)
 
 pub stands_on_end : (note : Notes) (limit handle status : ℕ) (events : List Event) (before after : PlainLedger) (lists next : Lists)
-    → StandFor note limit before lists events → handle < limit
+    → ModelsEvents note limit before lists events → handle < limit
     → after ≡ ledger_after note status (reverse (lists handle).live) before → next handle ≡ clean_list handle [] → ((h : ℕ) → eqb h handle ≡ false → next h ≡ lists h)
-    → StandFor note limit after next (events ++ ends handle status ∷ [])
+    → ModelsEvents note limit after next (events ++ ends handle status ∷ [])
 stands_on_end note limit handle status events before after lists next s lt filed none same =
     let clean = stand_clean note limit before lists events s in
     let empty : (next handle).live ≡ [] = ap (λ (l : PlainDataList). l.live) none in
@@ -108,7 +108,7 @@ pub moves_on_growth : (note : Notes) (modules limit handle : ℕ) (before after 
 moves_on_growth note modules limit handle before after lists next lt g same numbered = record {
   added = g.added;
   births = g.births;
-  stand = λ events s. subst (λ (l : List Event). StandFor note limit after next (events ++ l)) (sym (append-nil (map birth g.added)))
+  stand = λ events s. subst (λ (l : List Event). ModelsEvents note limit after next (events ++ l)) (sym (append-nil (map birth g.added)))
       (stands_on_growth note modules limit handle events before after lists next s lt g same numbered);
 }
 
@@ -122,7 +122,7 @@ moves_on_end note limit handle status before after lists next lt is none same = 
 }
 
 stands_still : (note : Notes) (limit : ℕ) (events : List Event) (ledger : PlainLedger) (lists next : Lists) → ((h : ℕ) → next h ≡ lists h)
-    → StandFor note limit ledger lists events → StandFor note limit ledger next events
+    → ModelsEvents note limit ledger lists events → ModelsEvents note limit ledger next events
 stands_still note limit events ledger lists next same s = record {
   births = s.births;
   receipts = s.receipts;
@@ -136,8 +136,8 @@ pub moves_nowhere : (note : Notes) (limit : ℕ) (before after : PlainLedger) (l
 moves_nowhere note limit before after lists next is same = record {
   added = [];
   births = ap (λ (l : PlainLedger). l.births) is ∙ sym (append-nil before.births);
-  stand = λ events s. subst (λ (l : List Event). StandFor note limit after next l) (sym (append-nil events))
-      (subst (λ (l : PlainLedger). StandFor note limit l next events) (sym is) (stands_still note limit events before lists next same s));
+  stand = λ events s. subst (λ (l : List Event). ModelsEvents note limit after next l) (sym (append-nil events))
+      (subst (λ (l : PlainLedger). ModelsEvents note limit l next events) (sym is) (stands_still note limit events before lists next same s));
 }
 
 -- ---- whatever the events were

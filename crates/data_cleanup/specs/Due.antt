@@ -33,8 +33,8 @@ first_of_each (b ∷ before) = if list_any (λ (c : Birth). bytes_eq c.name b.na
     then first_of_each before else b ∷ first_of_each before
 
 -- the sets that no later one of their name replaced, ordered by the first set of their name, the last first
-abbrev pub standing_births : List Birth → List Birth
-standing_births births =
+abbrev pub unreplaced_births : List Birth → List Birth
+unreplaced_births births =
     flat_map (λ (first : Birth). latest first.name births) (first_of_each births)
 
 abbrev pub receipt_of : Notes → ℕ → Birth → Receipt
@@ -50,7 +50,7 @@ abbrev pub made_due : Notes → List Event → Event → List Receipt
 made_due note past (birth b) =
     map (receipt_of note data_replace) (latest b.name (since_end b.handle past))
 made_due note past (ends h status) =
-    map (receipt_of note status) (standing_births (since_end h past))
+    map (receipt_of note status) (unreplaced_births (since_end h past))
 
 abbrev pub due_after : Notes → List Event → List Event → List Receipt
 due_after note past [] = []

@@ -5,7 +5,7 @@ use Rattle.data_cleanup.specs.Datum.{PlainDatum}
 use Rattle.data_cleanup.specs.DataList.{datum_of}
 use Rattle.data_cleanup.specs.Ledger.{PlainLedger}
 use Rattle.data_cleanup.specs.declared.datum.Birth.{Birth}
-use Rattle.data_cleanup.specs.Stands.{EachOnce, Lists, clean_list}
+use Rattle.data_cleanup.specs.Modelled.{EachOnce, Lists, clean_list}
 
 -- data that were set in this transaction, by one of n modules
 pub record IsOfHandle (modules handle : ℕ) (births : List Birth) (d : PlainDatum) : Type 0 where

@@ -9,7 +9,7 @@ pub mod Grows
 pub mod Tidy
 pub mod Due
 pub mod Holding
-pub mod Stands
+pub mod Modelled
 pub mod Latest
 pub mod Kept
 pub mod Moves

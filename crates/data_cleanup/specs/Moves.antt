@@ -4,7 +4,7 @@ use Rattle.data_cleanup.specs.Ledger.{PlainLedger}
 use Rattle.data_cleanup.specs.Cleanup.{Notes}
 use Rattle.data_cleanup.specs.Due.{Event, birth}
 use Rattle.data_cleanup.specs.declared.datum.Birth.{Birth}
-use Rattle.data_cleanup.specs.Stands.{Lists, StandFor}
+use Rattle.data_cleanup.specs.Modelled.{Lists, ModelsEvents}
 
 -- Whatever events they model, afterwards they model these, then the records that were added, in
 -- order, and then what ended.
@@ -12,5 +12,5 @@ pub record Moves (note : Notes) (limit : ℕ) (ended : List Event) (before : Pla
     (lists : Lists) (after : PlainLedger) (next : Lists) : Type 0 where
   pub added : List Birth
   pub births : after.births ≡ before.births ++ added
-  pub stand : (events : List Event) → StandFor note limit before lists events
-      → StandFor note limit after next (events ++ (map birth added ++ ended))
+  pub stand : (events : List Event) → ModelsEvents note limit before lists events
+      → ModelsEvents note limit after next (events ++ (map birth added ++ ended))

@@ -9,7 +9,7 @@ ghost use Rattle.data_cleanup.specs.Tidy.{Tidy};
 ghost use Rattle.data_cleanup.specs.Due.{Event, birth, due, ends};
 ghost use Rattle.data_cleanup.specs.declared.datum.Birth.{Birth};
 ghost use Rattle.data_cleanup.specs.Holding.{births_since, data_held, receipts, replaced_data};
-ghost use Rattle.data_cleanup.specs.Stands.{AreBelow, EachOnce, Lists, StandFor, births_of, clean_list, times_filed, times_held};
+ghost use Rattle.data_cleanup.specs.Modelled.{AreBelow, EachOnce, Lists, ModelsEvents, births_of, clean_list, times_filed, times_held};
 ghost use Rattle.data_cleanup.specs.Latest.{AreLatest};
 ghost use Rattle.data_cleanup.specs.Kept.{AreHeld};
 ghost use Rattle.data_cleanup.specs.Moves.{Moves};
@@ -49,30 +49,30 @@ pub fn no_data_where_no_births()
 {}
 
 /// A cleanup log without records, and lists without data, model no events.
-pub fn nothing_stands_for_none()
+pub fn nothing_has_no_events()
     ensures { (note : Notes) (limit : ℕ) →
-        StandFor note limit (record { births = []; filed = [] }) (λ (h : ℕ). clean_list h []) [] }
+        ModelsEvents note limit (record { births = []; filed = [] }) (λ (h : ℕ). clean_list h []) [] }
 {}
 
 /// If the list of one transaction grows, the records that were added are the next events.
-pub fn growth_stands()
+pub fn growth_adds_events()
     ensures { (note : Notes) (modules limit handle : ℕ) (events : List Event)
         (before after : PlainLedger) (lists next : Lists) →
-        StandFor note limit before lists events → handle < limit →
+        ModelsEvents note limit before lists events → handle < limit →
         (g : Grows note modules (lists handle) before (next handle) after) →
         ((h : ℕ) → nat_eq h handle ≡ false → next h ≡ lists h) → AreNumbered 0 after.births →
-        StandFor note limit after next (events ++ map birth g.added) }
+        ModelsEvents note limit after next (events ++ map birth g.added) }
 {}
 
 /// If the data of one transaction are cleaned up, the last name first, its end is the next event.
-pub fn end_stands()
+pub fn end_adds_its_event()
     ensures { (note : Notes) (limit handle status : ℕ) (events : List Event)
         (before after : PlainLedger) (lists next : Lists) →
-        StandFor note limit before lists events → handle < limit →
+        ModelsEvents note limit before lists events → handle < limit →
         after ≡ ledger_after note status (reverse (lists handle).live) before →
         next handle ≡ clean_list handle [] →
         ((h : ℕ) → nat_eq h handle ≡ false → next h ≡ lists h) →
-        StandFor note limit after next (events ++ ends handle status ∷ []) }
+        ModelsEvents note limit after next (events ++ ends handle status ∷ []) }
 {}
 
 /// Growth of one transaction's list adds the events of the new records.
@@ -105,7 +105,7 @@ pub fn nothing_moves()
 pub fn held_data_are_latest()
     ensures { (note : Notes) (limit handle : ℕ) (ledger : PlainLedger) (lists : Lists)
         (events : List Event) →
-        StandFor note limit ledger lists events → AreLatest ledger.births (lists handle) }
+        ModelsEvents note limit ledger lists events → AreLatest ledger.births (lists handle) }
 {}
 
 /// A cleanup log in order stays so when a list grows.

@@ -23,7 +23,7 @@ module _ {State : Type 0} (w : Walked (PassState State)) (opinion : Opinion) (pa
       subst (λ (x : Walked (PassState State)). WalksAs x (Some code) kept given state) is (record { end_is = ap (λ (c : Code). Some c) decided; kept_is = keeps; taken_is = taken; state_is = refl })
 
 -- one more turn, over a chain whose stack has not changed
-pub turn_more : {State : Type 0} (kind : PassKind) (serve : Serving State) (now start : Stack) (old : Walker) (s : State) (all : Walked State) (behind : Stack → Walked State)
-    → now ≡ start → walk_on kind serve now old s ≡ behind now → walk_on kind serve start old s ≡ all → behind start ≡ all
-turn_more kind serve now start old s all behind same turn so_far =
-    ap behind (sym same) ∙ sym turn ∙ ap (λ (stack : Stack). walk_on kind serve stack old s) same ∙ so_far
+pub turn_more : {State : Type 0} (kind : PassKind) (serve : Serving State) (now start : Stack) (old : Walker) (s : State) (all : Walked State) (past_end : Stack → Walked State)
+    → now ≡ start → walk_on kind serve now old s ≡ past_end now → walk_on kind serve start old s ≡ all → past_end start ≡ all
+turn_more kind serve now start old s all past_end same turn so_far =
+    ap past_end (sym same) ∙ sym turn ∙ ap (λ (stack : Stack). walk_on kind serve stack old s) same ∙ so_far

@@ -17,7 +17,7 @@ use Rattle.dispatch_core.specs.declared.walker.Walker.{Walker}
 use Rattle.dispatch_core.specs.AnyWorld.{GoesSoundly}
 use Rattle.dispatch_core.specs.EntryStates.{entry_at}
 use Rattle.dispatch_core.specs.Failing.{BreaksAt, GoesBy, IsAsked, IsAtWork, PlayOn, StopsAt, Takes, unasked, visited_at, visits_in}
-use Rattle.dispatch_core.specs.Index.{GoesOn, Stands, walk_on}
+use Rattle.dispatch_core.specs.Index.{GoesOn, IsLineAt, walk_on}
 use Rattle.dispatch_core.specs.Lines.{answers_by}
 use Rattle.dispatch_core.specs.Trail.{seen_of}
 use Rattle.dispatch_core.proofs.Taking.{put_off, taken}
@@ -26,7 +26,7 @@ use Rattle.dispatch_core.proofs.Turning.{begun}
 
 -- a walker that acts on an answer follows it
 pub goes_by : (kind : PassKind) (kept : KeptAnswers) (stack : Stack) (code : Code) (old new : Walker) → old.at < lines_in stack
-    → ((l : FlatLine) → Stands stack old.at l → GoesOn kind l code (decides kind kept (old.at + 1) code) old new) → GoesBy kind kept stack code old new
+    → ((l : FlatLine) → IsLineAt stack old.at l → GoesOn kind l code (decides kind kept (old.at + 1) code) old new) → GoesBy kind kept stack code old new
 goes_by kind kept stack code old new within goes = record {
   given = λ rest visits.
       taken kind (serving kind kept unasked) stack old (pass_state (code ∷ rest) visits None) rest visits None (Some code) code (decides kind kept (old.at + 1) code) new within

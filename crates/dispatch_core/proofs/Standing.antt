@@ -12,7 +12,7 @@ flat_lines-count (sub inner rest) level opens =
     omega (arith, length-append (flat_lines (level + 1) (opens + 1) inner) (flat_lines level still rest), flat_lines-count inner (level + 1) (opens + 1), flat_lines-count rest level still)
 
 -- what is at an index, and what follows it
-pub record StandsAt (stack : Stack) (i : ℕ) : Type 0 where
+pub record IsRuleAt (stack : Stack) (i : ℕ) : Type 0 where
   pub line : FlatLine
   pub stands : drop i (flat_lines 0 0 stack) ≡ line ∷ drop (i + 1) (flat_lines 0 0 stack)
 
@@ -21,7 +21,7 @@ read_same [] i d e within = absurd (omega (arith, within))
 read_same (x ∷ xs) zero d e within = refl
 read_same (x ∷ xs) (suc i) d e within = read_same xs i d e (omega arith)
 
-pub stands_at : (stack : Stack) (i : ℕ) → i < lines_in stack → StandsAt stack i
+pub stands_at : (stack : Stack) (i : ℕ) → i < lines_in stack → IsRuleAt stack i
 stands_at stack i within =
     let lines : List FlatLine = flat_lines 0 0 stack in
     let there : i < length lines = omega (arith, within, flat_lines-count stack 0 0) in

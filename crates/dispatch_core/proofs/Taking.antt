@@ -7,7 +7,7 @@ use Rattle.handler_chain.specs.declared.pass_kind.PassKind.{PassKind}
 use Rattle.handler_chain.specs.Pass.{PassState, Visit, visit, pass_state}
 use Rattle.handler_chain.specs.Walk.{Serving, ServedAs, halted}
 use Rattle.dispatch_core.specs.declared.walker.Walker.{Walker}
-use Rattle.dispatch_core.specs.Index.{walk_on, GoesOn, Stands}
+use Rattle.dispatch_core.specs.Index.{walk_on, GoesOn, IsLineAt}
 use Rattle.dispatch_core.specs.Passes.{answer_in, visits_with}
 use Rattle.dispatch_core.proofs.Turning.{halted_there, gone_on}
 
@@ -23,7 +23,7 @@ module _ {State : Type 0} (kind : PassKind) (serve : Serving (PassState State)) 
       halted_there kind serve stack w s (pass_state past visits state) _ deciding _ within here refl
 
   pub taken : (answer : Option Code) (given deciding : Code) (new : Walker) → w.at < lines_in stack → Gave answer deciding → answer ≡ Some given
-      → ((l : FlatLine) → Stands stack w.at l → GoesOn kind l given deciding w new)
+      → ((l : FlatLine) → IsLineAt stack w.at l → GoesOn kind l given deciding w new)
       → walk_on kind serve stack w s ≡ walk_on kind serve stack new (pass_state past (visits ++ visit (w.at + 1) given ∷ []) state)
   taken answer given deciding new within gave is goes =
       let here : Gave (Some given) deciding = subst (λ (o : Option Code). Gave o deciding) is gave in

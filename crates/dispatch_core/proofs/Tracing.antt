@@ -148,12 +148,12 @@ module _ (kind : PassKind) (kept : KeptAnswers) (stack : Stack) (given : List Co
   pub traced_ended : (walker : Walker) (past : List Code) (visits : List Visit) (now : List Visited) (cells : Answers) (view : AnswersView) (code : Code) → Traced walker past visits now
       → view.taken ≡ answers_of visits → (is_some cells ≡ true → Keeps cells visits) → lines_in stack ≤ walker.at → code ≡ verdict walker.opinion
       → ByTrail kind kept stack given start now (λ w told. WalksAs w (Some code) cells view told)
-  traced_ended walker past visits now cells view code traced taken keeps behind decided = record {
+  traced_ended walker past visits now cells view code traced taken keeps past_end decided = record {
     more = traced.more;
     trail = traced.trail;
     goes = λ rest.
         walks_to (pass_after kind kept replaying stack given (telling (seen_in traced.more ++ rest))) walker.opinion past visits (telling rest) cells view taken keeps code decided
-        (ended_at_last kind (serving kind kept replaying) stack walker (pass_state past visits (telling rest)) _ behind (traced.leads rest));
+        (ended_at_last kind (serving kind kept replaying) stack walker (pass_state past visits (telling rest)) _ past_end (traced.leads rest));
   }
 
 -- ---- from the walk to the pass

@@ -15,7 +15,7 @@ use Rattle.handler_chain.specs.Opinion.{acted, overrun, opening}
 use Rattle.handler_chain.specs.Walk.{Serving, Served, ServedAs, Walked, walked, halted, pass, ends, after, stop, next_of, new_or_overrun}
 use Rattle.dispatch_core.specs.declared.walker.Walker.{Walker}
 use Rattle.dispatch_core.specs.EntryStates.{Entries, entry_at, entered}
-use Rattle.dispatch_core.specs.Index.{passed, run, run_from, walk_on, LeadsTo, GoesOn, Stands}
+use Rattle.dispatch_core.specs.Index.{passed, run, run_from, walk_on, LeadsTo, GoesOn, IsLineAt}
 use Rattle.dispatch_core.proofs.Standing.{stands_at, at_line-stands, flat_lines-count, all_nodes}
 use Rattle.dispatch_core.proofs.Walking.{skip_to, run_is_pass}
 
@@ -26,7 +26,7 @@ near true n left i next new rest is = (refl, cc)
 near false n left i next new rest is = cc
 
 pub jumped_near : (stack : Stack) (a : Action) (i n next : ℕ) (new : Opinion) (s : FlatLine) → a ≡ actions.Jump n → Some next ≡ target_at stack i n
-    → Stands stack i s → LeadsTo a s.rest new i new next
+    → IsLineAt stack i s → LeadsTo a s.rest new i new next
 jumped_near stack a i n next new s which is stands =
     let both = near (nat_le n (count s.rest)) n (count s.rest) i next new s.rest
     (is ∙ at_line-stands None (λ s. if nat_le n (count s.rest) then Some (i + 1 + lines_in_first n s.rest) else None) stack i s _ stands) in
@@ -39,7 +39,7 @@ far true n i new rest is = cc
 far false n i new rest is = (refl, ap (λ n. i + 1 + n) (sym (all_nodes rest)))
 
 pub jumped_far : (stack : Stack) (a : Action) (i n next : ℕ) (new opinion : Opinion) (s : FlatLine) → a ≡ actions.Jump n → None ≡ target_at stack i n
-    → opinion ≡ overrun → next ≡ end_at stack i → Stands stack i s
+    → opinion ≡ overrun → next ≡ end_at stack i → IsLineAt stack i s
     → LeadsTo a s.rest new i opinion next
 jumped_far stack a i n next new opinion s which is denied end stands =
     let both = far (nat_le n (count s.rest)) n i new s.rest
@@ -63,23 +63,23 @@ ended actions.Die i new rest is = record { opinion_is = refl; next_is = by_end t
 ended actions.Reset i new rest is = absurd (true≢false (sym is))
 ended (actions.Jump n) i new rest is = absurd (true≢false (sym is))
 
-pub ended_at : (stack : Stack) (a : Action) (i next : ℕ) (new : Opinion) (s : FlatLine) → ends a new ≡ true → next ≡ end_at stack i → Stands stack i s
+pub ended_at : (stack : Stack) (a : Action) (i next : ℕ) (new : Opinion) (s : FlatLine) → ends a new ≡ true → next ≡ end_at stack i → IsLineAt stack i s
     → LeadsTo a s.rest new i new next
 ended_at stack a i next new s is end stands = rw (end ∙ at_line-stands 0 (λ s. i + 1 + lines_in s.rest) stack i s _ stands) (ended a i new s.rest is)
 
 -- a list always goes on at a later line
 pub goes_ahead : (stack : Stack) (a : Action) (i next : ℕ) (new opinion : Opinion) → i < lines_in stack
-    → ((s : FlatLine) → Stands stack i s → LeadsTo a s.rest new i opinion next) → i < next
+    → ((s : FlatLine) → IsLineAt stack i s → LeadsTo a s.rest new i opinion next) → i < next
 goes_ahead stack a i next new opinion within goes = let at = stands_at stack i within in omega (arith, (goes at.line at.stands).next_is)
 
 module _ {State : Type 0} (kind : PassKind) (serve : Serving State) where
   -- the first line is incomplete
-  halts : (stack : Stack) (i : ℕ) (sp : FlatLine) (f : Entries) (o : Opinion) (s : State) → Stands stack i sp → (serve sp.rule (i + 1) s).stopped ≡ true
+  halts : (stack : Stack) (i : ℕ) (sp : FlatLine) (f : Entries) (o : Opinion) (s : State) → IsLineAt stack i sp → (serve sp.rule (i + 1) s).stopped ≡ true
       → run_from kind serve stack i f o s ≡ halted o (serve sp.rule (i + 1) s).state
   halts stack i sp f o s stands is = rw (stands, is) refl
 
   -- the first line is acted on
-  goes : (stack : Stack) (i : ℕ) (sp : FlatLine) (f : Entries) (o : Opinion) (s : State) → Stands stack i sp → (serve sp.rule (i + 1) s).stopped ≡ false
+  goes : (stack : Stack) (i : ℕ) (sp : FlatLine) (f : Entries) (o : Opinion) (s : State) → IsLineAt stack i sp → (serve sp.rule (i + 1) s).stopped ≡ false
       → let v : Served State = serve sp.rule (i + 1) s in
       let a : Action = action_at sp.rule.control v.deciding in
       let g : Entries = entered sp.level sp.opens o f in
@@ -102,7 +102,7 @@ module _ {State : Type 0} (kind : PassKind) (serve : Serving State) where
 
   -- the line where a walker is, run
   served_line : (stack : Stack) (i : ℕ) (l : FlatLine) (s s' : State) (answer deciding : Code) (stopped : Bool)
-      → Stands stack i l → ServedAs (serve (rule_at stack i) (i + 1) s) answer deciding stopped s' → ServedAs (serve l.rule (i + 1) s) answer deciding stopped s'
+      → IsLineAt stack i l → ServedAs (serve (rule_at stack i) (i + 1) s) answer deciding stopped s' → ServedAs (serve l.rule (i + 1) s) answer deciding stopped s'
   served_line stack i l s s' answer deciding stopped stands served =
       subst (λ (r : Rule). ServedAs (serve r (i + 1) s) answer deciding stopped s') (at_line-stands no_rule (λ l. l.rule) stack i l _ stands) served
 
@@ -118,7 +118,7 @@ module _ {State : Type 0} (kind : PassKind) (serve : Serving State) where
   -- the walker acts on the line
   pub gone_on : (stack : Stack) (old new : Walker) (s s' : State) (answer deciding : Code) (stopped : Bool)
       → old.at < lines_in stack → ServedAs (serve (rule_at stack old.at) (old.at + 1) s) answer deciding stopped s' → stopped ≡ false
-      → ((l : FlatLine) → Stands stack old.at l → GoesOn kind l answer deciding old new)
+      → ((l : FlatLine) → IsLineAt stack old.at l → GoesOn kind l answer deciding old new)
       → walk_on kind serve stack old s ≡ walk_on kind serve stack new s'
   gone_on stack old new s s' answer deciding stopped within served is each =
       let at = stands_at stack old.at within in
@@ -134,8 +134,8 @@ module _ {State : Type 0} (kind : PassKind) (serve : Serving State) where
   -- after the last line
   pub ended_at_last : (stack : Stack) (w : Walker) (s : State) (all : Walked State) → lines_in stack ≤ w.at → walk_on kind serve stack w s ≡ all
       → walked w.opinion s ≡ all
-  ended_at_last stack w s all behind is =
-      let none_left : drop w.at (flat_lines 0 0 stack) ≡ [] = drop_of_length-le (flat_lines 0 0 stack) (omega (arith, behind, flat_lines-count stack 0 0)) in
+  ended_at_last stack w s all past_end is =
+      let none_left : drop w.at (flat_lines 0 0 stack) ≡ [] = drop_of_length-le (flat_lines 0 0 stack) (omega (arith, past_end, flat_lines-count stack 0 0)) in
       sym (ap (λ (xs : List FlatLine). run kind serve xs 0 (w.at + 1) (entry_at w.entries) w.opinion s) none_left) ∙ is
 
   -- before the first line

@@ -65,14 +65,14 @@ module _ {State : Type 0} (kind : PassKind) (serve : Serving State) where
   onward_is stop rest at entry o s = sym (all_passed rest at entry o s)
 
   -- where a walk has ended: incomplete, or on to the lines that follow
-  abbrev behind : Walked State → List FlatLine → ℕ → Entries → Walked State
-  behind w more at f = if w.stopped then w else run kind serve more 0 at f w.opinion w.state
+  abbrev past_end : Walked State → List FlatLine → ℕ → Entries → Walked State
+  past_end w more at f = if w.stopped then w else run kind serve more 0 at f w.opinion w.state
 
   -- A run ends as a walk over n lines does, with entry states that hold for the lists that go on.
   record Lands (start w : Walked State) (lines level opens at : ℕ) (o : Opinion) (f : Entries) (more : List FlatLine) : Type 0 where
     entries : Entries
     kept : w.stopped ≡ false → (k : ℕ) → k ≤ level → entered level (pending lines opens) w.opinion entries k ≡ entered level opens o f k
-    goes : start ≡ behind w more at entries
+    goes : start ≡ past_end w more at entries
 
   lands_from : (start start' w : Walked State) (lines level opens at : ℕ) (o : Opinion) (f : Entries) (more : List FlatLine)
       → start' ≡ start → Lands start w lines level opens at o f more → Lands start' w lines level opens at o f more
@@ -84,7 +84,7 @@ module _ {State : Type 0} (kind : PassKind) (serve : Serving State) where
   lands_more start w lines lines' level opens opens' at at' o o' f f' more pend same place lands = record {
     entries = lands.entries;
     kept = λ on k le. ap (λ n. entered level n w.opinion lands.entries k) (sym pend) ∙ lands.kept on k le ∙ same k le;
-    goes = lands.goes ∙ ap (λ n. behind w more n lands.entries) place;
+    goes = lands.goes ∙ ap (λ n. past_end w more n lands.entries) place;
   }
 
   -- a line that may be incomplete
@@ -175,13 +175,13 @@ module _ {State : Type 0} (kind : PassKind) (serve : Serving State) where
       (let g : at + lines_in inner + lines_in rest ≡ at + (lines_in inner + lines_in rest) = omega arith in g)
       (walks rest zero level still (at + lines_in inner) e entry inside.opinion inside.state more (omega arith) ready' (λ some. absurd (omega arith)))))
 
-  behind_nothing : (w : Walked State) (b : Bool) → w.stopped ≡ b → (if b then w else walked w.opinion w.state) ≡ w
-  behind_nothing w true is = refl
-  behind_nothing w false is = ap (λ (b : Bool). let r : Walked State = record { opinion = w.opinion; state = w.state; stopped = b } in r) (sym is)
+  after_nothing : (w : Walked State) (b : Bool) → w.stopped ≡ b → (if b then w else walked w.opinion w.state) ≡ w
+  after_nothing w true is = refl
+  after_nothing w false is = ap (λ (b : Bool). let r : Walked State = record { opinion = w.opinion; state = w.state; stopped = b } in r) (sym is)
 
   -- the pass by index over a whole stack is its walk
   pub run_is_pass : (stack : Stack) (s : State) → run_from kind serve stack 0 (λ k. opening) opening s ≡ pass kind serve stack s
   run_is_pass stack s =
       let w : Walked State = pass kind serve stack s in
       let lands = walks stack 0 0 0 1 (λ k. opening) opening opening s [] (omega arith) (entered_none 0 opening (λ k. opening) 0) (λ some. refl) in
-      ap (λ (xs : List FlatLine). run kind serve xs 0 1 (λ k. opening) opening s) (sym (append-nil (flat_lines 0 0 stack))) ∙ lands.goes ∙ behind_nothing w w.stopped refl
+      ap (λ (xs : List FlatLine). run kind serve xs 0 1 (λ k. opening) opening s) (sym (append-nil (flat_lines 0 0 stack))) ∙ lands.goes ∙ after_nothing w w.stopped refl

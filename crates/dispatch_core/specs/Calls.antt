@@ -67,15 +67,15 @@ passed_by kind kept w = record {
 
 -- what is held after a pass of a call: what authenticate and open_session cache, and the calls that follow them leave,
 -- and the call, if it is incomplete; `first` is what the first pass of chauthtok cached, if this is its second
-abbrev pub held_behind : {State : Type 0} → Func → Option KeptAnswers → Passed State → Held → Held
-held_behind Authenticate first p h =
+abbrev pub held_past : {State : Type 0} → Func → Option KeptAnswers → Passed State → Held → Held
+held_past Authenticate first p h =
     held p.kept h.opened (pending_after Authenticate first p.paused)
-held_behind SetCred first p h = held p.kept h.opened (pending_after SetCred first p.paused)
-held_behind OpenSession first p h =
+held_past SetCred first p h = held p.kept h.opened (pending_after SetCred first p.paused)
+held_past OpenSession first p h =
     held h.authenticated p.kept (pending_after OpenSession first p.paused)
-held_behind CloseSession first p h =
+held_past CloseSession first p h =
     held h.authenticated p.kept (pending_after CloseSession first p.paused)
-held_behind func first p h = held h.authenticated h.opened (pending_after func first p.paused)
+held_past func first p h = held h.authenticated h.opened (pending_after func first p.paused)
 
 -- the result of a call
 pub record Went (State : Type 0) : Type 0 where
@@ -118,22 +118,22 @@ module _ {State : Type 0} (asking : Asking State) (stacks : Stacks) where
   abbrev pub one_pass : Func → List Code → Held → State → Went State
   one_pass func past h s =
       let p = first_pass func past h s in
-      went p.code (held_behind func None p h) p.state
+      went p.code (held_past func None p h) p.state
 
   abbrev pub update : Option KeptAnswers → List Code → Held → State → Went State
   update first past h s =
       let p = second_pass first past s in
-      went p.code (held_behind ChAuthTok first p h) p.state
+      went p.code (held_past ChAuthTok first p h) p.state
 
   -- the second pass follows if the first returned SUCCESS
-  abbrev pub behind_check : Code → Option KeptAnswers → Held → State → Went State
-  behind_check codes.Success kept h s = update kept [] h s
-  behind_check code kept h s = went code h s
+  abbrev pub after_check : Code → Option KeptAnswers → Held → State → Went State
+  after_check codes.Success kept h s = update kept [] h s
+  after_check code kept h s = went code h s
 
   abbrev pub check : List Code → Held → State → Went State
   check past h s =
       let p = first_pass ChAuthTok past h s in
-      behind_check p.code p.kept (held_behind ChAuthTok None p h) p.state
+      after_check p.code p.kept (held_past ChAuthTok None p h) p.state
 
   abbrev pub change : List Code → Option KeptAnswers → Held → State → Went State
   change past None h s = check past h s

@@ -44,8 +44,8 @@ module _ {State : Type 0} (kind : PassKind) (serve : Serving State) where
       run_from stack walker.at (entry_at walker.entries) walker.opinion state
 
 -- a line is at an index
-abbrev pub Stands : Stack → ℕ → FlatLine → Type 0
-Stands stack i line = drop i (flat_lines 0 0 stack) ≡ line ∷ drop (i + 1) (flat_lines 0 0 stack)
+abbrev pub IsLineAt : Stack → ℕ → FlatLine → Type 0
+IsLineAt stack i line = drop i (flat_lines 0 0 stack) ≡ line ∷ drop (i + 1) (flat_lines 0 0 stack)
 
 -- where a list goes on after its line of index i, of which `rest` is left
 pub record LeadsTo (action : Action) (rest : Stack) (new : Opinion) (i : ℕ) (opinion : Opinion)

@@ -1,7 +1,7 @@
 ghost use Rattle.std.specs.Prelude.{◌≡◌, ◌<◌, ◌≤◌, ◌+◌};
 ghost use Rattle.control_words.specs.Stack.{lines_in};
 ghost use Rattle.handler_chain.specs.FlatLines.{FlatLine};
-ghost use Rattle.dispatch_core.specs.Index.{LeadsTo, Stands};
+ghost use Rattle.dispatch_core.specs.Index.{LeadsTo, IsLineAt};
 
 use control_words::Action;
 use handler_chain::{Chain, Opinion};
@@ -17,7 +17,7 @@ pub struct NextLine {
 pub fn next_line_after(chain: &mut Chain, i: usize, action: Action, new: Opinion) -> NextLine
     requires within { i < lines_in chain.old.nodes }
     requires few { i < 4096 }
-    ensures leads { (line : FlatLine) → Stands chain.old.nodes i line →
+    ensures leads { (line : FlatLine) → IsLineAt chain.old.nodes i line →
         LeadsTo action line.rest new i result.opinion result.index }
     ensures ahead { i < result.index }
     ensures nodes { chain.new.nodes ≡ chain.old.nodes }
@@ -41,10 +41,10 @@ pub fn next_line_after(chain: &mut Chain, i: usize, action: Action, new: Opinion
         };
     }
     if new.ends(action) {
-        let behind = chain.end(i);
+        let past_end = chain.end(i);
         return NextLine {
             opinion: new,
-            index: behind,
+            index: past_end,
         };
     }
     NextLine {

@@ -9,7 +9,7 @@ ghost use Rattle.dispatch_core.specs.AnyWorld.{PassStays};
 ghost use Rattle.dispatch_core.specs.Around.{all_tell};
 ghost use Rattle.dispatch_core.specs.Done.{GivesLine, LineDone};
 ghost use Rattle.dispatch_core.specs.Failing.{GoesBy};
-ghost use Rattle.dispatch_core.specs.Index.{GoesOn, Stands};
+ghost use Rattle.dispatch_core.specs.Index.{GoesOn, IsLineAt};
 ghost use Rattle.dispatch_core.specs.Paths.{HasPaths};
 ghost use Rattle.dispatch_core.specs.Passes.{by_place};
 
@@ -106,7 +106,7 @@ pub fn act_on(
 )
     requires within { walker.old.at < lines_in chain.old.nodes }
     requires cells { is_some keeps.old ≡ true → walker.old.at < lines_kept keeps.old }
-    ensures line { (line : FlatLine) → Stands chain.old.nodes walker.old.at line →
+    ensures line { (line : FlatLine) → IsLineAt chain.old.nodes walker.old.at line →
         GoesOn kind line answer
         (decides kind (by_place follows.now) (walker.old.at + 1) answer) walker.old walker.new }
     ensures goes { GoesBy kind (by_place follows.now) chain.old.nodes answer walker.old

@@ -18,7 +18,7 @@ impl Walker {
     ghost use Rattle.handler_chain.specs.FlatLines.{FlatLine};
     ghost use Rattle.handler_chain.specs.Opinion.{opening};
     ghost use Rattle.dispatch_core.specs.EntryStates.{entry_at};
-    ghost use Rattle.dispatch_core.specs.Index.{GoesOn, Stands};
+    ghost use Rattle.dispatch_core.specs.Index.{GoesOn, IsLineAt};
 
     /// Before the first line.
     pub fn new() -> Self
@@ -37,7 +37,7 @@ impl Walker {
     /// continues.
     pub fn go_on(&mut self, chain: &mut Chain, kind: PassKind, answer: Code, deciding: Code)
         requires { self.old.at < lines_in chain.old.nodes }
-        ensures goes { (line : FlatLine) → Stands chain.old.nodes self.old.at line →
+        ensures goes { (line : FlatLine) → IsLineAt chain.old.nodes self.old.at line →
             GoesOn kind line answer deciding self.old self.new }
         ensures ahead { self.old.at < self.new.at }
         ensures nodes { chain.new.nodes ≡ chain.old.nodes }

@@ -70,7 +70,7 @@ fn library_of(
     ensures { IfOk result (λ library. IsSoundFor (⟦<Gear as GearTold>⟧.players (gear_in library))
         (⟦<Library as LibraryTold>⟧.slots library) ledger.now) }
 {
-    pam_library::laws::closed_places_stand_for_none();
+    pam_library::laws::closed_places_have_no_events();
     let library = Library::new(alloc, gear, convs)?;
     Ok(library)
 }

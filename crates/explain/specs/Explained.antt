@@ -10,7 +10,7 @@ use Rattle.session_audit.specs.service_load.specs.declared.load_fault.LoadFault.
 use Rattle.session_audit.specs.service_load.specs.declared.rule_type.RuleType.{RuleType}
 use Rattle.session_audit.specs.service_load.specs.FirstFault.{Counts, Stop}
 use Rattle.session_audit.specs.service_load.specs.Kinds.{KindCounts}
-use Rattle.session_audit.specs.service_load.specs.Load.{loaded, has_folder}
+use Rattle.session_audit.specs.service_load.specs.Load.{loaded, directory_exists}
 use Rattle.session_audit.specs.service_load.specs.Loading.{texts_of}
 use Rattle.session_audit.specs.service_load.specs.Stacks.{Stacks, stacks_of}
 use Rattle.session_audit.specs.service_load.specs.Tree.{tree}
@@ -73,8 +73,8 @@ ExplainsBy P (Err stop) stack sources report vault = P (refused_explained stop.f
 abbrev pub Explains : (Written → Type 0) → VaultState → List ℕ → List ℕ → List ℕ → VaultState
     → Type 0
 Explains P old root service report new =
-    ExplainsBy P (loaded old root service) (tree (texts_of root old) (has_folder old root) service)
-    (sources_at (texts_of root old) (has_folder old root) service) report new
+    ExplainsBy P (loaded old root service) (tree (texts_of root old) (directory_exists old root) service)
+    (sources_at (texts_of root old) (directory_exists old root) service) report new
 
 -- ---- with any files
 

@@ -1,6 +1,6 @@
 ghost use Rattle.std.specs.Prelude.{◌≡◌, ◌≤◌, IsTrue, IfOk, length};
 ghost use Rattle.session_audit.specs.pass_replay.specs.Retold.{stacks_in};
-ghost use Rattle.session_audit.specs.service_load.specs.Load.{AreBounded, has_folder};
+ghost use Rattle.session_audit.specs.service_load.specs.Load.{AreBounded, directory_exists};
 ghost use Rattle.session_audit.specs.service_load.specs.Loading.{OnlyCalls, texts_of};
 ghost use Rattle.explain_origins.specs.Placed.{sources_at};
 ghost use Rattle.explain.specs.Explained.{Explains, IsExplained, IsExplainedWith, IsRefused, OrUnread, IsOutputOf, IsOutputBy, explained_of, refused_explained, unread_explained, written};
@@ -82,7 +82,7 @@ fn explained_by(
     ensures tells { vault_tells vault.new ≡ vault_tells vault.old }
     ensures told { IsTrue (vault_tells vault.old) → IfOk result (λ output.
         OrUnread (λ w. IsExplained output w) (explained_of (stacks_in trees.now) (sources_at
-        (texts_of root.now (vault_holds vault.old)) (has_folder (vault_holds vault.old) root.now)
+        (texts_of root.now (vault_holds vault.old)) (directory_exists (vault_holds vault.old) root.now)
         service.now) report.now) (vault_holds vault.new)) }
     ensures stays { IsTrue (vault_tells vault.old) →
         OnlyCalls (vault_holds vault.old) (vault_holds vault.new) }

@@ -210,8 +210,8 @@ module _ {State : Type 0} (kind : PassKind) (serve : Serving State) where
             ∙ ap (λ n. shown ++ rows kind serve n why here (at + 1) entry opinion state) (sym none_over) ∙ was.shows;
       }
 
-  on_halt : (inside : Walked State) (own over behind : List Row) → inside.stopped ≡ true → own ++ (if inside.stopped then over else behind) ≡ own ++ over
-  on_halt inside own over behind is = ap (λ (b : Bool). own ++ (if b then over else behind)) is
+  on_halt : (inside : Walked State) (own over past_end : List Row) → inside.stopped ≡ true → own ++ (if inside.stopped then over else past_end) ≡ own ++ over
+  on_halt inside own over past_end is = ap (λ (b : Bool). own ++ (if b then over else past_end)) is
 
   pub sub_waits : (all : Stack) (first : ℕ) (entry : Opinion) (start : State) (reason : Fate) (before : List Row) (here inner rest left : Stack)
       (skip at at' : ℕ) (opinion : Opinion) (state new : State) (why : Fate) (shown after final : List Row)

@@ -50,14 +50,14 @@ module _ (stacks : Stacks) (sources : Sources) (number : ℕ) where
   second_text first past told = run_text ChAuthTok Password stacks.password Follow first past told
 
   -- the second pass follows if the first one returned SUCCESS
-  abbrev pub behind_text : Code → Option KeptAnswers → Telling → List ℕ
-  behind_text Success kept told = second_text kept [] told
-  behind_text code kept told = []
+  abbrev pub past_text : Code → Option KeptAnswers → Telling → List ℕ
+  past_text Success kept told = second_text kept [] told
+  past_text code kept told = []
 
   abbrev pub check_text : List Code → Held → Telling → List ℕ
   check_text past h told =
       let p = first_pass as_told stacks ChAuthTok past h told in
-      first_text ChAuthTok past h told ++ behind_text p.code p.kept p.state
+      first_text ChAuthTok past h told ++ past_text p.code p.kept p.state
 
   abbrev pub change_text : List Code → Option KeptAnswers → Held → Telling → List ℕ
   change_text past None h told = check_text past h told

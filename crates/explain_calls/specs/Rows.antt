@@ -57,9 +57,9 @@ module _ {State : Type 0} (kind : PassKind) (serve : Serving State) where
       else rows zero why rest (at + lines_in inner) entry inside.opinion inside.state)
 
   -- what is left of the rows after a line: none of them was reached if the walk waits there
-  abbrev pub rows_behind : Stack → ℕ → Opinion → Option Turn → State → List Row
-  rows_behind rest at entry None state = rows_over Unreached at rest
-  rows_behind rest at entry (Some turn) state =
+  abbrev pub rows_after : Stack → ℕ → Opinion → Option Turn → State → List Row
+  rows_after rest at entry None state = rows_over Unreached at rest
+  rows_after rest at entry (Some turn) state =
       rows turn.skip turn.why rest at entry turn.opinion state
 
 -- the rows of a run of a stack, after the codes of its earlier calls, whose lines return what a

@@ -6,7 +6,7 @@ ghost use Rattle.handler_chain.specs.Retell.{replaying};
 ghost use Rattle.handler_chain.specs.Walk.{walk};
 ghost use Rattle.pass_replay.specs.Kept.{kept_answers};
 ghost use Rattle.pass_replay.specs.Walk.{WalkEnds, state_in};
-ghost use Rattle.explain_calls.specs.Rows.{last_of, rows, rows_behind, rows_over};
+ghost use Rattle.explain_calls.specs.Rows.{last_of, rows, rows_after, rows_over};
 ghost use Rattle.explain_calls.specs.Walk.{after_turn};
 
 use crate::runs::Run;
@@ -99,7 +99,7 @@ fn walk_line(
         (serving run.entry.kind (answers_held (kept_answers run.entry.follows.now)) replaying)
         0 why (line rule.now rest) (replay.old.at + 1) entry opinion
         (state_in run.entry.past.now run.entry.told.now replay.old)
-        ≡ shown.new ++ rows_behind run.entry.kind
+        ≡ shown.new ++ rows_after run.entry.kind
         (serving run.entry.kind (answers_held (kept_answers run.entry.follows.now)) replaying)
         rest (replay.old.at + 1 + 1) entry turn
         (state_in run.entry.past.now run.entry.told.now replay.new)) }

@@ -2,19 +2,19 @@
 use Rattle.std.proofs.Common.{◌≡◌, ℕ, zero, suc, ◌+◌, Bool, true, false, cond, eqb, List, [], ◌∷◌, length, length-append, Option, refl, ap, ◌∙◌, arith}
 use Rattle.std.proofs.lemmas.Bool.{eqb-true}
 use Rattle.control_words.specs.Stack.{Stack, none, line, sub, joined, count, lines_in}
-use Rattle.explain_origins.specs.Placed.{Placed, nothing, rule_at, within, behind, is_nothing, forgotten, places, content_placed, entry_placed, placed_of, placed, placed_from}
+use Rattle.explain_origins.specs.Placed.{Placed, nothing, rule_at, within, past_end, is_nothing, forgotten, places, content_placed, entry_placed, placed_of, placed, placed_from}
 use Rattle.service_load.specs.declared.entry.RuleContent.{RuleContent}
 use Rattle.service_load.specs.declared.entry.RuleContent.TheVariants.{Line, Include, Substack}
 use Rattle.service_load.specs.declared.entry.ConfigEntry.{ConfigEntry}
 use Rattle.service_load.specs.declared.rule_file.RuleFile.{RuleFile}
 use Rattle.service_load.specs.declared.rule_type.RuleType.{RuleType}
-use Rattle.service_load.specs.Files.{plain_file, held, rules_held, entries_of, is_in_folder}
+use Rattle.service_load.specs.Files.{plain_file, held, rules_held, entries_of, is_in_directory}
 use Rattle.service_load.specs.Tree.{serves, content_nodes, entry_nodes, nodes_of, nodes, tree_from, tree_of}
 
-pub forgotten-behind : (a b : Placed) → forgotten (behind a b) ≡ joined (forgotten a) (forgotten b)
-forgotten-behind nothing b = refl
-forgotten-behind (rule_at origin rule rest) b = ap (line rule) (forgotten-behind rest b)
-forgotten-behind (within inner rest) b = ap (sub (forgotten inner)) (forgotten-behind rest b)
+pub forgotten-past_end : (a b : Placed) → forgotten (past_end a b) ≡ joined (forgotten a) (forgotten b)
+forgotten-past_end nothing b = refl
+forgotten-past_end (rule_at origin rule rest) b = ap (line rule) (forgotten-past_end rest b)
+forgotten-past_end (within inner rest) b = ap (sub (forgotten inner)) (forgotten-past_end rest b)
 
 -- each line has one place
 pub places_each : (p : Placed) → length (places p) ≡ lines_in (forgotten p)
@@ -54,7 +54,7 @@ module _ (deeper : List ℕ → Placed) (stack : List ℕ → Stack) (same : (na
   all_forgotten : (type : RuleType) (name : List ℕ) (entries : List ConfigEntry) → forgotten (placed_of deeper type name entries) ≡ nodes_of stack type entries
   all_forgotten type name [] = refl
   all_forgotten type name (e ∷ es) =
-      forgotten-behind (entry_placed deeper type name e) (placed_of deeper type name es)
+      forgotten-past_end (entry_placed deeper type name e) (placed_of deeper type name es)
       ∙ ap (λ (s : Stack). joined s (forgotten (placed_of deeper type name es))) (entry_forgotten type name e)
       ∙ ap (joined (entry_nodes stack type e)) (all_forgotten type name es)
 
@@ -64,7 +64,7 @@ module _ (texts : List ℕ → Option (List ℕ)) where
   file_forgotten zero type file = refl
   file_forgotten (suc levels) type file =
       all_forgotten (λ name. placed texts levels type (plain_file name)) (λ name. nodes texts levels type (plain_file name)) (λ name. file_forgotten levels type (plain_file name))
-      type file.name (entries_of (is_in_folder file) (rules_held (held texts file)))
+      type file.name (entries_of (is_in_directory file) (rules_held (held texts file)))
 
   if_empty : (b c : Bool) (own other : Placed) → c ≡ b → forgotten (cond b other own) ≡ cond c (forgotten other) (forgotten own)
   if_empty true c own other is = rw is refl

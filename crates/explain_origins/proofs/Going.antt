@@ -7,7 +7,7 @@ use Rattle.control_words.specs.conf_lex.specs.declared.token.Token.{Token}
 use Rattle.explain_lines.specs.declared.origin.Origin.{Origin}
 use Rattle.explain_origins.specs.declared.step.Step.{Step}
 use Rattle.explain_origins.specs.declared.step.Step.TheVariants.{Nothing, Line, File}
-use Rattle.explain_origins.specs.Placed.{Placed, nothing, rule_at, within, behind, is_nothing, places, content_placed, entry_placed, placed_of, placed}
+use Rattle.explain_origins.specs.Placed.{Placed, nothing, rule_at, within, past_end, is_nothing, places, content_placed, entry_placed, placed_of, placed}
 use Rattle.pam_base.specs.declared.fault.NoMemory.{NoMemory}
 use Rattle.explain_origins.specs.declared.files.Inclusion.{Inclusion}
 use Rattle.explain_origins.specs.Reading.{Adds, Takes, placed_at, step_at, step_by, step_of_rules}
@@ -17,19 +17,19 @@ use Rattle.service_load.specs.declared.entry.ConfigEntry.{ConfigEntry}
 use Rattle.service_load.specs.declared.rule_file.RuleFile.{RuleFile}
 use Rattle.service_load.specs.declared.rule_type.RuleType.{RuleType}
 use Rattle.service_load.specs.Entry.{entry_of}
-use Rattle.service_load.specs.Files.{plain_file, held, rules_held, own_rule, own_rules, rule_without, entries_of, is_in_folder}
+use Rattle.service_load.specs.Files.{plain_file, held, rules_held, own_rule, own_rules, rule_without, entries_of, is_in_directory}
 use Rattle.service_load.specs.RuleType.{is_word}
 use Rattle.service_load.specs.Tree.{serves}
 
-pub places-behind : (a b : Placed) → places (behind a b) ≡ places a ++ places b
-places-behind nothing b = refl
-places-behind (rule_at origin rule rest) b = ap (λ (os : List Origin). origin ∷ os) (places-behind rest b)
-places-behind (within inner rest) b = ap (λ (os : List Origin). places inner ++ os) (places-behind rest b) ∙ sym (append_assoc (places inner) (places rest) (places b))
+pub places-past_end : (a b : Placed) → places (past_end a b) ≡ places a ++ places b
+places-past_end nothing b = refl
+places-past_end (rule_at origin rule rest) b = ap (λ (os : List Origin). origin ∷ os) (places-past_end rest b)
+places-past_end (within inner rest) b = ap (λ (os : List Origin). places inner ++ os) (places-past_end rest b) ∙ sym (append_assoc (places inner) (places rest) (places b))
 
-is_nothing-behind : (a b : Placed) → is_nothing (behind a b) ≡ is_nothing a && is_nothing b
-is_nothing-behind nothing b = refl
-is_nothing-behind (rule_at origin rule rest) b = refl
-is_nothing-behind (within inner rest) b = refl
+is_nothing-past_end : (a b : Placed) → is_nothing (past_end a b) ≡ is_nothing a && is_nothing b
+is_nothing-past_end nothing b = refl
+is_nothing-past_end (rule_at origin rule rest) b = refl
+is_nothing-past_end (within inner rest) b = refl
 
 pub nothing_there : (p : Placed) → is_nothing p ≡ true → places p ≡ []
 nothing_there nothing is = refl
@@ -39,14 +39,14 @@ nothing_there (within inner rest) is = absurd cc
 -- a file that is opened, at a level
 pub placed_is : (texts : List ℕ → Option (List ℕ)) (level : ℕ) (type : RuleType) (file : RuleFile) (rules : List RawRule) → level ≤ 16
     → rules_held (held texts file) ≡ rules
-    → placed_at texts level type file ≡ placed_of (λ name. placed_at texts (level + 1) type (plain_file name)) type file.name (entries_of (is_in_folder file) rules)
+    → placed_at texts level type file ≡ placed_of (λ name. placed_at texts (level + 1) type (plain_file name)) type file.name (entries_of (is_in_directory file) rules)
 unfolding placed
 placed_is texts level type file rules low are =
     let left : 17 - level ≡ suc (16 - level) = omega arith in
     let deeper : 16 - level ≡ 17 - (level + 1) = omega arith in
     ap (λ (n : ℕ). placed texts n type file) left
-    ∙ ap (λ (n : ℕ). placed_of (λ name. placed texts n type (plain_file name)) type file.name (entries_of (is_in_folder file) (rules_held (held texts file)))) deeper
-    ∙ ap (λ (rs : List RawRule). placed_of (λ name. placed_at texts (level + 1) type (plain_file name)) type file.name (entries_of (is_in_folder file) rs)) are
+    ∙ ap (λ (n : ℕ). placed_of (λ name. placed texts n type (plain_file name)) type file.name (entries_of (is_in_directory file) (rules_held (held texts file)))) deeper
+    ∙ ap (λ (rs : List RawRule). placed_of (λ name. placed_at texts (level + 1) type (plain_file name)) type file.name (entries_of (is_in_directory file) rs)) are
 
 pub too_deep : (texts : List ℕ → Option (List ℕ)) (level : ℕ) (type : RuleType) (file : RuleFile) → 16 < level → level ≤ 17
     → placed_at texts level type file ≡ nothing
@@ -89,57 +89,57 @@ module _ (deeper : List ℕ → Placed) (type : RuleType) (name : List ℕ) wher
 
   -- the list of some rules
   abbrev pub of_rules : Bool → List RawRule → Placed
-  of_rules in_folder rules = placed_of deeper type name (entries_of in_folder rules)
+  of_rules in_directory rules = placed_of deeper type name (entries_of in_directory rules)
 
-  rule_places : (in_folder : Bool) (rule : RawRule) (rest : List RawRule) (said : Result ConfigEntry FaultKind) → entry_of in_folder rule ≡ said
-      → places (of_rules in_folder (rule ∷ rest)) ≡ places_by (step_by type said) ++ places (of_rules in_folder rest)
-  rule_places in_folder rule rest (Ok e) is =
-      rw is (places-behind (entry_placed deeper type name e) (of_rules in_folder rest)
-      ∙ ap (λ (os : List Origin). os ++ places (of_rules in_folder rest)) (if_places (serves type e.rule_type) (content_placed deeper name e.line e.content) (step_at e.line e.content) (content_places e.line e.content)))
-  rule_places in_folder rule rest (Err kind) is = rw is refl
+  rule_places : (in_directory : Bool) (rule : RawRule) (rest : List RawRule) (said : Result ConfigEntry FaultKind) → entry_of in_directory rule ≡ said
+      → places (of_rules in_directory (rule ∷ rest)) ≡ places_by (step_by type said) ++ places (of_rules in_directory rest)
+  rule_places in_directory rule rest (Ok e) is =
+      rw is (places-past_end (entry_placed deeper type name e) (of_rules in_directory rest)
+      ∙ ap (λ (os : List Origin). os ++ places (of_rules in_directory rest)) (if_places (serves type e.rule_type) (content_placed deeper name e.line e.content) (step_at e.line e.content) (content_places e.line e.content)))
+  rule_places in_directory rule rest (Err kind) is = rw is refl
 
-  rule_nothing : (in_folder : Bool) (rule : RawRule) (rest : List RawRule) (said : Result ConfigEntry FaultKind) → entry_of in_folder rule ≡ said
-      → is_nothing (of_rules in_folder (rule ∷ rest)) ≡ nothing_by (step_by type said) && is_nothing (of_rules in_folder rest)
-  rule_nothing in_folder rule rest (Ok e) is =
-      rw is (is_nothing-behind (entry_placed deeper type name e) (of_rules in_folder rest)
-      ∙ ap (λ (b : Bool). b && is_nothing (of_rules in_folder rest)) (if_nothing (serves type e.rule_type) (content_placed deeper name e.line e.content) (step_at e.line e.content) (content_nothing e.line e.content)))
-  rule_nothing in_folder rule rest (Err kind) is = rw is refl
+  rule_nothing : (in_directory : Bool) (rule : RawRule) (rest : List RawRule) (said : Result ConfigEntry FaultKind) → entry_of in_directory rule ≡ said
+      → is_nothing (of_rules in_directory (rule ∷ rest)) ≡ nothing_by (step_by type said) && is_nothing (of_rules in_directory rest)
+  rule_nothing in_directory rule rest (Ok e) is =
+      rw is (is_nothing-past_end (entry_placed deeper type name e) (of_rules in_directory rest)
+      ∙ ap (λ (b : Bool). b && is_nothing (of_rules in_directory rest)) (if_nothing (serves type e.rule_type) (content_placed deeper name e.line e.content) (step_at e.line e.content) (content_nothing e.line e.content)))
+  rule_nothing in_directory rule rest (Err kind) is = rw is refl
 
   -- a rule of a text was asked for, or wasn't
-  record IsStep (in_folder : Bool) (own rest : List RawRule) : Type 0 where
-    pub adds : places (of_rules in_folder (own ++ rest)) ≡ places_by (step_of_rules type in_folder own) ++ places (of_rules in_folder rest)
-    pub finds : is_nothing (of_rules in_folder (own ++ rest)) ≡ nothing_by (step_of_rules type in_folder own) && is_nothing (of_rules in_folder rest)
+  record IsStep (in_directory : Bool) (own rest : List RawRule) : Type 0 where
+    pub adds : places (of_rules in_directory (own ++ rest)) ≡ places_by (step_of_rules type in_directory own) ++ places (of_rules in_directory rest)
+    pub finds : is_nothing (of_rules in_directory (own ++ rest)) ≡ nothing_by (step_of_rules type in_directory own) && is_nothing (of_rules in_directory rest)
 
-  none_meant : (in_folder : Bool) (rest : List RawRule) → IsStep in_folder [] rest
-  none_meant in_folder rest = record { adds = refl; finds = refl }
+  none_meant : (in_directory : Bool) (rest : List RawRule) → IsStep in_directory [] rest
+  none_meant in_directory rest = record { adds = refl; finds = refl }
 
-  one_meant : (in_folder : Bool) (rule : RawRule) (rest : List RawRule) → IsStep in_folder (rule ∷ []) rest
-  one_meant in_folder rule rest = record {
-    adds = rule_places in_folder rule rest (entry_of in_folder rule) refl;
-    finds = rule_nothing in_folder rule rest (entry_of in_folder rule) refl;
+  one_meant : (in_directory : Bool) (rule : RawRule) (rest : List RawRule) → IsStep in_directory (rule ∷ []) rest
+  one_meant in_directory rule rest = record {
+    adds = rule_places in_directory rule rest (entry_of in_directory rule) refl;
+    finds = rule_nothing in_directory rule rest (entry_of in_directory rule) refl;
   }
 
-  if_meant : (b in_folder : Bool) (rule : RawRule) (rest : List RawRule) → IsStep in_folder (cond b (rule ∷ []) []) rest
-  if_meant true in_folder rule rest = one_meant in_folder rule rest
-  if_meant false in_folder rule rest = none_meant in_folder rest
+  if_meant : (b in_directory : Bool) (rule : RawRule) (rest : List RawRule) → IsStep in_directory (cond b (rule ∷ []) []) rest
+  if_meant true in_directory rule rest = one_meant in_directory rule rest
+  if_meant false in_directory rule rest = none_meant in_directory rest
 
-  of_service : (in_folder : Bool) (service : List ℕ) (line : ℕ) (tokens : List Token) (rest : List RawRule) → IsStep in_folder (rule_without service line tokens) rest
-  of_service in_folder service line [] rest = none_meant in_folder rest
-  of_service in_folder service line (t ∷ ts) rest = if_meant (is_word service t) in_folder (record { line = line; tokens = ts }) rest
+  of_service : (in_directory : Bool) (service : List ℕ) (line : ℕ) (tokens : List Token) (rest : List RawRule) → IsStep in_directory (rule_without service line tokens) rest
+  of_service in_directory service line [] rest = none_meant in_directory rest
+  of_service in_directory service line (t ∷ ts) rest = if_meant (is_word service t) in_directory (record { line = line; tokens = ts }) rest
 
-  is_step : (in_folder : Bool) (service : Option (List ℕ)) (rule : RawRule) (rest : List RawRule) → IsStep in_folder (own_rule service rule) rest
-  is_step in_folder None rule rest = one_meant in_folder rule rest
-  is_step in_folder (Some service) rule rest = of_service in_folder service rule.line rule.tokens rest
+  is_step : (in_directory : Bool) (service : Option (List ℕ)) (rule : RawRule) (rest : List RawRule) → IsStep in_directory (own_rule service rule) rest
+  is_step in_directory None rule rest = one_meant in_directory rule rest
+  is_step in_directory (Some service) rule rest = of_service in_directory service rule.line rule.tokens rest
 
   -- ---- the rules of a file so far
 
   -- what all rules of a text add is what was added so far and what those that are left add
-  pub record Going (in_folder : Bool) (service : Option (List ℕ)) (all left : List RawRule) (before now : List Origin) (any : Bool) : Type 0 where
-    pub added : before ++ places (of_rules in_folder (own_rules service all)) ≡ now ++ places (of_rules in_folder (own_rules service left))
-    pub found : is_nothing (of_rules in_folder (own_rules service all)) ≡ not any && is_nothing (of_rules in_folder (own_rules service left))
+  pub record Going (in_directory : Bool) (service : Option (List ℕ)) (all left : List RawRule) (before now : List Origin) (any : Bool) : Type 0 where
+    pub added : before ++ places (of_rules in_directory (own_rules service all)) ≡ now ++ places (of_rules in_directory (own_rules service left))
+    pub found : is_nothing (of_rules in_directory (own_rules service all)) ≡ not any && is_nothing (of_rules in_directory (own_rules service left))
 
-  pub going_none : (in_folder : Bool) (service : Option (List ℕ)) (all : List RawRule) (before : List Origin) → Going in_folder service all all before before false
-  going_none in_folder service all before = record { added = refl; found = refl }
+  pub going_none : (in_directory : Bool) (service : Option (List ℕ)) (all : List RawRule) (before : List Origin) → Going in_directory service all all before before false
+  going_none in_directory service all before = record { added = refl; found = refl }
 
   and-or : (any found rest : Bool) → not any && (not found && rest) ≡ not (any || found) && rest
   and-or true found rest = refl
@@ -150,28 +150,28 @@ module _ (deeper : List ℕ → Placed) (type : RuleType) (name : List ℕ) wher
   not-not false = refl
 
   -- one more rule
-  pub going_on : (in_folder : Bool) (service : Option (List ℕ)) (all : List RawRule) (i : ℕ) (rule : RawRule) (before now new : List Origin) (any found any' : Bool) (step : Step)
+  pub going_on : (in_directory : Bool) (service : Option (List ℕ)) (all : List RawRule) (i : ℕ) (rule : RawRule) (before now new : List Origin) (any found any' : Bool) (step : Step)
       → i < length all → rule ≡ get_or all i rule
-      → step ≡ step_of_rules type in_folder (own_rule service rule) → new ≡ now ++ places_by step → nothing_by step ≡ not found → any' ≡ (any || found)
-      → Going in_folder service all (drop i all) before now any → Going in_folder service all (drop (i + 1) all) before new any'
-  going_on in_folder service all i rule before now new any found any' step inside is steps adds finds or was =
+      → step ≡ step_of_rules type in_directory (own_rule service rule) → new ≡ now ++ places_by step → nothing_by step ≡ not found → any' ≡ (any || found)
+      → Going in_directory service all (drop i all) before now any → Going in_directory service all (drop (i + 1) all) before new any'
+  going_on in_directory service all i rule before now new any found any' step inside is steps adds finds or was =
       let rest : List RawRule = drop (i + 1) all in
       let here : drop i all ≡ rule ∷ rest = drop_more all i rule inside ∙ ap (λ (r : RawRule). r ∷ rest) (sym is) in
-      let one : IsStep in_folder (own_rule service rule) (own_rules service rest) = is_step in_folder service rule (own_rules service rest) in
+      let one : IsStep in_directory (own_rule service rule) (own_rules service rest) = is_step in_directory service rule (own_rules service rest) in
       record {
         added = was.added
-            ∙ ap (λ (rs : List RawRule). now ++ places (of_rules in_folder (own_rules service rs))) here
+            ∙ ap (λ (rs : List RawRule). now ++ places (of_rules in_directory (own_rules service rs))) here
             ∙ ap (λ (os : List Origin). now ++ os) one.adds
-            ∙ sym (append_assoc now (places_by (step_of_rules type in_folder (own_rule service rule))) (places (of_rules in_folder (own_rules service rest))))
-            ∙ ap (λ (s : Step). (now ++ places_by s) ++ places (of_rules in_folder (own_rules service rest))) (sym steps)
-            ∙ ap (λ (os : List Origin). os ++ places (of_rules in_folder (own_rules service rest))) (sym adds);
+            ∙ sym (append_assoc now (places_by (step_of_rules type in_directory (own_rule service rule))) (places (of_rules in_directory (own_rules service rest))))
+            ∙ ap (λ (s : Step). (now ++ places_by s) ++ places (of_rules in_directory (own_rules service rest))) (sym steps)
+            ∙ ap (λ (os : List Origin). os ++ places (of_rules in_directory (own_rules service rest))) (sym adds);
         found = was.found
-            ∙ ap (λ (rs : List RawRule). not any && is_nothing (of_rules in_folder (own_rules service rs))) here
+            ∙ ap (λ (rs : List RawRule). not any && is_nothing (of_rules in_directory (own_rules service rs))) here
             ∙ ap (λ (b : Bool). not any && b) one.finds
-            ∙ ap (λ (s : Step). not any && (nothing_by s && is_nothing (of_rules in_folder (own_rules service rest)))) (sym steps)
-            ∙ ap (λ (b : Bool). not any && (b && is_nothing (of_rules in_folder (own_rules service rest)))) finds
-            ∙ and-or any found (is_nothing (of_rules in_folder (own_rules service rest)))
-            ∙ ap (λ (b : Bool). not b && is_nothing (of_rules in_folder (own_rules service rest))) (sym or);
+            ∙ ap (λ (s : Step). not any && (nothing_by s && is_nothing (of_rules in_directory (own_rules service rest)))) (sym steps)
+            ∙ ap (λ (b : Bool). not any && (b && is_nothing (of_rules in_directory (own_rules service rest)))) finds
+            ∙ and-or any found (is_nothing (of_rules in_directory (own_rules service rest)))
+            ∙ ap (λ (b : Bool). not b && is_nothing (of_rules in_directory (own_rules service rest))) (sym or);
       }
 
   -- no rule is left
@@ -179,14 +179,14 @@ module _ (deeper : List ℕ → Placed) (type : RuleType) (name : List ℕ) wher
   not_or true all is = rw is refl
   not_or false all is = rw is refl
 
-  pub going_all : (in_folder : Bool) (service : Option (List ℕ)) (all left : List RawRule) (before now : List Origin) (any : Bool) (file : Placed)
-      → Going in_folder service all left before now any → left ≡ [] → file ≡ of_rules in_folder (own_rules service all) → Adds any before now file
-  going_all in_folder service all left before now any file was none is = record {
+  pub going_all : (in_directory : Bool) (service : Option (List ℕ)) (all left : List RawRule) (before now : List Origin) (any : Bool) (file : Placed)
+      → Going in_directory service all left before now any → left ≡ [] → file ≡ of_rules in_directory (own_rules service all) → Adds any before now file
+  going_all in_directory service all left before now any file was none is = record {
     added = sym (append-nil now)
-        ∙ ap (λ (rs : List RawRule). now ++ places (of_rules in_folder (own_rules service rs))) (sym none)
+        ∙ ap (λ (rs : List RawRule). now ++ places (of_rules in_directory (own_rules service rs))) (sym none)
         ∙ sym was.added ∙ ap (λ (p : Placed). before ++ places p) (sym is);
     found = not_or any (is_nothing file)
-        (ap is_nothing is ∙ was.found ∙ ap (λ (rs : List RawRule). not any && is_nothing (of_rules in_folder (own_rules service rs))) none);
+        (ap is_nothing is ∙ was.found ∙ ap (λ (rs : List RawRule). not any && is_nothing (of_rules in_directory (own_rules service rs))) none);
   }
 
 -- ---- a rule that was taken
@@ -209,30 +209,30 @@ module _ (at : RuleFile → Placed) (type : RuleType) (name : List ℕ) where
   deeper inner = at (plain_file inner)
 
   -- one that includes no file
-  pub going_taken : (in_folder : Bool) (service : Option (List ℕ)) (all : List RawRule) (i : ℕ) (rule : RawRule) (before now new : List Origin) (any any' : Bool) (step : Step)
-      → i < length all → rule ≡ get_or all i rule → step ≡ step_of_rules type in_folder (own_rule service rule)
+  pub going_taken : (in_directory : Bool) (service : Option (List ℕ)) (all : List RawRule) (i : ℕ) (rule : RawRule) (before now new : List Origin) (any any' : Bool) (step : Step)
+      → i < length all → rule ≡ get_or all i rule → step ≡ step_of_rules type in_directory (own_rule service rule)
       → Takes {E = NoMemory} (Ok None) step name now new any any'
-      → Going (λ inner. at (plain_file inner)) type name in_folder service all (drop i all) before now any
-      → Going (λ inner. at (plain_file inner)) type name in_folder service all (drop (i + 1) all) before new any'
-  going_taken in_folder service all i rule before now new any any' Nothing inside is steps takes was =
-      going_on deeper type name in_folder service all i rule before now new any false any' Nothing inside is steps (takes.1 ∙ sym (append-nil now)) refl (takes.2 ∙ or_false any) was
-  going_taken in_folder service all i rule before now new any any' (Line number) inside is steps takes was =
-      going_on deeper type name in_folder service all i rule before now new any true any' (Line number) inside is steps takes.1 refl (takes.2 ∙ or_true any) was
-  going_taken in_folder service all i rule before now new any any' (File inner as_substack) inside is steps takes was = absurd cc
+      → Going (λ inner. at (plain_file inner)) type name in_directory service all (drop i all) before now any
+      → Going (λ inner. at (plain_file inner)) type name in_directory service all (drop (i + 1) all) before new any'
+  going_taken in_directory service all i rule before now new any any' Nothing inside is steps takes was =
+      going_on deeper type name in_directory service all i rule before now new any false any' Nothing inside is steps (takes.1 ∙ sym (append-nil now)) refl (takes.2 ∙ or_false any) was
+  going_taken in_directory service all i rule before now new any any' (Line number) inside is steps takes was =
+      going_on deeper type name in_directory service all i rule before now new any true any' (Line number) inside is steps takes.1 refl (takes.2 ∙ or_true any) was
+  going_taken in_directory service all i rule before now new any any' (File inner as_substack) inside is steps takes was = absurd cc
 
   -- one that includes a file, which was added
-  pub going_in : (in_folder : Bool) (service : Option (List ℕ)) (all : List RawRule) (i : ℕ) (rule : RawRule) (before now mid new : List Origin) (any half found any' : Bool) (step : Step) (inclusion : Inclusion)
-      → i < length all → rule ≡ get_or all i rule → step ≡ step_of_rules type in_folder (own_rule service rule)
+  pub going_in : (in_directory : Bool) (service : Option (List ℕ)) (all : List RawRule) (i : ℕ) (rule : RawRule) (before now mid new : List Origin) (any half found any' : Bool) (step : Step) (inclusion : Inclusion)
+      → i < length all → rule ≡ get_or all i rule → step ≡ step_of_rules type in_directory (own_rule service rule)
       → Takes {E = NoMemory} (Ok (Some inclusion)) step name now mid any half
       → Adds found mid new (at inclusion.file) → any' ≡ (half || (inclusion.as_substack || found))
-      → Going (λ inner. at (plain_file inner)) type name in_folder service all (drop i all) before now any
-      → Going (λ inner. at (plain_file inner)) type name in_folder service all (drop (i + 1) all) before new any'
-  going_in in_folder service all i rule before now mid new any half found any' Nothing inclusion inside is steps takes adds or was = absurd cc
-  going_in in_folder service all i rule before now mid new any half found any' (Line number) inclusion inside is steps takes adds or was = absurd cc
-  going_in in_folder service all i rule before now mid new any half found any' (File inner as_substack) inclusion inside is steps takes adds or was =
+      → Going (λ inner. at (plain_file inner)) type name in_directory service all (drop i all) before now any
+      → Going (λ inner. at (plain_file inner)) type name in_directory service all (drop (i + 1) all) before new any'
+  going_in in_directory service all i rule before now mid new any half found any' Nothing inclusion inside is steps takes adds or was = absurd cc
+  going_in in_directory service all i rule before now mid new any half found any' (Line number) inclusion inside is steps takes adds or was = absurd cc
+  going_in in_directory service all i rule before now mid new any half found any' (File inner as_substack) inclusion inside is steps takes adds or was =
       let same : inclusion ≡ record { file = plain_file inner; as_substack = as_substack } = cc in
       let file : at inclusion.file ≡ deeper inner = ap (λ (n : Inclusion). at n.file) same in
-      going_on deeper type name in_folder service all i rule before now new any (as_substack || found) any' (File inner as_substack) inside is steps
+      going_on deeper type name in_directory service all i rule before now new any (as_substack || found) any' (File inner as_substack) inside is steps
       (adds.added ∙ ap (λ (os : List Origin). os ++ places (at inclusion.file)) takes.1 ∙ ap (λ (p : Placed). now ++ places p) file)
       (finds_file as_substack found (is_nothing (deeper inner)) (adds.found ∙ ap (λ (p : Placed). not (is_nothing p)) file))
       (or ∙ ap (λ (b : Bool). b || (inclusion.as_substack || found)) takes.2 ∙ ap (λ (n : Inclusion). any || (n.as_substack || found)) same)

@@ -11,7 +11,7 @@ use Rattle.service_load.specs.declared.rule_file.RuleFile.{RuleFile}
 use Rattle.service_load.specs.declared.rule_type.RuleType.{RuleType}
 use Rattle.service_load.specs.declared.rule_type.RuleType.TheVariants.{Auth, Account, Password, Session}
 use Rattle.service_load.specs.Files.{service_file}
-use Rattle.service_load.specs.Load.{has_folder}
+use Rattle.service_load.specs.Load.{directory_exists}
 use Rattle.service_load.specs.Loading.{OnlyCalls, texts_of}
 
 pub same_texts : (root : List ℕ) (old new : VaultState) → OnlyCalls old new → texts_of root new ≡ texts_of root old
@@ -57,11 +57,11 @@ one root first now own other type found only is =
 
 pub all_sources : (root service : List ℕ) (v0 v1 v2 v3 v4 : VaultState) (folder : Bool) (own other : RuleFile) (auth account password session : List Origin)
     → OnlyCalls v0 v1 → OnlyCalls v1 v2 → OnlyCalls v2 v3 → OnlyCalls v3 v4
-    → folder ≡ has_folder v0 root → own ≡ service_file folder service → other ≡ service_file folder (codes "other")
+    → folder ≡ directory_exists v0 root → own ≡ service_file folder service → other ≡ service_file folder (codes "other")
     → auth ≡ places (placed_from (texts_of root v1) own other Auth) → account ≡ places (placed_from (texts_of root v2) own other Account)
     → password ≡ places (placed_from (texts_of root v3) own other Password) → session ≡ places (placed_from (texts_of root v4) own other Session)
-    → ◌≡◌ {A = Sources} (record { auth = auth; account = account; password = password; session = session }) (sources_at (texts_of root v0) (has_folder v0 root) service)
-all_sources root service v0 v1 v2 v3 v4 folder own other auth account password session o1 o2 o3 o4 folder_is own_is other_is a b c d =
+    → ◌≡◌ {A = Sources} (record { auth = auth; account = account; password = password; session = session }) (sources_at (texts_of root v0) (directory_exists v0 root) service)
+all_sources root service v0 v1 v2 v3 v4 folder own other auth account password session o1 o2 o3 o4 directory_is own_is other_is a b c d =
     let two : OnlyCalls v0 v2 = only_more v0 v1 v2 o1 o2 in
     let three : OnlyCalls v0 v3 = only_more v0 v2 v3 two o3 in
     let four : OnlyCalls v0 v4 = only_more v0 v3 v4 three o4 in
@@ -72,5 +72,5 @@ all_sources root service v0 v1 v2 v3 v4 folder own other auth account password s
       one root v0 v4 own other Session session four d,
       own_is,
       other_is,
-      folder_is,
+      directory_is,
     ) refl

@@ -31,8 +31,8 @@ pub brings_sub : (line : ℕ) (name : Result (List ℕ) FaultKind) → step_from
 brings_sub line (Ok name) = refl
 brings_sub line (Err kind) = refl
 
-pub at_include : (type : RuleType) (line : ℕ) (in_folder : Bool) (t : Token) (ts : List Token) → (in_folder && is_word (codes "@include") t) ≡ true
-    → step_to false (file_field ts) ≡ step_by type (entry_of_tokens line in_folder (t ∷ ts))
+pub at_include : (type : RuleType) (line : ℕ) (in_directory : Bool) (t : Token) (ts : List Token) → (in_directory && is_word (codes "@include") t) ≡ true
+    → step_to false (file_field ts) ≡ step_by type (entry_of_tokens line in_directory (t ∷ ts))
 at_include type line true t ts is = rw is (sym (includes type line (file_field ts)))
 at_include type line false t ts is = absurd cc
 
@@ -43,8 +43,8 @@ to_ok (Err x) a b same is = tt
 
 -- ---- a rule with a type
 
-pub at_type : (line : ℕ) (in_folder : Bool) (t : Token) (ts : List Token) → (in_folder && is_word (codes "@include") t) ≡ false
-    → entry_of_tokens line in_folder (t ∷ ts) ≡ with_type line (type_field_of t) ts
+pub at_type : (line : ℕ) (in_directory : Bool) (t : Token) (ts : List Token) → (in_directory && is_word (codes "@include") t) ≡ false
+    → entry_of_tokens line in_directory (t ∷ ts) ≡ with_type line (type_field_of t) ts
 at_type line true t ts isnt = rw isnt refl
 at_type line false t ts isnt = refl
 
@@ -60,11 +60,11 @@ pub of_type : (line : ℕ) (type : RuleType) (field : Option TypeField) (ts : Li
 of_type line type (Some field) ts step is made = made field.silent ∙ sym (own_type true line (after_type field.silent ts) type field.rule_type is)
 of_type line type None ts step is made = absurd cc
 
-pub of_type_ok : {E : Type 0} (r : Result Step E) (line : ℕ) (type : RuleType) (in_folder : Bool) (t : Token) (ts : List Token) → (in_folder && is_word (codes "@include") t) ≡ false
+pub of_type_ok : {E : Type 0} (r : Result Step E) (line : ℕ) (type : RuleType) (in_directory : Bool) (t : Token) (ts : List Token) → (in_directory && is_word (codes "@include") t) ≡ false
     → is_type type (type_field_of t) ≡ true → IfOk r (λ s. (silent : Bool) → s ≡ step_from line (after_type silent ts))
-    → IfOk r (λ s. s ≡ step_by type (entry_of_tokens line in_folder (t ∷ ts)))
-of_type_ok (Ok s) line type in_folder t ts isnt is made = rw (at_type line in_folder t ts isnt) (of_type line type (type_field_of t) ts s is made)
-of_type_ok (Err x) line type in_folder t ts isnt is made = tt
+    → IfOk r (λ s. s ≡ step_by type (entry_of_tokens line in_directory (t ∷ ts)))
+of_type_ok (Ok s) line type in_directory t ts isnt is made = rw (at_type line in_directory t ts isnt) (of_type line type (type_field_of t) ts s is made)
+of_type_ok (Err x) line type in_directory t ts isnt is made = tt
 
 pub of_none : (line : ℕ) (type : RuleType) (field : Option TypeField) (ts : List Token) → is_type type field ≡ false
     → Nothing ≡ step_by type (with_type line field ts)
@@ -73,18 +73,18 @@ of_none line type None ts is = refl
 
 -- ---- whether a rule is one of those that are meant
 
-pub none_ok : (line : ℕ) (type : RuleType) (in_folder : Bool) (t : Token) (ts : List Token) → (in_folder && is_word (codes "@include") t) ≡ false
-    → is_type type (type_field_of t) ≡ false → Nothing ≡ step_by type (entry_of_tokens line in_folder (t ∷ ts))
-none_ok line type in_folder t ts isnt is = rw (at_type line in_folder t ts isnt) (of_none line type (type_field_of t) ts is)
+pub none_ok : (line : ℕ) (type : RuleType) (in_directory : Bool) (t : Token) (ts : List Token) → (in_directory && is_word (codes "@include") t) ≡ false
+    → is_type type (type_field_of t) ≡ false → Nothing ≡ step_by type (entry_of_tokens line in_directory (t ∷ ts))
+none_ok line type in_directory t ts isnt is = rw (at_type line in_directory t ts isnt) (of_none line type (type_field_of t) ts is)
 
-meant : (type : RuleType) (in_folder : Bool) (line : ℕ) (fields : List Token) (own : List RawRule) (step : Step)
-    → GivesFields (Some fields) line own → step ≡ step_by type (entry_of_tokens line in_folder fields)
-    → step ≡ step_of_rules type in_folder own
+meant : (type : RuleType) (in_directory : Bool) (line : ℕ) (fields : List Token) (own : List RawRule) (step : Step)
+    → GivesFields (Some fields) line own → step ≡ step_by type (entry_of_tokens line in_directory fields)
+    → step ≡ step_of_rules type in_directory own
 unfolding entry_of
-meant type in_folder line fields own step gives is = rw gives is
+meant type in_directory line fields own step gives is = rw gives is
 
-pub meant_ok : {E : Type 0} (r : Result Step E) (type : RuleType) (in_folder : Bool) (line : ℕ) (fields : List Token) (own : List RawRule)
-    → GivesFields (Some fields) line own → IfOk r (λ s. s ≡ step_by type (entry_of_tokens line in_folder fields))
-    → IfOk r (λ s. s ≡ step_of_rules type in_folder own)
-meant_ok (Ok s) type in_folder line fields own gives is = meant type in_folder line fields own s gives is
-meant_ok (Err x) type in_folder line fields own gives is = tt
+pub meant_ok : {E : Type 0} (r : Result Step E) (type : RuleType) (in_directory : Bool) (line : ℕ) (fields : List Token) (own : List RawRule)
+    → GivesFields (Some fields) line own → IfOk r (λ s. s ≡ step_by type (entry_of_tokens line in_directory fields))
+    → IfOk r (λ s. s ≡ step_of_rules type in_directory own)
+meant_ok (Ok s) type in_directory line fields own gives is = meant type in_directory line fields own s gives is
+meant_ok (Err x) type in_directory line fields own gives is = tt

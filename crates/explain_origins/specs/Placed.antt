@@ -11,7 +11,7 @@ use Rattle.service_load.specs.declared.entry.ConfigEntry.{ConfigEntry}
 use Rattle.service_load.specs.declared.rule_file.RuleFile.{RuleFile}
 use Rattle.service_load.specs.declared.rule_type.RuleType.{RuleType}
 use Rattle.service_load.specs.declared.rule_type.RuleType.TheVariants.{Auth, Account, Password, Session}
-use Rattle.service_load.specs.Files.{plain_file, service_file, held, rules_held, entries_of, is_in_folder}
+use Rattle.service_load.specs.Files.{plain_file, service_file, held, rules_held, entries_of, is_in_directory}
 use Rattle.service_load.specs.Tree.{serves}
 
 -- a list of lines, each with the file and line in which its rule is written, and of substacks
@@ -21,10 +21,10 @@ pub data Placed : Type 0 where
   within : Placed → Placed → Placed
 
 -- one list after another
-abbrev pub behind : Placed → Placed → Placed
-behind nothing more = more
-behind (rule_at origin rule rest) more = rule_at origin rule (behind rest more)
-behind (within inner rest) more = within inner (behind rest more)
+abbrev pub past_end : Placed → Placed → Placed
+past_end nothing more = more
+past_end (rule_at origin rule rest) more = rule_at origin rule (past_end rest more)
+past_end (within inner rest) more = within inner (past_end rest more)
 
 abbrev pub is_nothing : Placed → Bool
 is_nothing nothing = true
@@ -59,7 +59,7 @@ entry_placed deeper type name entry = if serves type entry.rule_type
 abbrev pub placed_of : (List ℕ → Placed) → RuleType → List ℕ → List ConfigEntry → Placed
 placed_of deeper type name [] = nothing
 placed_of deeper type name (e ∷ es) =
-    behind (entry_placed deeper type name e) (placed_of deeper type name es)
+    past_end (entry_placed deeper type name e) (placed_of deeper type name es)
 
 -- the list of a service, or that of `other` if it is empty
 abbrev pub placed_if : Placed → Placed → Placed
@@ -71,7 +71,7 @@ module _ (texts : List ℕ → Option (List ℕ)) where
   placed zero type file = nothing
   placed (suc levels) type file =
       placed_of (λ name. placed levels type (plain_file name)) type file.name
-      (entries_of (is_in_folder file) (rules_held (held texts file)))
+      (entries_of (is_in_directory file) (rules_held (held texts file)))
 
   -- what a service's file adds for a type, at level 0 of 16, or the file of `other`
   abbrev pub placed_from : RuleFile → RuleFile → RuleType → Placed
@@ -79,8 +79,8 @@ module _ (texts : List ℕ → Option (List ℕ)) where
 
   -- the stack of a service for a type, with the places of its rules
   abbrev pub placed_tree : Bool → List ℕ → RuleType → Placed
-  placed_tree is_folder service =
-      placed_from (service_file is_folder service) (service_file is_folder (codes "other"))
+  placed_tree is_directory service =
+      placed_from (service_file is_directory service) (service_file is_directory (codes "other"))
 
   -- the places of the rules of all four stacks
   abbrev pub sources_of_all : (RuleType → Placed) → Sources
@@ -92,4 +92,4 @@ module _ (texts : List ℕ → Option (List ℕ)) where
   }
 
   abbrev pub sources_at : Bool → List ℕ → Sources
-  sources_at is_folder service = sources_of_all (placed_tree is_folder service)
+  sources_at is_directory service = sources_of_all (placed_tree is_directory service)

@@ -65,8 +65,8 @@ step_by type (Err kind) = Nothing
 
 -- what a rule adds, if it is one of those that are meant
 abbrev pub step_of_rules : RuleType → Bool → List RawRule → Step
-step_of_rules type in_folder [] = Nothing
-step_of_rules type in_folder (r ∷ rs) = step_by type (entry_of in_folder r)
+step_of_rules type in_directory [] = Nothing
+step_of_rules type in_directory (r ∷ rs) = step_by type (entry_of in_directory r)
 
 -- whether a type field is of this type
 abbrev pub is_type : RuleType → Option TypeField → Bool

@@ -1,6 +1,6 @@
 ghost use Rattle.std.specs.Prelude.{◌≡◌, ◌≤◌, ◌||◌, IsTrue, IfOk};
 ghost use Rattle.explain_origins.specs.Reading.{Adds, CountsReads, ReadsRules, Takes, ends_failing, placed_at, step_of_rules};
-ghost use Rattle.service_load.specs.Files.{held, is_in_folder, own_rule, rules_held};
+ghost use Rattle.service_load.specs.Files.{held, is_in_directory, own_rule, rules_held};
 ghost use Rattle.service_load.specs.Kinds.{IfNamed};
 ghost use Rattle.service_load.specs.Loading.{OnlyCalls, texts_of};
 
@@ -136,10 +136,10 @@ fn step_in(
     rule: &RawRule,
 ) -> Result<Step, NoMemory>
     ensures { IfOk result (λ step. step ≡ step_of_rules rule_type
-        (is_in_folder file.now) (own_rule file.now.service rule.now)) }
+        (is_in_directory file.now) (own_rule file.now.service rule.now)) }
 {
     match fields_of(file, rule) {
-        Some(fields) => step_of(alloc, rule_type, rule.line, file.is_in_folder(), fields),
+        Some(fields) => step_of(alloc, rule_type, rule.line, file.is_in_directory(), fields),
         None => Ok(Step::Nothing),
     }
 }

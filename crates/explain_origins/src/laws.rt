@@ -7,8 +7,8 @@ ghost use Rattle.explain_origins.specs.Placed.{Placed, forgotten, placed_tree, p
 /// Without their places, the rules of a service are exactly its stacks, whatever its files hold; and
 /// each line of a stack has one place.
 pub fn places_are_of_the_stacks()
-    ensures stacks { (texts : List ℕ → Option (List ℕ)) (is_folder : Bool)
+    ensures stacks { (texts : List ℕ → Option (List ℕ)) (is_directory : Bool)
         (service : List ℕ) (type : RuleType) →
-        forgotten (placed_tree texts is_folder service type) ≡ tree texts is_folder service type }
+        forgotten (placed_tree texts is_directory service type) ≡ tree texts is_directory service type }
     ensures each { (stack : Placed) → length (places stack) ≡ lines_in (forgotten stack) }
 {}

@@ -2,13 +2,13 @@ ghost use Rattle.std.specs.Prelude.{◌≡◌, IsTrue, IfOk};
 ghost use Rattle.explain_origins.specs.Placed.{placed_from, places, sources_at};
 ghost use Rattle.explain_origins.specs.Reading.{CountsReads, ends_failing};
 ghost use Rattle.service_load.specs.Kinds.{IfNamed};
-ghost use Rattle.service_load.specs.Load.{has_folder};
+ghost use Rattle.service_load.specs.Load.{directory_exists};
 ghost use Rattle.service_load.specs.Loading.{OnlyCalls, texts_of};
 
 use crate::files::add_file;
 use explain_lines::{Origins, Sources};
 use pam_base::{Failed, Refuse};
-use pam_outside::{ReplaceFault, Vault, is_folder, path_of};
+use pam_outside::{ReplaceFault, Vault, is_directory, path_of};
 use service_load::{ByType, RuleType, ServiceFiles};
 use std::alloc::Global;
 
@@ -24,15 +24,15 @@ pub fn sources_of(
     ensures tells { vault_tells vault.new ≡ vault_tells vault.old }
     ensures told { IsTrue (vault_tells vault.old) → IfOk result (λ found.
         found ≡ sources_at (texts_of root.now (vault_holds vault.old))
-        (has_folder (vault_holds vault.old) root.now) service.now) }
+        (directory_exists (vault_holds vault.old) root.now) service.now) }
     ensures stays { IsTrue (vault_tells vault.old) →
         OnlyCalls (vault_holds vault.old) (vault_holds vault.new) }
     ensures planned { IsTrue (vault_tells vault.old) →
         IfNamed result (λ failed. IsTrue (ends_failing (vault_holds vault.new))) }
     ensures faults { CountsReads result (vault_faults vault.old) (vault_faults vault.new) }
 {
-    let is_folder = has_folder(alloc, vault, root)?;
-    let files = ServiceFiles::of(alloc, is_folder, service)?;
+    let is_directory = directory_exists(alloc, vault, root)?;
+    let files = ServiceFiles::of(alloc, is_directory, service)?;
     let auth = origins_of(alloc, vault, root, RuleType::Auth, &files)?;
     let account = origins_of(alloc, vault, root, RuleType::Account, &files)?;
     let password = origins_of(alloc, vault, root, RuleType::Password, &files)?;
@@ -46,10 +46,14 @@ pub fn sources_of(
 }
 
 // Whether the directory of the service files exists.
-fn has_folder(alloc: Global, vault: &mut dyn Vault, root: &[u8]) -> Result<bool, Refuse<Failed>>
+fn directory_exists(
+    alloc: Global,
+    vault: &mut dyn Vault,
+    root: &[u8],
+) -> Result<bool, Refuse<Failed>>
     ensures tells { vault_tells vault.new ≡ vault_tells vault.old }
     ensures told { IsTrue (vault_tells vault.old) → IfOk result (λ found.
-        found ≡ has_folder (vault_holds vault.old) root.now) }
+        found ≡ directory_exists (vault_holds vault.old) root.now) }
     ensures stays { IsTrue (vault_tells vault.old) →
         OnlyCalls (vault_holds vault.old) (vault_holds vault.new) }
     ensures planned { IsTrue (vault_tells vault.old) →
@@ -57,7 +61,7 @@ fn has_folder(alloc: Global, vault: &mut dyn Vault, root: &[u8]) -> Result<bool,
     ensures faults { CountsReads result (vault_faults vault.old) (vault_faults vault.new) }
 {
     let folder = path_of(alloc, root, b"/etc/pam.d")?;
-    match is_folder(vault, alloc, folder.bytes()) {
+    match is_directory(vault, alloc, folder.bytes()) {
         Ok(found) => Ok(found),
         Err(ReplaceFault::NoMemory) => Err(Refuse::NoMemory),
         Err(ReplaceFault::Failed) => Err(Refuse::Named(Failed)),

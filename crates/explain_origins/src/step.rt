@@ -25,15 +25,15 @@ pub fn step_of(
     alloc: Global,
     rule_type: RuleType,
     line: u32,
-    in_folder: bool,
+    in_directory: bool,
     tokens: &[Token],
 ) -> Result<Step, NoMemory>
     ensures { IfOk result (λ step.
-        step ≡ step_by rule_type (entry_of_tokens line in_folder tokens.now)) }
+        step ≡ step_by rule_type (entry_of_tokens line in_directory tokens.now)) }
 {
     match tokens {
         [] => Ok(Step::Nothing),
-        [first, rest @ ..] => step_by_type(alloc, rule_type, line, in_folder, first, rest),
+        [first, rest @ ..] => step_by_type(alloc, rule_type, line, in_directory, first, rest),
     }
 }
 
@@ -42,14 +42,14 @@ fn step_by_type(
     alloc: Global,
     rule_type: RuleType,
     line: u32,
-    in_folder: bool,
+    in_directory: bool,
     first: &Token,
     rest: &[Token],
 ) -> Result<Step, NoMemory>
     ensures { IfOk result (λ step. step
-        ≡ step_by rule_type (entry_of_tokens line in_folder (first.now ∷ rest.now))) }
+        ≡ step_by rule_type (entry_of_tokens line in_directory (first.now ∷ rest.now))) }
 {
-    if is_include(in_folder, first) {
+    if is_include(in_directory, first) {
         return step_to(alloc, rest, false);
     }
     if is_field_of(rule_type, first) {
@@ -58,10 +58,10 @@ fn step_by_type(
     Ok(Step::Nothing)
 }
 
-fn is_include(in_folder: bool, token: &Token) -> bool
-    ensures { result ≡ (in_folder && is_word (codes "@include") token.now) }
+fn is_include(in_directory: bool, token: &Token) -> bool
+    ensures { result ≡ (in_directory && is_word (codes "@include") token.now) }
 {
-    in_folder && is_word(b"@include", token)
+    in_directory && is_word(b"@include", token)
 }
 
 // What follows the type.

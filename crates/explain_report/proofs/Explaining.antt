@@ -19,7 +19,7 @@ use Rattle.report_lines.specs.declared.form.ReportedOutcome.{ReportedOutcome}
 use Rattle.report_lines.specs.Form.{told_of, result_of, says_of}
 use Rattle.report_lines.specs.Says.{Says, tells, results}
 use Rattle.session_audit.specs.Checked.{told_in, place_of}
-use Rattle.session_audit.specs.Fits.{SlotLog, place_at, visits_told, is_refused_change, behind_block}
+use Rattle.session_audit.specs.Fits.{SlotLog, place_at, visits_told, is_refused_change, after_block}
 use Rattle.session_audit.specs.declared.place.SlotLog as held
 use Rattle.session_audit.specs.Whole.{formless}
 use Rattle.session_audit.proofs.Checking.{visits_are}
@@ -27,7 +27,7 @@ use Rattle.session_audit.proofs.Taking.{get_some}
 use Rattle.explain_calls.specs.Calls.{call_text, refused_text}
 use Rattle.explain_lines.specs.Origins.{Sources}
 use Rattle.explain_report.specs.declared.explainer.Explainer.{Explainer}
-use Rattle.explain_report.specs.Report.{Takes, block_text, called_text, explained_from, left_of, text_behind}
+use Rattle.explain_report.specs.Report.{Takes, block_text, called_text, explained_from, left_of, text_after}
 
 module _ (stacks : Stacks) (sources : Sources) where
   -- a line before the result
@@ -37,25 +37,25 @@ module _ (stacks : Stacks) (sources : Sources) where
       ap (λ (ts : List Told). explained_from stacks sources places ts lines) (sym (map-append told_of told (visit ∷ [])) ∙ ap told_in (sym is))
 
   -- a result that fits
-  pub result_fits : (number : ℕ) (places behind : List SlotLog) (told : List Told) (result : Result) (text after : List ℕ) (lines : List (Option Says))
+  pub result_fits : (number : ℕ) (places past_end : List SlotLog) (told : List Told) (result : Result) (text after : List ℕ) (lines : List (Option Says))
       → after ≡ text ++ block_text stacks sources number (place_at places number) (visits_told told) result
-      → behind_block stacks places (block_of number told result) ≡ Some behind
-      → text ++ explained_from stacks sources places told (Some (results number result) ∷ lines) ≡ after ++ explained_from stacks sources behind [] lines
-  result_fits number places behind told result text after lines adds fits =
+      → after_block stacks places (block_of number told result) ≡ Some past_end
+      → text ++ explained_from stacks sources places told (Some (results number result) ∷ lines) ≡ after ++ explained_from stacks sources past_end [] lines
+  result_fits number places past_end told result text after lines adds fits =
       let own : List ℕ = block_text stacks sources number (place_at places number) (visits_told told) result in
       let left : List SlotLog → List ℕ = λ next. explained_from stacks sources next [] lines in
-      ap (λ (next : Option (List SlotLog)). text ++ (own ++ text_behind stacks sources next left)) fits
-      ∙ sym (append_assoc text own (left behind)) ∙ ap (λ (xs : List ℕ). xs ++ left behind) (sym adds)
+      ap (λ (next : Option (List SlotLog)). text ++ (own ++ text_after stacks sources next left)) fits
+      ∙ sym (append_assoc text own (left past_end)) ∙ ap (λ (xs : List ℕ). xs ++ left past_end) (sym adds)
 
   -- a result that doesn't
   pub result_differs : (number : ℕ) (places : List SlotLog) (told : List Told) (result : Result) (text after : List ℕ) (lines : List (Option Says))
       → after ≡ text ++ block_text stacks sources number (place_at places number) (visits_told told) result
-      → behind_block stacks places (block_of number told result) ≡ None
+      → after_block stacks places (block_of number told result) ≡ None
       → text ++ explained_from stacks sources places told (Some (results number result) ∷ lines) ≡ after
   result_differs number places told result text after lines adds differs =
       let own : List ℕ = block_text stacks sources number (place_at places number) (visits_told told) result in
       let left : List SlotLog → List ℕ = λ next. explained_from stacks sources next [] lines in
-      ap (λ (next : Option (List SlotLog)). text ++ (own ++ text_behind stacks sources next left)) differs
+      ap (λ (next : Option (List SlotLog)). text ++ (own ++ text_after stacks sources next left)) differs
       ∙ ap (λ (xs : List ℕ). text ++ xs) (append-nil own) ∙ sym adds
 
   -- ---- what is left to write
@@ -88,7 +88,7 @@ module _ (stacks : Stacks) (sources : Sources) where
   pub takes_fits : (old new : Explainer) (number : ℕ) (outcome : ReportedOutcome)
       → string_bytes new.text ≡ string_bytes old.text ++ block_text stacks sources number (place_at (map place_of old.places.items) number)
       (visits_told (told_in old.told.items)) (result_of outcome)
-      → behind_block stacks (map place_of old.places.items) (block_of number (told_in old.told.items) (result_of outcome))
+      → after_block stacks (map place_of old.places.items) (block_of number (told_in old.told.items) (result_of outcome))
       ≡ Some (map place_of new.places.items)
       → new.told.items ≡ [] → Takes stacks sources old (Some (results number (result_of outcome))) true new
   takes_fits old new number outcome adds fits none = λ lines.
@@ -99,7 +99,7 @@ module _ (stacks : Stacks) (sources : Sources) where
   pub takes_differs : (old new : Explainer) (number : ℕ) (outcome : ReportedOutcome)
       → string_bytes new.text ≡ string_bytes old.text ++ block_text stacks sources number (place_at (map place_of old.places.items) number)
       (visits_told (told_in old.told.items)) (result_of outcome)
-      → behind_block stacks (map place_of old.places.items) (block_of number (told_in old.told.items) (result_of outcome)) ≡ None
+      → after_block stacks (map place_of old.places.items) (block_of number (told_in old.told.items) (result_of outcome)) ≡ None
       → Takes stacks sources old (Some (results number (result_of outcome))) false new
   takes_differs old new number outcome adds differs = λ lines.
       result_differs number (map place_of old.places.items) (told_in old.told.items) (result_of outcome) (string_bytes old.text) (string_bytes new.text) lines

@@ -9,7 +9,7 @@ use Rattle.pass_replay.specs.dispatch_core.specs.Calls.{Held}
 use Rattle.report_lines.specs.Line.{Told, shows_code, runs, Result, answered, closed_by_program, block_of}
 use Rattle.report_lines.specs.Says.{Says, tells, results, lasts}
 use Rattle.session_audit.specs.Checked.{told_in, place_of}
-use Rattle.session_audit.specs.Fits.{SlotLog, shut, running, place_at, visits_told, is_refused_change, behind_block}
+use Rattle.session_audit.specs.Fits.{SlotLog, shut, running, place_at, visits_told, is_refused_change, after_block}
 use Rattle.explain_lines.specs.Origins.{Sources}
 use Rattle.explain_report.specs.declared.explainer.Explainer.{Explainer}
 use Rattle.explain_calls.specs.Calls.{call_text, refused_text}
@@ -27,9 +27,9 @@ module _ (stacks : Stacks) (sources : Sources) where
       called_text number func code h vs
   block_text number place vs result = []
 
-  abbrev pub text_behind : Option (List SlotLog) → (List SlotLog → List ℕ) → List ℕ
-  text_behind None next = []
-  text_behind (Some places) next = next places
+  abbrev pub text_after : Option (List SlotLog) → (List SlotLog → List ℕ) → List ℕ
+  text_after None next = []
+  text_after (Some places) next = next places
 
   -- the text of some lines, after these slots and the lines of the block that has begun
   abbrev pub explained_from : List SlotLog → List Told → List (Option Says) → List ℕ
@@ -40,8 +40,8 @@ module _ (stacks : Stacks) (sources : Sources) where
       explained_from places (told ++ t ∷ []) lines
   explained_from places told (Some (results number result) ∷ lines) =
       block_text number (place_at places number) (visits_told told) result
-      ++ text_behind (behind_block stacks places (block_of number told result))
-      (λ behind. explained_from behind [] lines)
+      ++ text_after (after_block stacks places (block_of number told result))
+      (λ past_end. explained_from past_end [] lines)
 
   -- what an explainer still has to write for some lines
   abbrev pub left_of : Explainer → List (Option Says) → List ℕ

@@ -18,7 +18,7 @@ use Rattle.frame_stream.specs.declared.fault.FrameFault.TheVariants.{BadFrame, T
 use Rattle.frame_stream.specs.Laws.{AllAreLookedAt, BytesSpell, PrefixIsOfSteps, RunIsOfSteps, ServedAreSteps}
 use Rattle.frame_stream.specs.Looked.{looked}
 use Rattle.frame_stream.specs.Run.{CallStep, called, step_at}
-use Rattle.frame_stream.specs.Spelled.{IsBehind, SpellsFrom, answers_to, state_behind}
+use Rattle.frame_stream.specs.Spelled.{IsPast, SpellsFrom, answers_to, state_past}
 use Rattle.frame_stream.proofs.Keeping.{looked-many, looked-none, looked-open, looked-out, looked-whole, refused_run, step-bad, step-many, whole_of, whole_run}
 use Rattle.frame_stream.proofs.Seeing.{first, first_frame_of-frame}
 
@@ -108,8 +108,8 @@ module _ (settles : FirstFrameSettles) (reads : ReadsTable) (opens : OpensByTabl
   one_framed : (rest : List ℕ) (step : Step) (more : List ℕ) → IsCut rest step more → AreFramesOf rest (step ∷ []) more
   one_framed rest step more c = record { framed = (c.within, tt); parts = c.parts ∙ sym (append_assoc (frame_of step) [] more) }
 
-  bytes_behind : (rest : List ℕ) (step : Step) (more : List ℕ) → rest ≡ frame_of step ++ more → AreBytes rest → AreBytes more
-  bytes_behind rest step more parts all =
+  bytes_after : (rest : List ℕ) (step : Step) (more : List ℕ) → rest ≡ frame_of step ++ more → AreBytes rest → AreBytes more
+  bytes_after rest step more parts all =
       All-same (λ b. b < 256) more (drop (length (frame_of step)) rest) (sym (ap (drop (length (frame_of step))) parts ∙ drop-append_seam (frame_of step) more)) (All-drop (λ b. b < 256) (length (frame_of step)) rest all)
 
   -- ---- all bytes spell some steps
@@ -117,7 +117,7 @@ module _ (settles : FirstFrameSettles) (reads : ReadsTable) (opens : OpensByTabl
   abbrev Spelled : ℕ → List ℕ → Bool → Type 0
   Spelled n bytes ended = (steps : List Step) × (rest : List ℕ) × (fault : Option FrameFault) × SpellsFrom n bytes ended steps rest fault
 
-  nothing : (n : ℕ) (bytes : List ℕ) (ended : Bool) (fault : Option FrameFault) → n ≤ 65536 → IsBehind n bytes ended fault → Spelled n bytes ended
+  nothing : (n : ℕ) (bytes : List ℕ) (ended : Bool) (fault : Option FrameFault) → n ≤ 65536 → IsPast n bytes ended fault → Spelled n bytes ended
   nothing n bytes ended fault le h =
       let k : n ≡ n + length {A = Step} [] = omega arith in (
         [],
@@ -126,7 +126,7 @@ module _ (settles : FirstFrameSettles) (reads : ReadsTable) (opens : OpensByTabl
         record {
           frames = record { framed = tt; parts = refl };
           few = omega (arith, le);
-          behind = subst (λ (j : ℕ). IsBehind j bytes ended fault) k h;
+          past_end = subst (λ (j : ℕ). IsPast j bytes ended fault) k h;
         },
       )
 
@@ -142,7 +142,7 @@ module _ (settles : FirstFrameSettles) (reads : ReadsTable) (opens : OpensByTabl
             parts = c.parts ∙ ap (λ (z : List ℕ). frame_of step ++ z) sp.frames.parts ∙ sym (append_assoc (frame_of step) (frames_of steps) rest);
           };
           few = omega (arith, sp.few);
-          behind = subst (λ (j : ℕ). IsBehind j rest ended fault) k sp.behind;
+          past_end = subst (λ (j : ℕ). IsPast j rest ended fault) k sp.past_end;
         },
       )
 
@@ -215,7 +215,7 @@ module _ (settles : FirstFrameSettles) (reads : ReadsTable) (opens : OpensByTabl
         refused_run settles answers n s rest rest ended BadFrame (looked-out n rest ended lt e) (step-bad settles answers n s rest lt (ap (λ (f : FirstFrame). step_by f rest) e))
     bad_front n s rest ended (Whole size) lt all none e how = bad_call n s rest ended size (step_of (take size rest)) lt all none e refl
 
-    open_run : (n : ℕ) (s : State) (rest : List ℕ) (ended : Bool) → IsBehind n rest ended None → run_of looked (step_at answers) n s rest ended ≡ come_to [] s n None
+    open_run : (n : ℕ) (s : State) (rest : List ℕ) (ended : Bool) → IsPast n rest ended None → run_of looked (step_at answers) n s rest ended ≡ come_to [] s n None
     open_run n s [] ended h = none_run n s [] ended (looked-none n ended)
     open_run n s (b ∷ bs) true h =
         let no : ◌≡◌ {A = List ℕ} (b ∷ bs) [] = h.1 refl in
@@ -228,22 +228,22 @@ module _ (settles : FirstFrameSettles) (reads : ReadsTable) (opens : OpensByTabl
         many_none : (b : ℕ) (bs : List ℕ) → b ∷ bs ≡ [] → run_of looked (step_at answers) n s (b ∷ bs) false ≡ come_to [] s n None
         many_none b bs e = absurd cc
 
-    behind_run : (n : ℕ) (s : State) (rest : List ℕ) (ended : Bool) (fault : Option FrameFault) → AreBytes rest → IsBehind n rest ended fault
+    after_run : (n : ℕ) (s : State) (rest : List ℕ) (ended : Bool) (fault : Option FrameFault) → AreBytes rest → IsPast n rest ended fault
         → run_of looked (step_at answers) n s rest ended ≡ come_to [] s n fault
-    behind_run n s rest ended None all h = open_run n s rest ended h
-    behind_run n s rest ended (Some BadFrame) all h = bad_front n s rest ended (first_frame_of rest) h.0 all h.1 refl h.2
-    behind_run n s rest ended (Some TooManyFrames) all h = refused_run settles answers n s rest rest ended TooManyFrames (looked-many n rest ended h.0 h.1) (step-many settles answers n s rest h.0)
+    after_run n s rest ended None all h = open_run n s rest ended h
+    after_run n s rest ended (Some BadFrame) all h = bad_front n s rest ended (first_frame_of rest) h.0 all h.1 refl h.2
+    after_run n s rest ended (Some TooManyFrames) all h = refused_run settles answers n s rest rest ended TooManyFrames (looked-many n rest ended h.0 h.1) (step-many settles answers n s rest h.0)
 
-    last_run : (n k : ℕ) (s : State) (rest : List ℕ) (ended : Bool) (fault : Option FrameFault) → k ≡ n → AreBytes rest → IsBehind k rest ended fault
+    last_run : (n k : ℕ) (s : State) (rest : List ℕ) (ended : Bool) (fault : Option FrameFault) → k ≡ n → AreBytes rest → IsPast k rest ended fault
         → run_of looked (step_at answers) n s rest ended ≡ come_to [] s k fault
     last_run n k s rest ended fault e all h =
-        behind_run n s rest ended fault all (subst (λ (j : ℕ). IsBehind j rest ended fault) e h) ∙ ap (λ (j : ℕ). come_to [] s j fault) (sym e)
+        after_run n s rest ended fault all (subst (λ (j : ℕ). IsPast j rest ended fault) e h) ∙ ap (λ (j : ℕ). come_to [] s j fault) (sym e)
 
     run_steps : (steps : List Step) (n : ℕ) (s : State) (bytes : List ℕ) (ended : Bool) (rest : List ℕ) (fault : Option FrameFault) → AreBytes bytes → SpellsFrom n bytes ended steps rest fault
-        → run_of looked (step_at answers) n s bytes ended ≡ come_to (answers_to answers s steps) (state_behind answers s steps) (n + length steps) fault
+        → run_of looked (step_at answers) n s bytes ended ≡ come_to (answers_to answers s steps) (state_past answers s steps) (n + length steps) fault
     run_steps [] n s bytes ended rest fault all sp =
         ap (λ (z : List ℕ). run_of looked (step_at answers) n s z ended) sp.frames.parts
-        ∙ last_run n (n + length {A = Step} []) s rest ended fault (omega arith) (All-same (λ b. b < 256) rest bytes (sym sp.frames.parts) all) sp.behind
+        ∙ last_run n (n + length {A = Step} []) s rest ended fault (omega arith) (All-same (λ b. b < 256) rest bytes (sym sp.frames.parts) all) sp.past_end
     run_steps (step ∷ steps) n s bytes ended rest fault all sp =
         let more = frames_of steps ++ rest in
         let parts : bytes ≡ frame_of step ++ more = sp.frames.parts ∙ append_assoc (frame_of step) (frames_of steps) rest in
@@ -252,12 +252,12 @@ module _ (settles : FirstFrameSettles) (reads : ReadsTable) (opens : OpensByTabl
         let seen : looked n bytes ended ≡ frame_of step ∷ looked (n + 1) more ended = ap (λ (z : List ℕ). looked n z ended) parts ∙ first settles reads n step more ended lt has in
         let ok : step_at answers n s (frame_of step) ≡ Ok (answers s step) = step-ok n s (frame_of step) step lt ((reads (frame_of step) step).0 (record { within = has; bytes_are = refl })) in
         let k : n + length (step ∷ steps) ≡ (n + 1) + length steps = omega arith in
-        let next = run_steps steps (n + 1) (answers s step).0 more ended rest fault (bytes_behind bytes step more parts all)
-        (record { frames = record { framed = sp.frames.framed.1; parts = refl }; few = omega (arith, sp.few); behind = subst (λ (j : ℕ). IsBehind j rest ended fault) k sp.behind }) in
+        let next = run_steps steps (n + 1) (answers s step).0 more ended rest fault (bytes_after bytes step more parts all)
+        (record { frames = record { framed = sp.frames.framed.1; parts = refl }; few = omega (arith, sp.few); past_end = subst (λ (j : ℕ). IsPast j rest ended fault) k sp.past_end }) in
         whole_run settles answers n s bytes (frame_of step) more ended seen
         ∙ ap (λ (r : Result (State × List ℕ) FrameFault). after n s r (λ d. run_of looked (step_at answers) (n + 1) d more ended)) ok
         ∙ ap (with_text (answers s step).1) next
-        ∙ ap (λ (j : ℕ). come_to (answers_to answers s (step ∷ steps)) (state_behind answers s (step ∷ steps)) j fault) (sym k)
+        ∙ ap (λ (j : ℕ). come_to (answers_to answers s (step ∷ steps)) (state_past answers s (step ∷ steps)) j fault) (sym k)
 
     pub run_is_of_steps : RunIsOfSteps answers
     run_is_of_steps = λ n s bytes ended steps rest fault all sp. run_steps steps n s bytes ended rest fault all sp
@@ -324,9 +324,9 @@ module _ (settles : FirstFrameSettles) (reads : ReadsTable) (opens : OpensByTabl
         ap (λ (x : State). come_to r.text x r.items r.refused) a ∙ ap (λ (x : ℕ). come_to r.text t x r.refused) b ∙ ap (λ (x : Option FrameFault). come_to r.text t m x) c
 
     -- the first one, and those after it
-    front_more : (n m : ℕ) (s t : State) (bytes item : List ℕ) (ended : Bool) (step : Step) (more : List ℕ) (items behind : List (List ℕ)) (text others : List ℕ) → item ≡ frame_of step → IsCut bytes step more → text ≡ (answers s step).1 ++ others
-        → PrefixIsOfSteps answers (n + 1) m (answers s step).0 t more ended items behind others → PrefixIsOfSteps answers n m s t bytes ended (item ∷ items) behind text
-    front_more n m s t bytes item ended step more items behind text others i c e f = record {
+    front_more : (n m : ℕ) (s t : State) (bytes item : List ℕ) (ended : Bool) (step : Step) (more : List ℕ) (items past_end : List (List ℕ)) (text others : List ℕ) → item ≡ frame_of step → IsCut bytes step more → text ≡ (answers s step).1 ++ others
+        → PrefixIsOfSteps answers (n + 1) m (answers s step).0 t more ended items past_end others → PrefixIsOfSteps answers n m s t bytes ended (item ∷ items) past_end text
+    front_more n m s t bytes item ended step more items past_end text others i c e f = record {
       steps = step ∷ f.steps;
       rest = f.rest;
       frames = record {
@@ -342,30 +342,30 @@ module _ (settles : FirstFrameSettles) (reads : ReadsTable) (opens : OpensByTabl
     }
 
     abbrev Served : List (List ℕ) → Type 0
-    Served items = (n m : ℕ) (s t : State) (bytes : List ℕ) (ended : Bool) (behind : List (List ℕ)) (text : List ℕ) → n ≤ 65536 → AreBytes bytes → looked n bytes ended ≡ items ++ behind
-        → run_items (step_at answers) n s items ≡ come_to text t m None → PrefixIsOfSteps answers n m s t bytes ended items behind text
+    Served items = (n m : ℕ) (s t : State) (bytes : List ℕ) (ended : Bool) (past_end : List (List ℕ)) (text : List ℕ) → n ≤ 65536 → AreBytes bytes → looked n bytes ended ≡ items ++ past_end
+        → run_items (step_at answers) n s items ≡ come_to text t m None → PrefixIsOfSteps answers n m s t bytes ended items past_end text
 
-    served_by : (items : List (List ℕ)) → Served items → (n m : ℕ) (s t : State) (bytes item : List ℕ) (ended : Bool) (behind : List (List ℕ)) (text : List ℕ) (r : Result (State × List ℕ) FrameFault)
-        → AreBytes bytes → looked n bytes ended ≡ item ∷ (items ++ behind) → step_at answers n s item ≡ r → after n s r (λ d. run_items (step_at answers) (n + 1) d items) ≡ come_to text t m None
-        → PrefixIsOfSteps answers n m s t bytes ended (item ∷ items) behind text
-    served_by items next n m s t bytes item ended behind text (Err kind) all seen is e =
+    served_by : (items : List (List ℕ)) → Served items → (n m : ℕ) (s t : State) (bytes item : List ℕ) (ended : Bool) (past_end : List (List ℕ)) (text : List ℕ) (r : Result (State × List ℕ) FrameFault)
+        → AreBytes bytes → looked n bytes ended ≡ item ∷ (items ++ past_end) → step_at answers n s item ≡ r → after n s r (λ d. run_items (step_at answers) (n + 1) d items) ≡ come_to text t m None
+        → PrefixIsOfSteps answers n m s t bytes ended (item ∷ items) past_end text
+    served_by items next n m s t bytes item ended past_end text (Err kind) all seen is e =
         let no : ◌≡◌ {A = Option FrameFault} (Some kind) None = ap (λ (z : Run State FrameFault). z.refused) e in
         absurd cc
-    served_by items next n m s t bytes item ended behind text (Ok x) all seen is e =
+    served_by items next n m s t bytes item ended past_end text (Ok x) all seen is e =
         let a = accepted n s item x is in
-        let f = item_in n bytes item ended a.step (items ++ behind) a.few all seen a.read in
+        let f = item_in n bytes item ended a.step (items ++ past_end) a.few all seen a.read in
         let r : Run State FrameFault = run_items (step_at answers) (n + 1) x.0 items in
         let run : r ≡ come_to r.text t m None =
         rebuilt r t m (ap (λ (z : Run State FrameFault). z.last) e) (ap (λ (z : Run State FrameFault). z.items) e) (ap (λ (z : Run State FrameFault). z.refused) e) in
         let is_text : text ≡ x.1 ++ r.text = sym (ap (λ (z : Run State FrameFault). z.text) e) in
         let does : x ≡ answers s a.step = a.does in
-        front_more n m s t bytes item ended a.step f.more items behind text r.text f.item_is f.cut (is_text ∙ ap (λ (z : State × List ℕ). z.1 ++ r.text) does)
-        (next (n + 1) m (answers s a.step).0 t f.more ended behind r.text (omega (arith, a.few)) (bytes_behind bytes a.step f.more f.cut.parts all) f.seen
+        front_more n m s t bytes item ended a.step f.more items past_end text r.text f.item_is f.cut (is_text ∙ ap (λ (z : State × List ℕ). z.1 ++ r.text) does)
+        (next (n + 1) m (answers s a.step).0 t f.more ended past_end r.text (omega (arith, a.few)) (bytes_after bytes a.step f.more f.cut.parts all) f.seen
         (ap (λ (z : State × List ℕ). run_items (step_at answers) (n + 1) z.0 items) (sym does) ∙ run))
 
     served_all : (items : List (List ℕ)) → Served items
     unfolding run_items
-    served_all [] = λ n m s t bytes ended behind text few all seen e.
+    served_all [] = λ n m s t bytes ended past_end text few all seen e.
         let number : n ≡ m = ap (λ (z : Run State FrameFault). z.items) e in
         record {
           steps = [];
@@ -378,8 +378,8 @@ module _ (settles : FirstFrameSettles) (reads : ReadsTable) (opens : OpensByTabl
           text_is = sym (ap (λ (z : Run State FrameFault). z.text) e);
           state_is = sym (ap (λ (z : Run State FrameFault). z.last) e);
         }
-    served_all (item ∷ items) = λ n m s t bytes ended behind text few all seen e.
-        served_by items (served_all items) n m s t bytes item ended behind text (step_at answers n s item) all seen refl e
+    served_all (item ∷ items) = λ n m s t bytes ended past_end text few all seen e.
+        served_by items (served_all items) n m s t bytes item ended past_end text (step_at answers n s item) all seen refl e
 
     pub served_are_steps : ServedAreSteps answers
-    served_are_steps = λ n m s t bytes ended served behind text few all seen e. served_all served n m s t bytes ended behind text few all seen e
+    served_are_steps = λ n m s t bytes ended served past_end text few all seen e. served_all served n m s t bytes ended past_end text few all seen e

@@ -8,7 +8,7 @@ use Rattle.record_reader.specs.Run.{come_to, run_items, run_of}
 use Rattle.frame_stream.specs.declared.fault.FrameFault.{FrameFault}
 use Rattle.frame_stream.specs.Looked.{looked}
 use Rattle.frame_stream.specs.Run.{CallStep, step_at}
-use Rattle.frame_stream.specs.Spelled.{SpellsFrom, answers_to, state_behind}
+use Rattle.frame_stream.specs.Spelled.{SpellsFrom, answers_to, state_past}
 
 -- the frames of steps are read first, and then what follows them
 abbrev pub StepsAreLookedAt : Type 0
@@ -33,25 +33,25 @@ module _ {State : Type 0} (answers : CallStep State) where
       (rest : List ℕ) (fault : Option FrameFault) → AreBytes bytes
       → SpellsFrom n bytes ended steps rest fault
       → run_of looked (step_at answers) n s bytes ended
-      ≡ come_to (answers_to answers s steps) (state_behind answers s steps) (n + length steps) fault
+      ≡ come_to (answers_to answers s steps) (state_past answers s steps) (n + length steps) fault
 
   -- some bytes begin with some frames; they are those of steps, which have this result
   pub record PrefixIsOfSteps (n m : ℕ) (s t : State) (bytes : List ℕ) (ended : Bool)
-      (served behind : List (List ℕ)) (text : List ℕ) : Type 0 where
+      (served past_end : List (List ℕ)) (text : List ℕ) : Type 0 where
     pub steps : List Step
     pub rest : List ℕ
     pub frames : AreFramesOf bytes steps rest
     pub served_are : served ≡ map frame_of steps
     pub number : m ≡ n + length steps
     pub few : m ≤ 65536
-    pub others : looked m rest ended ≡ behind
+    pub others : looked m rest ended ≡ past_end
     pub text_is : text ≡ answers_to answers s steps
-    pub state_is : t ≡ state_behind answers s steps
+    pub state_is : t ≡ state_past answers s steps
 
   -- items at the beginning of what is read that were not refused are the frames of steps
   abbrev pub ServedAreSteps : Type 0
   ServedAreSteps = (n m : ℕ) (s t : State) (bytes : List ℕ) (ended : Bool)
-      (served behind : List (List ℕ)) (text : List ℕ) → n ≤ 65536 → AreBytes bytes
-      → looked n bytes ended ≡ served ++ behind
+      (served past_end : List (List ℕ)) (text : List ℕ) → n ≤ 65536 → AreBytes bytes
+      → looked n bytes ended ≡ served ++ past_end
       → run_items (step_at answers) n s served ≡ come_to text t m None
-      → PrefixIsOfSteps n m s t bytes ended served behind text
+      → PrefixIsOfSteps n m s t bytes ended served past_end text

@@ -11,11 +11,11 @@ use Rattle.frame_stream.specs.Run.{CallStep}
 -- it is nothing, or the beginning of a frame that may still come. It is a bad frame if it doesn't
 -- begin with a frame, and the input ends or it is not even the beginning of one; and one frame too
 -- many if it is anything after 65,536.
-abbrev pub IsBehind : ℕ → List ℕ → Bool → Option FrameFault → Type 0
-IsBehind n rest ended None = IsOpen rest × (ended ≡ true → rest ≡ []) × (65536 ≤ n → rest ≡ [])
-IsBehind n rest ended (Some BadFrame) =
+abbrev pub IsPast : ℕ → List ℕ → Bool → Option FrameFault → Type 0
+IsPast n rest ended None = IsOpen rest × (ended ≡ true → rest ≡ []) × (65536 ≤ n → rest ≡ [])
+IsPast n rest ended (Some BadFrame) =
     (n < 65536) × HasNoFrame rest × (((ended ≡ true) × (0 < length rest)) ⊎ (IsOpen rest → ⊥))
-IsBehind n rest ended (Some TooManyFrames) = (65536 ≤ n) × (0 < length rest)
+IsPast n rest ended (Some TooManyFrames) = (65536 ≤ n) × (0 < length rest)
 
 -- The bytes are the frames of these steps, at most 65,536 with the n before them, and a rest after
 -- them.
@@ -23,7 +23,7 @@ pub record SpellsFrom (n : ℕ) (bytes : List ℕ) (ended : Bool) (steps : List 
     (fault : Option FrameFault) : Type 0 where
   pub frames : AreFramesOf bytes steps rest
   pub few : n + length steps ≤ 65536
-  pub behind : IsBehind (n + length steps) rest ended fault
+  pub past_end : IsPast (n + length steps) rest ended fault
 
 -- the same from the first byte on
 abbrev pub Spells : List ℕ → Bool → List Step → List ℕ → Option FrameFault → Type 0
@@ -35,6 +35,6 @@ module _ {State : Type 0} (answers : CallStep State) where
   answers_to s [] = []
   answers_to s (step ∷ steps) = (answers s step).1 ++ answers_to (answers s step).0 steps
 
-  abbrev pub state_behind : State → List Step → State
-  state_behind s [] = s
-  state_behind s (step ∷ steps) = state_behind (answers s step).0 steps
+  abbrev pub state_past : State → List Step → State
+  state_past s [] = s
+  state_past s (step ∷ steps) = state_past (answers s step).0 steps

@@ -3,33 +3,33 @@ use Rattle.std.proofs.Common.{◌≡◌, ℕ, zero, suc, ◌+◌, ◌-◌, ◌<�
 use Rattle.control_words.specs.Stack.{Stack, none, line, sub, count, lines_in, depth}
 use Rattle.handler_chain.specs.declared.chain_line.ChainLine.{ChainLine}
 use Rattle.handler_chain.specs.FlatLines.{FlatLine, module_of, flat_lines, pending, lines_in_first}
-use Rattle.handler_chain.specs.Flat.{IsBlock, AreLines, AddsList, positions_behind}
+use Rattle.handler_chain.specs.Flat.{IsBlock, AreLines, AddsList, positions_after}
 
 get_or-before : (xs ys : List ℕ) (i : ℕ) → i < length xs → get_or (xs ++ ys) i 0 ≡ get_or xs i 0
 get_or-before [] ys i within = absurd (omega (arith, within))
 get_or-before (x ∷ xs) ys zero within = refl
 get_or-before (x ∷ xs) ys (suc i) within = get_or-before xs ys i (omega arith)
 
-get_or-behind : (xs ys : List ℕ) (i : ℕ) → get_or (xs ++ ys) (length xs + i) 0 ≡ get_or ys i 0
-get_or-behind [] ys i = ap (λ n. get_or ys n 0) (zero-add i)
-get_or-behind (x ∷ xs) ys i = ap (λ n. get_or (x ∷ (xs ++ ys)) n 0) (let e : length (x ∷ xs) + i ≡ suc (length xs + i) = omega arith in e) ∙ get_or-behind xs ys i
+get_or-past_end : (xs ys : List ℕ) (i : ℕ) → get_or (xs ++ ys) (length xs + i) 0 ≡ get_or ys i 0
+get_or-past_end [] ys i = ap (λ n. get_or ys n 0) (zero-add i)
+get_or-past_end (x ∷ xs) ys i = ap (λ n. get_or (x ∷ (xs ++ ys)) n 0) (let e : length (x ∷ xs) + i ≡ suc (length xs + i) = omega arith in e) ∙ get_or-past_end xs ys i
 
 -- the positions of a list are those that were added
-positions_behind-count : (t : Stack) (first : ℕ) → length (positions_behind first t) ≡ count t
-positions_behind-count none first = refl
-positions_behind-count (line rule rest) first = omega (arith, positions_behind-count rest (first + 1))
-positions_behind-count (sub inner rest) first = omega (arith, positions_behind-count rest (first + lines_in inner))
+positions_after-count : (t : Stack) (first : ℕ) → length (positions_after first t) ≡ count t
+positions_after-count none first = refl
+positions_after-count (line rule rest) first = omega (arith, positions_after-count rest (first + 1))
+positions_after-count (sub inner rest) first = omega (arith, positions_after-count rest (first + lines_in inner))
 
-positions_behind-placed : (t : Stack) (first n : ℕ) → n ≤ count t → get_or (first ∷ positions_behind first t) n 0 ≡ first + lines_in_first n t
-positions_behind-placed t first zero within = sym (add-zero first)
-positions_behind-placed none first (suc n) within = absurd (omega arith)
-positions_behind-placed (line rule rest) first (suc n) within = omega (arith, positions_behind-placed rest (first + 1) n (omega arith))
-positions_behind-placed (sub inner rest) first (suc n) within = omega (arith, positions_behind-placed rest (first + lines_in inner) n (omega arith))
+positions_after-placed : (t : Stack) (first n : ℕ) → n ≤ count t → get_or (first ∷ positions_after first t) n 0 ≡ first + lines_in_first n t
+positions_after-placed t first zero within = sym (add-zero first)
+positions_after-placed none first (suc n) within = absurd (omega arith)
+positions_after-placed (line rule rest) first (suc n) within = omega (arith, positions_after-placed rest (first + 1) n (omega arith))
+positions_after-placed (sub inner rest) first (suc n) within = omega (arith, positions_after-placed rest (first + lines_in inner) n (omega arith))
 
-pub block_marked : (positions : List ℕ) (first : ℕ) (t : Stack) → IsBlock (positions ++ first ∷ positions_behind first t) (length positions) first t
+pub block_marked : (positions : List ℕ) (first : ℕ) (t : Stack) → IsBlock (positions ++ first ∷ positions_after first t) (length positions) first t
 block_marked positions first t = record {
-  room = omega (arith, length-append positions (first ∷ positions_behind first t), positions_behind-count t first);
-  placed = λ n within. get_or-behind positions (first ∷ positions_behind first t) n ∙ positions_behind-placed t first n within;
+  room = omega (arith, length-append positions (first ∷ positions_after first t), positions_after-count t first);
+  placed = λ n within. get_or-past_end positions (first ∷ positions_after first t) n ∙ positions_after-placed t first n within;
 }
 
 pub block_kept : (positions more : List ℕ) (start first : ℕ) (t : Stack) → IsBlock positions start first t → IsBlock (positions ++ more) start first t
@@ -58,7 +58,7 @@ module _ (names : List (List ℕ)) where
   are_kept positions more i [] [] are = tt
   are_kept positions more i (s ∷ ss) (e ∷ es) are =
       let first = are.0 in
-      (record { rule = first.rule; module_number = first.module_number; level = first.level; opens = first.opens; left = first.left; behind = block_kept positions more e.behind (i + 1) s.rest first.behind }, are_kept positions more (i + 1) ss es are.1)
+      (record { rule = first.rule; module_number = first.module_number; level = first.level; opens = first.opens; left = first.left; past_end = block_kept positions more e.past_end (i + 1) s.rest first.past_end }, are_kept positions more (i + 1) ss es are.1)
   are_kept positions more i [] (e ∷ es) are = are
   are_kept positions more i (s ∷ ss) [] are = are
 
@@ -84,7 +84,7 @@ module _ (names : List (List ℕ)) where
   }
 
   pub adds_line : (level opens : ℕ) (rest : Stack) (es es' : List ChainLine) (ps ps' : List ℕ) (e : ChainLine)
-      → e.module_number ≡ module_of names e.rule → e.level ≡ level → e.opens ≡ opens → e.left ≡ count rest → IsBlock ps e.behind (length es + 1) rest
+      → e.module_number ≡ module_of names e.rule → e.level ≡ level → e.opens ≡ opens → e.left ≡ count rest → IsBlock ps e.past_end (length es + 1) rest
       → AddsList names level 0 rest (es ++ e ∷ []) es' ps ps' → AddsList names level opens (line e.rule rest) es es' ps ps'
   adds_line level opens rest es es' ps ps' e named at_level opened left block adds = record {
     more = e ∷ adds.more;
@@ -92,7 +92,7 @@ module _ (names : List (List ℕ)) where
     positions = adds.positions;
     placed = adds.placed;
     are = (
-      record { rule = refl; module_number = named; level = at_level; opens = opened; left = left; behind = subst (λ (p : List ℕ). IsBlock p e.behind (length es + 1) rest) (sym adds.placed) (block_kept ps adds.positions e.behind (length es + 1) rest block) },
+      record { rule = refl; module_number = named; level = at_level; opens = opened; left = left; past_end = subst (λ (p : List ℕ). IsBlock p e.past_end (length es + 1) rest) (sym adds.placed) (block_kept ps adds.positions e.past_end (length es + 1) rest block) },
       subst (λ n. AreLines names ps' n (flat_lines level 0 rest) adds.more) (length-append es (e ∷ [])) adds.are,
     );
   }
@@ -111,20 +111,20 @@ module _ (names : List (List ℕ)) where
   }
 
   -- a list of which the first nodes have been added: `here` is what is left of it
-  pub record IsAdding (level opens : ℕ) (whole : Stack) (old : List ChainLine) (before : List ℕ) (here : Stack) (now : List ChainLine) (positions : List ℕ) (behind pend left : ℕ) : Type 0 where
+  pub record IsAdding (level opens : ℕ) (whole : Stack) (old : List ChainLine) (before : List ℕ) (here : Stack) (now : List ChainLine) (positions : List ℕ) (past_end pend left : ℕ) : Type 0 where
     pub adds : (es : List ChainLine) (ps : List ℕ) → AddsList names level pend here now es positions ps → AddsList names level opens whole old es before ps
-    pub block : IsBlock positions behind (length now) here
+    pub block : IsBlock positions past_end (length now) here
     pub remain : left ≡ count here
     pub few : length now + lines_in here ≤ 4096
     pub lines : length now + lines_in here ≡ length old + lines_in whole
     pub shallow : depth here ≤ depth whole
     pub opened : pend ≤ level
 
-  pub adding_start : (level opens : ℕ) (whole : Stack) (old : List ChainLine) (before positions : List ℕ) (behind first left : ℕ)
-      → positions ≡ before ++ first ∷ positions_behind first whole → first ≡ length old → behind ≡ length before → left ≡ count whole → length old + lines_in whole ≤ 4096 → opens ≤ level
-      → IsAdding level opens whole old before whole old positions behind opens left
-  adding_start level opens whole old before positions behind first left is from start counted few opened = record {
-    adds = λ es ps adds. adds_marked level opens whole old es before (first ∷ positions_behind first whole) ps (subst (λ (p : List ℕ). AddsList names level opens whole old es p ps) is adds);
+  pub adding_start : (level opens : ℕ) (whole : Stack) (old : List ChainLine) (before positions : List ℕ) (past_end first left : ℕ)
+      → positions ≡ before ++ first ∷ positions_after first whole → first ≡ length old → past_end ≡ length before → left ≡ count whole → length old + lines_in whole ≤ 4096 → opens ≤ level
+      → IsAdding level opens whole old before whole old positions past_end opens left
+  adding_start level opens whole old before positions past_end first left is from start counted few opened = record {
+    adds = λ es ps adds. adds_marked level opens whole old es before (first ∷ positions_after first whole) ps (subst (λ (p : List ℕ). AddsList names level opens whole old es p ps) is adds);
     block = rw (is, start, ← from) (block_marked before first whole);
     remain = counted;
     few = few;
@@ -133,14 +133,14 @@ module _ (names : List (List ℕ)) where
     opened = opened;
   }
 
-  pub adding_line : (level opens : ℕ) (whole : Stack) (old : List ChainLine) (before : List ℕ) (here rest : Stack) (now new : List ChainLine) (positions : List ℕ) (behind pend left : ℕ) (e : ChainLine)
-      → IsAdding level opens whole old before here now positions behind pend left → here ≡ line e.rule rest → e.module_number ≡ module_of names e.rule → e.level ≡ level → e.opens ≡ pend → e.left ≡ left - 1 → e.behind ≡ behind + 1 → new ≡ now ++ e ∷ []
-      → IsAdding level opens whole old before rest new positions (behind + 1) 0 (left - 1)
-  adding_line level opens whole old before here rest now new positions behind pend left e adding is named at_level opened remain place added =
+  pub adding_line : (level opens : ℕ) (whole : Stack) (old : List ChainLine) (before : List ℕ) (here rest : Stack) (now new : List ChainLine) (positions : List ℕ) (past_end pend left : ℕ) (e : ChainLine)
+      → IsAdding level opens whole old before here now positions past_end pend left → here ≡ line e.rule rest → e.module_number ≡ module_of names e.rule → e.level ≡ level → e.opens ≡ pend → e.left ≡ left - 1 → e.past_end ≡ past_end + 1 → new ≡ now ++ e ∷ []
+      → IsAdding level opens whole old before rest new positions (past_end + 1) 0 (left - 1)
+  adding_line level opens whole old before here rest now new positions past_end pend left e adding is named at_level opened remain place added =
       let lines = ap lines_in is in
       let nodes = ap count is in
       let deep = ap depth is in
-      let block : IsBlock positions (behind + 1) (length now + 1) rest = block_line positions behind (length now) e.rule rest (subst (λ (t : Stack). IsBlock positions behind (length now) t) is adding.block) in
+      let block : IsBlock positions (past_end + 1) (length now + 1) rest = block_line positions past_end (length now) e.rule rest (subst (λ (t : Stack). IsBlock positions past_end (length now) t) is adding.block) in
       let longer : length new ≡ length now + 1 = ap length added ∙ length-append now (e ∷ []) in
       record {
         adds = λ es ps adds. adding.adds es ps (rw is (adds_line level pend rest now es positions ps e named at_level opened (remain ∙ (let g : left - 1 ≡ count rest = omega (arith, nodes, adding.remain) in g)) (rw place block)
@@ -153,18 +153,18 @@ module _ (names : List (List ℕ)) where
         opened = omega arith;
       }
 
-  pub adding_sub : (level opens : ℕ) (whole : Stack) (old : List ChainLine) (before : List ℕ) (here inner rest : Stack) (now new : List ChainLine) (positions positions' : List ℕ) (behind pend pend' left : ℕ)
-      → IsAdding level opens whole old before here now positions behind pend left → here ≡ sub inner rest → AddsList names (level + 1) (pend + 1) inner now new positions positions' → length new ≡ length now + lines_in inner
+  pub adding_sub : (level opens : ℕ) (whole : Stack) (old : List ChainLine) (before : List ℕ) (here inner rest : Stack) (now new : List ChainLine) (positions positions' : List ℕ) (past_end pend pend' left : ℕ)
+      → IsAdding level opens whole old before here now positions past_end pend left → here ≡ sub inner rest → AddsList names (level + 1) (pend + 1) inner now new positions positions' → length new ≡ length now + lines_in inner
       → pend' ≡ pending (lines_in inner) pend → pend' ≤ level
-      → IsAdding level opens whole old before rest new positions' (behind + 1) pend' (left - 1)
-  adding_sub level opens whole old before here inner rest now new positions positions' behind pend pend' left adding is first longer then opened =
+      → IsAdding level opens whole old before rest new positions' (past_end + 1) pend' (left - 1)
+  adding_sub level opens whole old before here inner rest now new positions positions' past_end pend pend' left adding is first longer then opened =
       let lines = ap lines_in is in
       let nodes = ap count is in
       let deep = ap depth is in
-      let block : IsBlock positions (behind + 1) (length now + lines_in inner) rest = block_sub positions behind (length now) inner rest (subst (λ (t : Stack). IsBlock positions behind (length now) t) is adding.block) in
+      let block : IsBlock positions (past_end + 1) (length now + lines_in inner) rest = block_sub positions past_end (length now) inner rest (subst (λ (t : Stack). IsBlock positions past_end (length now) t) is adding.block) in
       record {
         adds = λ es ps adds. adding.adds es ps (rw is (adds_sub level pend inner rest now new es positions positions' ps first (subst (λ n. AddsList names level n rest new es positions' ps) then adds)));
-        block = rw (first.placed, longer) (block_kept positions first.positions (behind + 1) (length now + lines_in inner) rest block);
+        block = rw (first.placed, longer) (block_kept positions first.positions (past_end + 1) (length now + lines_in inner) rest block);
         remain = omega (arith, nodes, adding.remain);
         few = omega (arith, lines, longer, adding.few);
         lines = omega (arith, lines, longer, adding.lines);
@@ -172,9 +172,9 @@ module _ (names : List (List ℕ)) where
         opened = opened;
       }
 
-  pub adding_end : (level opens : ℕ) (whole : Stack) (old : List ChainLine) (before : List ℕ) (here : Stack) (now : List ChainLine) (positions : List ℕ) (behind pend left : ℕ)
-      → IsAdding level opens whole old before here now positions behind pend left → here ≡ none → AddsList names level opens whole old now before positions × (length now ≡ length old + lines_in whole)
-  adding_end level opens whole old before here now positions behind pend left adding is =
+  pub adding_end : (level opens : ℕ) (whole : Stack) (old : List ChainLine) (before : List ℕ) (here : Stack) (now : List ChainLine) (positions : List ℕ) (past_end pend left : ℕ)
+      → IsAdding level opens whole old before here now positions past_end pend left → here ≡ none → AddsList names level opens whole old now before positions × (length now ≡ length old + lines_in whole)
+  adding_end level opens whole old before here now positions past_end pend left adding is =
       let lines = ap lines_in is in
       (adding.adds now positions (rw is (adds_none level pend now positions)), omega (arith, lines, adding.lines))
 

@@ -9,7 +9,7 @@ use Rattle.handler_chain.specs.declared.opinion.Opinion.{Opinion}
 use Rattle.handler_chain.specs.declared.pass_kind.PassKind.{PassKind}
 use Rattle.handler_chain.specs.Opinion.{acted}
 use Rattle.handler_chain.specs.Walk.{Serving, Served, Walked, walked, halted, Next, after, stop, next_of, new_or_overrun, onward, walk}
-use Rattle.handler_chain.specs.Route.{KeptAnswers, negative_after, next_by, negative_behind, Met, met, behind, onto, met_at, route_from}
+use Rattle.handler_chain.specs.Route.{KeptAnswers, negative_after, next_by, negative_past, Met, met, past_end, onto, met_at, route_from}
 use Rattle.handler_chain.proofs.Negativity.{negative_opinion, acted_negative, next_of-is, settled_negative}
 
 module _ (State : Type 0) where
@@ -96,8 +96,8 @@ module _ (State : Type 0) (kind : PassKind) (serve : Serving State) (kept : Kept
   walk_back t n at entry o s =
       walk_keeps State kind serve (λ (at : ℕ) (x : State). Ok x → Ok s) (λ rule at x from ok. from (tells.back rule at x ok)) (λ at later x le from. from) t n at entry o s (λ ok. ok)
 
-  goes_behind : (before places : List ℕ) (m : Met) (w : Walked State) → Along (before ++ places) m w → Along before (behind places m) w
-  goes_behind before places m w goes = record {
+  goes_past : (before places : List ℕ) (m : Met) (w : Walked State) → Along (before ++ places) m w → Along before (past_end places m) w
+  goes_past before places m w goes = record {
     left = goes.left;
     places = sym (append_assoc before places m.places) ∙ goes.places;
     ended = goes.ended;
@@ -131,14 +131,14 @@ module _ (State : Type 0) (kind : PassKind) (serve : Serving State) (kept : Kept
       → Sure (met_at at a now on) → Along before (met_at at a now on) w
   goes_kept None at now on w before lost each (inl e) = absurd (true≢false e)
   goes_kept None at now on w before lost each (inr finds) = absurd (lost refl finds)
-  goes_kept (Some k) at now on w before lost each sure = goes_behind before (at ∷ []) (on k) w (each k refl sure)
+  goes_kept (Some k) at now on w before lost each sure = goes_past before (at ∷ []) (on k) w (each k refl sure)
 
-  sure_first : (first rest : Met) → Sure (if first.lacks then first else behind first.places rest) → Sure first
-  sure_first first rest (inl e) = inl (lacks_first first.lacks first (behind first.places rest) refl e)
+  sure_first : (first rest : Met) → Sure (if first.lacks then first else past_end first.places rest) → Sure first
+  sure_first first rest (inl e) = inl (lacks_first first.lacks first (past_end first.places rest) refl e)
   sure_first first rest (inr finds) = inr finds
 
   goes_stopped : (c : Bool) (first rest : Met) (w : Walked State) (before : List ℕ) → w.stopped ≡ true
-      → Along before first w → Along before (if c then first else behind first.places rest) w
+      → Along before first w → Along before (if c then first else past_end first.places rest) w
   goes_stopped true first rest w before is goes = goes
   goes_stopped false first rest w before is goes = record {
     left = goes.left ++ rest.places;
@@ -155,14 +155,14 @@ module _ (State : Type 0) (kind : PassKind) (serve : Serving State) (kept : Kept
 
   goes_sub : (b : Bool) (first rest : Met) (inside w : Walked State) (before : List ℕ) → inside.stopped ≡ b
       → Along before first inside → (b ≡ false → Ok w.state → Sure rest → Along (seen inside.state) rest w)
-      → Ok (if b then inside else w).state → Sure (if first.lacks then first else behind first.places rest)
-      → Along before (if first.lacks then first else behind first.places rest) (if b then inside else w)
+      → Ok (if b then inside else w).state → Sure (if first.lacks then first else past_end first.places rest)
+      → Along before (if first.lacks then first else past_end first.places rest) (if b then inside else w)
   goes_sub true first rest inside w before is goes more ok sure = goes_stopped first.lacks first rest inside before is goes
   goes_sub false first rest inside w before is goes more ok sure =
       let has : first.lacks ≡ false = goes.has is in
-      let sure' : Sure (behind first.places rest) = subst (λ (c : Bool). Sure (if c then first else behind first.places rest)) has sure in
-      subst (λ (c : Bool). Along before (if c then first else behind first.places rest) w) (sym has)
-      (goes_behind before first.places rest w (subst (λ (xs : List ℕ). Along xs rest w) (seen_all before first inside is goes) (more refl ok sure')))
+      let sure' : Sure (past_end first.places rest) = subst (λ (c : Bool). Sure (if c then first else past_end first.places rest)) has sure in
+      subst (λ (c : Bool). Along before (if c then first else past_end first.places rest) w) (sym has)
+      (goes_past before first.places rest w (subst (λ (xs : List ℕ). Along xs rest w) (seen_all before first inside is goes) (more refl ok sure')))
 
   pub along : (t : Stack) (n at : ℕ) (entry o : Opinion) (s : State) (en now : Bool) → negative_opinion entry ≡ en → negative_opinion o ≡ now → Low at s
       → Ok (walk kind serve n t at entry o s).state → Sure (route_from kept n t at en now)
@@ -179,7 +179,7 @@ module _ (State : Type 0) (kind : PassKind) (serve : Serving State) (kept : Kept
       let last : Code → Opinion = λ k. new_or_overrun (action_at rule.control k) left (new k) in
       let w : Code → Walked State = λ k. onward (next_of (action_at rule.control k) left (new k)) (λ n. walk kind serve n rest (at + 1) entry (last k) v.state) (walked (last k) v.state) in
       let on : Code → Met = λ k.
-      onto (next_by (action_at rule.control k) left now) (λ n. route_from kept n rest (at + 1) en (negative_behind (action_at rule.control k) left en now)) (met (negative_behind (action_at rule.control k) left en now)) in
+      onto (next_by (action_at rule.control k) left now) (λ n. route_from kept n rest (at + 1) en (negative_past (action_at rule.control k) left en now)) (met (negative_past (action_at rule.control k) left en now)) in
       goes_if v.stopped (met_at at (kept at) now on) (w v.deciding) o v.state (seen s) (met_some at (kept at) now on) (tells.off rule at s)
       (λ runs ok'.
       let served : Ok v.state = state_onward State _ _ _ (λ (x : State). Ok x → Ok v.state) (λ n. walk_back rest n (at + 1) entry (last v.deciding) v.state) (λ x. x) ok' in
@@ -188,14 +188,14 @@ module _ (State : Type 0) (kind : PassKind) (serve : Serving State) (kept : Kept
       let decides : v.deciding ≡ k = tells.agrees rule at s k low served runs is in
       let a : Action = action_at rule.control k in
       let is_new : negative_opinion (new k) ≡ negative_after a en now = acted_negative kind a v.answer k entry o ∙ ap (λ (b : Bool). negative_after a b (negative_opinion o)) e_is ∙ ap (negative_after a en) o_is in
-      let is_last : negative_opinion (last k) ≡ negative_behind a left en now = settled_negative a left (new k) en now is_new in
+      let is_last : negative_opinion (last k) ≡ negative_past a left en now = settled_negative a left (new k) en now is_new in
       let f : ℕ → Walked State = λ n. walk kind serve n rest (at + 1) entry (last k) v.state in
       let same : next_of a left (new k) ≡ next_by a left now = next_of-is a left (new k) en now is_new in
       let ok_k : Ok (onward (next_by a left now) f (walked (last k) v.state)).state =
       subst (λ (next : Next). Ok (onward next f (walked (last k) v.state)).state) same (subst (λ (c : Code). Ok (w c).state) decides ok') in
-      let here : Along (seen v.state) (met (negative_behind a left en now)) (walked (last k) v.state) = record { left = []; places = refl; ended = λ e. refl; fewer = λ e. absurd (true≢false (sym e)); negative = λ e. is_last; has = λ e. refl } in
+      let here : Along (seen v.state) (met (negative_past a left en now)) (walked (last k) v.state) = record { left = []; places = refl; ended = λ e. refl; fewer = λ e. absurd (true≢false (sym e)); negative = λ e. is_last; has = λ e. refl } in
       let goes : Along (seen v.state) (on k) (onward (next_by a left now) f (walked (last k) v.state)) =
-      goes_next (next_by a left now) f _ _ _ (seen v.state) (λ n ok'' sure''. along rest n (at + 1) entry (last k) v.state en (negative_behind a left en now) e_is is_last (tells.low rule at s low) ok'' sure'') here ok_k sure' in
+      goes_next (next_by a left now) f _ _ _ (seen v.state) (λ n ok'' sure''. along rest n (at + 1) entry (last k) v.state en (negative_past a left en now) e_is is_last (tells.low rule at s low) ok'' sure'') here ok_k sure' in
       subst (λ (xs : List ℕ). Along xs (on k) (w v.deciding)) (tells.on rule at s runs)
       (subst (λ (c : Code). Along (seen v.state) (on k) (w c)) (sym decides)
       (subst (λ (next : Next). Along (seen v.state) (on k) (onward next f (walked (last k) v.state))) (sym same) goes)))
@@ -204,11 +204,11 @@ module _ (State : Type 0) (kind : PassKind) (serve : Serving State) (kept : Kept
   along (sub inner rest) zero at entry o s en now e_is o_is low ok sure =
       let w : Walked State = walk kind serve zero inner at o o s in
       let m : Met = route_from kept zero inner at now now in
-      let behind_w : Walked State = walk kind serve zero rest (at + lines_in inner) entry w.opinion w.state in
-      let behind_m : Met = route_from kept zero rest (at + lines_in inner) en m.negative in
+      let after_w : Walked State = walk kind serve zero rest (at + lines_in inner) entry w.opinion w.state in
+      let after_m : Met = route_from kept zero rest (at + lines_in inner) en m.negative in
       let inside_ok : Ok w.state =
-      state_if State w.stopped w behind_w (λ (x : State). Ok x → Ok w.state) (λ x. x) (walk_back rest zero (at + lines_in inner) entry w.opinion w.state) ok in
-      let inside : Along (seen s) m w = along inner zero at o o s now now o_is o_is low inside_ok (sure_first m behind_m sure) in
-      goes_sub w.stopped m behind_m w behind_w (seen s) refl inside
+      state_if State w.stopped w after_w (λ (x : State). Ok x → Ok w.state) (λ x. x) (walk_back rest zero (at + lines_in inner) entry w.opinion w.state) ok in
+      let inside : Along (seen s) m w = along inner zero at o o s now now o_is o_is low inside_ok (sure_first m after_m sure) in
+      goes_sub w.stopped m after_m w after_w (seen s) refl inside
       (λ runs ok' sure'. along rest zero (at + lines_in inner) entry w.opinion w.state en m.negative e_is (inside.negative runs) (walk_low inner zero at o o s low) ok' sure')
       ok sure

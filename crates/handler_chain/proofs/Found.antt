@@ -43,9 +43,9 @@ pub record Answers (stack : Stack) (names : List (List ℕ)) (positions : List �
   pub opens : e.opens ≡ opens_at stack i
   pub deep : e.level ≤ 16
   pub shallow : e.opens ≤ e.level
-  pub room : e.behind + e.left < length positions
-  pub end : get_or positions (e.behind + e.left) 0 ≡ end_at stack i
-  pub near : (n : ℕ) → n ≤ e.left → Some (get_or positions (e.behind + n) 0) ≡ target_at stack i n
+  pub room : e.past_end + e.left < length positions
+  pub end : get_or positions (e.past_end + e.left) 0 ≡ end_at stack i
+  pub near : (n : ℕ) → n ≤ e.left → Some (get_or positions (e.past_end + n) 0) ≡ target_at stack i n
   pub far : (n : ℕ) → e.left < n → None ≡ target_at stack i n
 
 pub all_front : (t : Stack) → lines_in_first (count t) t ≡ lines_in t
@@ -70,12 +70,12 @@ answers stack names lines positions i e flat within is =
       opens = line.opens ∙ sym (at_line-stands 0 (λ s. s.opens) stack i s _ stands);
       deep = omega (arith, line.level, bounds.0, flat.shallow);
       shallow = omega (arith, line.level, line.opens, bounds.1);
-      room = omega (arith, left, line.behind.room);
-      end = rw left (line.behind.placed (count rest) (omega arith) ∙ ap (λ n. i + 1 + n) (all_front rest) ∙ sym (at_line-stands 0 (λ s. i + 1 + lines_in s.rest) stack i s _ stands));
+      room = omega (arith, left, line.past_end.room);
+      end = rw left (line.past_end.placed (count rest) (omega arith) ∙ ap (λ n. i + 1 + n) (all_front rest) ∙ sym (at_line-stands 0 (λ s. i + 1 + lines_in s.rest) stack i s _ stands));
       near = λ n few.
           let fits : n ≤ count rest = omega (arith, few, left) in
           let test : nat_le n (count rest) ≡ true = grind (arith, nat_tests) in
-          ap (λ n. Some n) (line.behind.placed n fits) ∙ rw (at_line-stands None (λ s. if nat_le n (count s.rest) then Some (i + 1 + lines_in_first n s.rest) else None) stack i s _ stands, test) refl;
+          ap (λ n. Some n) (line.past_end.placed n fits) ∙ rw (at_line-stands None (λ s. if nat_le n (count s.rest) then Some (i + 1 + lines_in_first n s.rest) else None) stack i s _ stands, test) refl;
       far = λ n many.
           let test : nat_le n (count rest) ≡ false = grind (arith, nat_tests) in
           rw (at_line-stands None (λ s. if nat_le n (count s.rest) then Some (i + 1 + lines_in_first n s.rest) else None) stack i s _ stands, test) refl;

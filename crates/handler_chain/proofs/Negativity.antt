@@ -11,7 +11,7 @@ use Rattle.handler_chain.specs.declared.pass_kind.PassKind.{PassKind}
 use Rattle.handler_chain.specs.declared.pass_kind.PassKind.TheVariants as kinds
 use Rattle.handler_chain.specs.Opinion.{overrun, good, good_by, bad, jumped, acted}
 use Rattle.handler_chain.specs.Walk.{is_negative, Next, after, stop, next_of, new_or_overrun}
-use Rattle.handler_chain.specs.Route.{negative_after, next_by, negative_behind}
+use Rattle.handler_chain.specs.Route.{negative_after, next_by, negative_past}
 
 abbrev pub negative_opinion : Opinion → Bool
 negative_opinion o = is_negative o.impression
@@ -67,7 +67,7 @@ jump_negative true new now is = is
 jump_negative false new now is = refl
 
 pub settled_negative : (a : Action) (left : ℕ) (new : Opinion) (entry now : Bool) → negative_opinion new ≡ negative_after a entry now
-    → negative_opinion (new_or_overrun a left new) ≡ negative_behind a left entry now
+    → negative_opinion (new_or_overrun a left new) ≡ negative_past a left entry now
 settled_negative actions.Ignore left new entry now is = is
 settled_negative actions.Ok left new entry now is = is
 settled_negative actions.Done left new entry now is = is

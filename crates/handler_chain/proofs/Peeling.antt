@@ -5,7 +5,7 @@ use Rattle.control_words.specs.declared.nodes.Node.{Node, Line, Sub}
 use Rattle.control_words.specs.declared.nodes.Nodes.{Nodes}
 use Rattle.control_words.specs.declared.nodes.Rule.{Rule}
 use Rattle.control_words.specs.Stack.{Stack, line, sub, node_on, stack_of, lines_in}
-use Rattle.handler_chain.specs.Flat.{positions_behind}
+use Rattle.handler_chain.specs.Flat.{positions_after}
 use Rattle.handler_chain.proofs.Listing.{node_on-Sub}
 
 peeled : (nodes : List Node) (i : ℕ) (node : Node) → i < length nodes → node ≡ get_or nodes i node
@@ -22,19 +22,19 @@ peeled_sub nodes i node inner within is which =
     peeled nodes i node within is ∙ ap (λ (n : Node). node_on n (stack_of (drop (i + 1) nodes))) which ∙ node_on-Sub inner (stack_of (drop (i + 1) nodes))
 
 -- a list and what follows its first node, of n lines
-pub record IsNext (here behind : Stack) (width : ℕ) : Type 0 where
-  pub lines : lines_in here ≡ width + lines_in behind
-  pub marks : (first : ℕ) → positions_behind first here ≡ (first + width) ∷ positions_behind (first + width) behind
+pub record IsNext (here past_end : Stack) (width : ℕ) : Type 0 where
+  pub lines : lines_in here ≡ width + lines_in past_end
+  pub marks : (first : ℕ) → positions_after first here ≡ (first + width) ∷ positions_after (first + width) past_end
 
-pub next_line : (here behind : Stack) (rule : Rule) (width : ℕ) → here ≡ line rule behind → width ≡ 1 → IsNext here behind width
-next_line here behind rule width is one = rw (is, one) (record { lines = omega arith; marks = λ first. refl })
+pub next_line : (here past_end : Stack) (rule : Rule) (width : ℕ) → here ≡ line rule past_end → width ≡ 1 → IsNext here past_end width
+next_line here past_end rule width is one = rw (is, one) (record { lines = omega arith; marks = λ first. refl })
 
-pub next_sub : (here inner behind : Stack) (width : ℕ) → here ≡ sub inner behind → width ≡ lines_in inner → IsNext here behind width
-next_sub here inner behind width is counted = rw (is, counted) (record { lines = refl; marks = λ first. refl })
+pub next_sub : (here inner past_end : Stack) (width : ℕ) → here ≡ sub inner past_end → width ≡ lines_in inner → IsNext here past_end width
+next_sub here inner past_end width is counted = rw (is, counted) (record { lines = refl; marks = λ first. refl })
 
 -- one more position was added
-pub marked : (all now new : List ℕ) (first width : ℕ) (here behind : Stack) → IsNext here behind width → now ++ positions_behind first here ≡ all
+pub marked : (all now new : List ℕ) (first width : ℕ) (here past_end : Stack) → IsNext here past_end width → now ++ positions_after first here ≡ all
     → new ≡ now ++ (first + width) ∷ []
-    → new ++ positions_behind (first + width) behind ≡ all
-marked all now new first width here behind next so_far added =
-    rw added (append_assoc now ((first + width) ∷ []) (positions_behind (first + width) behind) ∙ ap (λ (xs : List ℕ). now ++ xs) (sym (next.marks first)) ∙ so_far)
+    → new ++ positions_after (first + width) past_end ≡ all
+marked all now new first width here past_end next so_far added =
+    rw added (append_assoc now ((first + width) ∷ []) (positions_after (first + width) past_end) ∙ ap (λ (xs : List ℕ). now ++ xs) (sym (next.marks first)) ∙ so_far)

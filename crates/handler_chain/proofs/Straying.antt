@@ -38,9 +38,9 @@ module _ (State : Type 0) where
   onward_resumes stop f f' w w' before each here = here
 
   -- after a walk that ended
-  behind_walk : (v : Walked (PassState State)) (before : List Visit) (again : List Code → Walked (PassState Telling)) (w : Walked (PassState State)) (f : Walked (PassState Telling) → Walked (PassState Telling))
+  past_walk : (v : Walked (PassState State)) (before : List Visit) (again : List Code → Walked (PassState Telling)) (w : Walked (PassState State)) (f : Walked (PassState Telling) → Walked (PassState Telling))
       → Resumes v before again → v.stopped ≡ false → Resumes w v.state.visits (λ past. f (walked v.opinion (pass_state past v.state.visits (telling [])))) → Resumes w before (λ past. f (again past))
-  behind_walk v before again w f one ends two = record {
+  past_walk v before again w f one ends two = record {
     news = one.news ++ two.news;
     adds = two.adds ∙ ap (λ (xs : List Visit). xs ++ two.news) one.adds ∙ append_assoc before one.news two.news;
     ended = λ e more.
@@ -61,7 +61,7 @@ module _ (State : Type 0) where
     put_off = λ e. subst Strays (sym (ap (λ (b : Bool). if b then again (answers_of one.news) else f (again (answers_of one.news))) (one.put_off e).0)) (one.put_off e);
   }
   sub_resumes false inside before again w f is one two =
-      behind_walk inside before again w (λ x. if x.stopped then x else f x) one is two
+      past_walk inside before again w (λ x. if x.stopped then x else f x) one is two
 
   -- ---- a line
 

@@ -18,7 +18,7 @@ pub record IsChainLine (names : List (List ℕ)) (positions : List ℕ) (i : ℕ
   pub level : line.level ≡ flat_line.level
   pub opens : line.opens ≡ flat_line.opens
   pub left : line.left ≡ count flat_line.rest
-  pub behind : IsBlock positions line.behind (i + 1) flat_line.rest
+  pub past_end : IsBlock positions line.past_end (i + 1) flat_line.rest
 
 -- all lines from index i on are such lines
 abbrev pub AreLines : List (List ℕ) → List ℕ → ℕ → List FlatLine → List ChainLine → Type 0
@@ -36,11 +36,11 @@ pub record IsFlat (stack : Stack) (names : List (List ℕ)) (lines : List ChainL
   pub numbered : length names < 2 ^ 32
 
 -- the positions after each node of a list whose first line has the index `first`
-abbrev pub positions_behind : ℕ → Stack → List ℕ
-positions_behind first none = []
-positions_behind first (line rule rest) = (first + 1) ∷ positions_behind (first + 1) rest
-positions_behind first (sub inner rest) = (first + lines_in inner)
-    ∷ positions_behind (first + lines_in inner) rest
+abbrev pub positions_after : ℕ → Stack → List ℕ
+positions_after first none = []
+positions_after first (line rule rest) = (first + 1) ∷ positions_after (first + 1) rest
+positions_after first (sub inner rest) = (first + lines_in inner)
+    ∷ positions_after (first + lines_in inner) rest
 
 -- the lines of a list were added to lines and positions
 pub record AddsList (names : List (List ℕ)) (level opens : ℕ) (stack : Stack)

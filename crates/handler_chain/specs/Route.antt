@@ -32,9 +32,9 @@ next_by action left now = after 0
 
 -- whether the state is negative when the list goes on; a jump over more nodes than are left makes
 -- it so
-abbrev pub negative_behind : Action → ℕ → Bool → Bool → Bool
-negative_behind (actions.Jump n) left entry now = if nat_le n left then now else true
-negative_behind action left entry now = negative_after action entry now
+abbrev pub negative_past : Action → ℕ → Bool → Bool → Bool
+negative_past (actions.Jump n) left entry now = if nat_le n left then now else true
+negative_past action left entry now = negative_after action entry now
 
 -- the lines that are run, whether the state is negative after them, and whether one of them has no
 -- cached code
@@ -47,8 +47,8 @@ abbrev pub met : Bool → Met
 met negative = record { places = []; negative = negative; lacks = false }
 
 -- what is met, with lines that were met before
-abbrev pub behind : List ℕ → Met → Met
-behind places m = record { places = places ++ m.places; negative = m.negative; lacks = m.lacks }
+abbrev pub past_end : List ℕ → Met → Met
+past_end places m = record { places = places ++ m.places; negative = m.negative; lacks = m.lacks }
 
 abbrev pub onto : Next → (ℕ → Met) → Met → Met
 onto (after n) rest here = rest n
@@ -57,7 +57,7 @@ onto stop rest here = here
 -- a line that acts by its cached code
 abbrev pub met_at : ℕ → Option Code → Bool → (Code → Met) → Met
 met_at at None negative on = record { places = at ∷ []; negative = negative; lacks = true }
-met_at at (Some answer) negative on = behind (at ∷ []) (on answer)
+met_at at (Some answer) negative on = past_end (at ∷ []) (on answer)
 
 -- The lines that are run of a stack whose first line has the rule number `at`, with its first n
 -- nodes skipped. Of the state only whether it is negative is tracked, and each line acts by its
@@ -70,13 +70,13 @@ route_from kept (suc skip) (sub inner rest) at entry now =
     route_from kept skip rest (at + lines_in inner) entry now
 route_from kept zero (line rule rest) at entry now = met_at at (kept at) now (λ answer.
     let action = action_at rule.control answer in
-    let last = negative_behind action (count rest) entry now in
+    let last = negative_past action (count rest) entry now in
     onto (next_by action (count rest) now) (λ n. route_from kept n rest (at + 1) entry last)
     (met last))
 route_from kept zero (sub inner rest) at entry now =
     let inside = route_from kept zero inner at now now in
     if inside.lacks then inside
-    else behind inside.places (route_from kept zero rest (at + lines_in inner) entry
+    else past_end inside.places (route_from kept zero rest (at + lines_in inner) entry
     inside.negative)
 
 -- the rule numbers of the lines that a run of a whole stack meets, in order

@@ -1,7 +1,7 @@
 ghost use Rattle.std.specs.Prelude.{◌≡◌, ◌≤◌, ◌+◌, ◌∷◌, ◌++◌, ◌<◌, ◌^◌, length, OnOk, IfOk};
 ghost use Rattle.control_words.specs.Stack.{stack_of, lines_in, depth};
 ghost use Rattle.handler_chain.specs.FlatLines.{number_of_name};
-ghost use Rattle.handler_chain.specs.Flat.{positions_behind, AddsList};
+ghost use Rattle.handler_chain.specs.Flat.{positions_after, AddsList};
 
 use crate::chain_line::ChainLine;
 use crate::line_count::line_count;
@@ -26,7 +26,7 @@ fn number_of(names: &Texts, wanted: &[u8]) -> Option<u32>
 fn add_positions(positions: &mut Vec<usize>, nodes: &Nodes, first: usize) -> Result<(), NoMemory>
     requires few { first + lines_in (stack_of nodes.now.vec.items) ≤ 4096 }
     ensures { OnOk result (positions.new.items ≡ positions.old.items ++ first
-        ∷ positions_behind first (stack_of nodes.now.vec.items)) }
+        ∷ positions_after first (stack_of nodes.now.vec.items)) }
 {
     positions.push(first)?;
     let mut position = first;
@@ -60,12 +60,12 @@ pub fn add_list(
     ensures counted { OnOk result (length lines.new.items
         ≡ length lines.old.items + lines_in (stack_of nodes.now.vec.items)) }
 {
-    let mut behind = positions.len();
+    let mut past_end = positions.len();
     add_positions(positions, nodes, lines.len())?;
     let mut opens = opens;
     let mut left = nodes.vec.len();
     for node in &nodes.vec {
-        behind += 1;
+        past_end += 1;
         left -= 1;
         match node {
             Node::Line(rule) => {
@@ -77,7 +77,7 @@ pub fn add_list(
                     level,
                     opens,
                     left,
-                    behind,
+                    past_end,
                 })?;
                 opens = 0;
             }

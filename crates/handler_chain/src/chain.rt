@@ -151,7 +151,7 @@ impl Chain {
         ensures looked { self.new ≡ looked self.old }
     {
         let line = &self.lines[i];
-        let end = self.positions[line.behind + line.left];
+        let end = self.positions[line.past_end + line.left];
         self.looks = self.looks.saturating_add(1);
         end
     }
@@ -165,7 +165,7 @@ impl Chain {
     {
         let line = &self.lines[i];
         let target = if n as usize <= line.left {
-            Some(self.positions[line.behind + n as usize])
+            Some(self.positions[line.past_end + n as usize])
         } else {
             None
         };

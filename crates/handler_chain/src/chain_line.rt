@@ -14,5 +14,5 @@ pub struct ChainLine {
     pub left: usize,
     // The index, among the positions, of the one after it; those after the nodes that follow it
     // come next.
-    pub behind: usize,
+    pub past_end: usize,
 }

@@ -13,9 +13,9 @@ use Rattle.dispatch_core.specs.Pending.{Pending, same_func, is_other_pending, pa
 use Rattle.pam_handle.specs.Handle.{PlainHandle}
 use Rattle.dispatch_core.specs.Calls.{following, Held, Went, call_after, went}
 use Rattle.pam_handle.specs.Pass.{Passed, passed}
-use Rattle.pam_handle.specs.Call.{Called, tokens_cleared, begun_or_going_on, request_behind}
+use Rattle.pam_handle.specs.Call.{Called, tokens_cleared, begun_or_going_on, request_after}
 use Rattle.pam_handle.specs.StackCalls.{authenticated, changed, authentication, credentials, account, opening, closing, update}
-use Rattle.pam_handle.specs.StackCalls.{behind_check, check, change_goes_on, stack_call, has_pass_flag, credential_flags, update_authtok}
+use Rattle.pam_handle.specs.StackCalls.{after_check, check, change_goes_on, stack_call, has_pass_flag, credential_flags, update_authtok}
 use Rattle.pam_handle.specs.StackCalls.{asking_by, held_in}
 use Rattle.pam_library.specs.SlotStep.{is_refused_for_flags}
 use Rattle.dispatch_core.specs.Calls as calls
@@ -37,7 +37,7 @@ changed_leaves : (paused : Option (List Code)) (code : Code) (h : PlainHandle) (
 changed_leaves None code h w = record { code_is = refl; held_is = refl; trail_is = refl; stacks_is = refl }
 changed_leaves (Some past) code h w = record { code_is = refl; held_is = refl; trail_is = refl; stacks_is = refl }
 
-request_trail : (paused : Option (List Code)) (r : PlainRoom) → (request_behind paused r).transaction.trail ≡ r.transaction.trail
+request_trail : (paused : Option (List Code)) (r : PlainRoom) → (request_after paused r).transaction.trail ≡ r.transaction.trail
 request_trail None r = refl
 request_trail (Some past) r = refl
 
@@ -60,10 +60,10 @@ module _ (players : List Player) (number : Code → ℕ → ℕ) (flags : ℕ) w
       → GoesAs players Authenticate flags past first h (authentication players number flags past (record h { room = r }) w)
   authentication_goes past first h r w same =
       let p : Passed = passed players Authenticate flags kinds.Keep h.authenticated h.stacks.auth past (state_of r w) in
-      let behind : Leaves p.code (record h { room = p.state.room; authenticated = p.kept; pending = pending_after Authenticate None p.paused }) _ =
+      let past_end : Leaves p.code (record h { room = p.state.room; authenticated = p.kept; pending = pending_after Authenticate None p.paused }) _ =
       authenticated_leaves number p.paused p.code (record h { room = p.state.room; authenticated = p.kept; pending = pending_after Authenticate None p.paused })
       p.state.world in
-      record { begun = state_of r w; trail = same; code = behind.code_is; held = behind.held_is; told = behind.trail_is; stacks = behind.stacks_is }
+      record { begun = state_of r w; trail = same; code = past_end.code_is; held = past_end.held_is; told = past_end.trail_is; stacks = past_end.stacks_is }
 
   credentials_go : (past : List Code) (first : Option KeptAnswers) (h : PlainHandle) (w : PlainWorld)
       → GoesAs players SetCred flags past first h (credentials players flags past h w)
@@ -100,44 +100,44 @@ module _ (players : List Player) (number : Code → ℕ → ℕ) (flags : ℕ) w
       → Changes h (calls.update (asking_by players flags) h.stacks first past (held_in h) (state_of h.room w)) (update players flags first past h w)
   update_changes first past h w =
       let p : Passed = passed players ChAuthTok (bit_or flags update_authtok) kinds.Follow first h.stacks.password past (state_of h.room w) in
-      let behind : Leaves p.code (record h { room = p.state.room; pending = pending_after ChAuthTok first p.paused }) _ =
+      let past_end : Leaves p.code (record h { room = p.state.room; pending = pending_after ChAuthTok first p.paused }) _ =
       changed_leaves p.paused p.code (record h { room = p.state.room; pending = pending_after ChAuthTok first p.paused }) p.state.world in
-      record { code = behind.code_is; held = behind.held_is; told = behind.trail_is; stacks = behind.stacks_is }
+      record { code = past_end.code_is; held = past_end.held_is; told = past_end.trail_is; stacks = past_end.stacks_is }
 
   rest_changes : (code : Code) (paused : Option (List Code)) (h : PlainHandle) (w : PlainWorld)
       → Changes h (went code (held_in h) (state_of h.room w)) (changed paused code h w)
   rest_changes code paused h w =
-      let behind : Leaves code h (changed paused code h w) = changed_leaves paused code h w in
-      record { code = behind.code_is; held = behind.held_is; told = behind.trail_is; stacks = behind.stacks_is }
+      let past_end : Leaves code h (changed paused code h w) = changed_leaves paused code h w in
+      record { code = past_end.code_is; held = past_end.held_is; told = past_end.trail_is; stacks = past_end.stacks_is }
 
-  behind_changes : (code : Code) (paused : Option (List Code)) (kept : Option KeptAnswers) (h : PlainHandle) (w : PlainWorld)
-      → Changes h (calls.behind_check (asking_by players flags) h.stacks code kept (held_in h) (state_of h.room w))
-      (behind_check players flags code paused kept h w)
-  behind_changes codes.Success paused kept h w = update_changes kept [] h w
-  behind_changes code paused kept h w = rest_changes code paused h w
+  after_changes : (code : Code) (paused : Option (List Code)) (kept : Option KeptAnswers) (h : PlainHandle) (w : PlainWorld)
+      → Changes h (calls.after_check (asking_by players flags) h.stacks code kept (held_in h) (state_of h.room w))
+      (after_check players flags code paused kept h w)
+  after_changes codes.Success paused kept h w = update_changes kept [] h w
+  after_changes code paused kept h w = rest_changes code paused h w
 
   check_changes : (past : List Code) (h : PlainHandle) (r : PlainRoom) (w : PlainWorld)
       → Changes h (calls.check (asking_by players flags) h.stacks past (held_in h) (state_of r w)) (check players flags past (record h { room = r }) w)
   check_changes past h r w =
       let p : Passed = passed players ChAuthTok (bit_or flags prelim_check) kinds.Keep None h.stacks.password past (state_of r w) in
       let h' : PlainHandle = record h { room = p.state.room; pending = pending_after ChAuthTok None p.paused } in
-      let behind : Changes h' (calls.behind_check (asking_by players flags) h.stacks p.code p.kept (held_in h') p.state)
-      (behind_check players flags p.code p.paused p.kept h' p.state.world) =
-      behind_changes p.code p.paused p.kept h' p.state.world in
-      record { code = behind.code; held = behind.held; told = behind.told; stacks = behind.stacks }
+      let past_end : Changes h' (calls.after_check (asking_by players flags) h.stacks p.code p.kept (held_in h') p.state)
+      (after_check players flags p.code p.paused p.kept h' p.state.world) =
+      after_changes p.code p.paused p.kept h' p.state.world in
+      record { code = past_end.code; held = past_end.held; told = past_end.told; stacks = past_end.stacks }
 
   begins_change : (h : PlainHandle) (r : PlainRoom) (w : PlainWorld) (past : List Code) → r.transaction.trail ≡ h.room.transaction.trail
       → GoesAs players ChAuthTok flags past None h (check players flags past (record h { room = r }) w)
   begins_change h r w past same =
-      let behind : Changes h _ _ = check_changes past h r w in
-      record { begun = state_of r w; trail = same; code = behind.code; held = behind.held; told = behind.told; stacks = behind.stacks }
+      let past_end : Changes h _ _ = check_changes past h r w in
+      record { begun = state_of r w; trail = same; code = past_end.code; held = past_end.held; told = past_end.told; stacks = past_end.stacks }
 
   change_goes : (past : List Code) (first : Option KeptAnswers) (h : PlainHandle) (w : PlainWorld)
       → GoesAs players ChAuthTok flags past first h (change_goes_on players flags past first h w)
   change_goes past None h w = begins_change h h.room w past refl
   change_goes past (Some first) h w =
-      let behind : Changes h _ _ = update_changes (Some first) past h w in
-      record { begun = state_of h.room w; trail = refl; code = behind.code; held = behind.held; told = behind.told; stacks = behind.stacks }
+      let past_end : Changes h _ _ = update_changes (Some first) past h w in
+      record { begun = state_of h.room w; trail = refl; code = past_end.code; held = past_end.held; told = past_end.told; stacks = past_end.stacks }
 
   unless_flagged : (b : Bool) (x y : Called) (P : Called → Type 0) → b ≡ false → P y → P (if b then x else y)
   unless_flagged true x y P own there = absurd (true≢false own)

@@ -17,11 +17,11 @@ use Rattle.service_load.specs.Stacks.{Stacks}
 use Rattle.pam_library.specs.Slots.{PlainSlot, closed, opened, slot_at, with_slot}
 use Rattle.cmd_run.specs.State.{Setting, RunState}
 use Rattle.cmd_run.specs.Step.{line_step, Fails}
-use Rattle.cmd_run.specs.Closings.{world_behind, text_of_end, closings_behind, closings, closings_text}
+use Rattle.cmd_run.specs.Closings.{world_after, text_of_end, closings_after, closings, closings_text}
 use Rattle.cmd_run.specs.Whole.{ending_status, last_line}
 use Rattle.handler_chain.specs.Retell.{Seen}
 use Rattle.report_lines.specs.Line.{Block, closed_by_program, block_text, blocks_text, last_text, AreBlocks, IsLast}
-use Rattle.session_audit.specs.Fits.{SlotLog, shut, running, with_place, all_shut, fold_on, fold, behind_block, behind_at, behind_result, with_behind}
+use Rattle.session_audit.specs.Fits.{SlotLog, shut, running, with_place, all_shut, fold_on, fold, after_block, after_at, after_result, with_after}
 use Rattle.session_audit.specs.Sound.{ArePrintable, AreSound}
 use Rattle.pam_handle.specs.StackCalls.{held_in}
 use Rattle.laws_audit.specs.Report.{closing_reported}
@@ -42,26 +42,26 @@ use Rattle.laws_audit.proofs.Running.{fold-append, LinesFit, lines_fit}
 
 -- ---- the place after some others
 
-get_behind : (front : List PlainSlot) (x : PlainSlot) (slots : List PlainSlot) → slice_get (front ++ x ∷ slots) (length front) ≡ Some x
-get_behind [] x slots = refl
-get_behind (y ∷ front) x slots = get_behind front x slots
+get_after : (front : List PlainSlot) (x : PlainSlot) (slots : List PlainSlot) → slice_get (front ++ x ∷ slots) (length front) ≡ Some x
+get_after [] x slots = refl
+get_after (y ∷ front) x slots = get_after front x slots
 
-set_behind : (front : List PlainSlot) (x y : PlainSlot) (slots : List PlainSlot) → slice_set (front ++ x ∷ slots) (length front) y ≡ front ++ y ∷ slots
-set_behind [] x y slots = refl
-set_behind (z ∷ front) x y slots = ap (λ (xs : List PlainSlot). z ∷ xs) (set_behind front x y slots)
+set_past : (front : List PlainSlot) (x y : PlainSlot) (slots : List PlainSlot) → slice_set (front ++ x ∷ slots) (length front) y ≡ front ++ y ∷ slots
+set_past [] x y slots = refl
+set_past (z ∷ front) x y slots = ap (λ (xs : List PlainSlot). z ∷ xs) (set_past front x y slots)
 
-slot_behind : (front : List PlainSlot) (x : PlainSlot) (slots : List PlainSlot) → slot_at (front ++ x ∷ slots) (length front + 1) ≡ Some x
-slot_behind front x slots = ap (slot_at (front ++ x ∷ slots)) (add-one (length front)) ∙ get_behind front x slots
+slot_after : (front : List PlainSlot) (x : PlainSlot) (slots : List PlainSlot) → slot_at (front ++ x ∷ slots) (length front + 1) ≡ Some x
+slot_after front x slots = ap (slot_at (front ++ x ∷ slots)) (add-one (length front)) ∙ get_after front x slots
 
-with_behind_slot : (front : List PlainSlot) (x y : PlainSlot) (slots : List PlainSlot)
+with_after_slot : (front : List PlainSlot) (x y : PlainSlot) (slots : List PlainSlot)
     → with_slot (front ++ x ∷ slots) (length front + 1) y ≡ front ++ y ∷ slots
-with_behind_slot front x y slots = ap (λ (n : ℕ). with_slot (front ++ x ∷ slots) n y) (add-one (length front)) ∙ set_behind front x y slots
+with_after_slot front x y slots = ap (λ (n : ℕ). with_slot (front ++ x ∷ slots) n y) (add-one (length front)) ∙ set_past front x y slots
 
 module _ (players : List Player) (status : Code) (stacks : Stacks) where
   -- what follows fits, and leads to some places
   record FitsOn (places : List SlotLog) (blocks : List Block) : Type 0 where
-    behind : List SlotLog
-    fits : fold stacks places blocks ≡ Some behind
+    past_end : List SlotLog
+    fits : fold stacks places blocks ≡ Some past_end
 
   moved : (front slots : List PlainSlot) (x : PlainSlot) (blocks : List Block) → FitsOn (places_of ((front ++ x ∷ []) ++ slots)) blocks
       → FitsOn (places_of (front ++ x ∷ slots)) blocks
@@ -69,38 +69,38 @@ module _ (players : List Player) (status : Code) (stacks : Stacks) where
 
   one_closed : (front slots : List PlainSlot) (h : _) (y : PlainSlot) (w v : PlainWorld) → place_of y ≡ shut
       → (let b = closing_reported (names_of players) (length front + 1) status v.process.ledger (length w.process.ledger.filed) in
-      behind_block stacks (places_of (front ++ opened h ∷ slots)) b ≡ Some (places_of (front ++ y ∷ slots)))
+      after_block stacks (places_of (front ++ opened h ∷ slots)) b ≡ Some (places_of (front ++ y ∷ slots)))
   one_closed front slots h y w v is =
       let slots' : List PlainSlot = front ++ opened h ∷ slots in
       let b : Block = closing_reported (names_of players) (length front + 1) status v.process.ledger (length w.process.ledger.filed) in
-      ap (behind_at stacks (places_of slots') b) (place_at-of slots' (length front + 1) ∙ ap (option_map place_of) (slot_behind front (opened h) slots))
-      ∙ ap (λ (vs : List Seen). with_behind stacks (places_of slots') (length front + 1)
-      (behind_result stacks (running (held_in h)) vs (closed_by_program status)))
+      ap (after_at stacks (places_of slots') b) (place_at-of slots' (length front + 1) ∙ ap (option_map place_of) (slot_after front (opened h) slots))
+      ∙ ap (λ (vs : List Seen). with_after stacks (places_of slots') (length front + 1)
+      (after_result stacks (running (held_in h)) vs (closed_by_program status)))
       (filed_visits (names_of players) v.process.ledger.births (drop (length w.process.ledger.filed) v.process.ledger.filed))
       ∙ ap (λ (p : SlotLog). Some (with_place (places_of slots') (length front + 1) p)) (sym is)
-      ∙ ap (λ (x : List SlotLog). Some x) (with_place-of slots' (length front + 1) y ∙ ap places_of (with_behind_slot front (opened h) y slots))
+      ∙ ap (λ (x : List SlotLog). Some x) (with_place-of slots' (length front + 1) y ∙ ap places_of (with_after_slot front (opened h) y slots))
 
   closings_fit : (front slots : List PlainSlot) (w : PlainWorld) → FitsOn (places_of (front ++ slots)) (closing_blocks players status front slots w)
-  closings_fit front [] w = record { behind = places_of (front ++ []); fits = refl }
+  closings_fit front [] w = record { past_end = places_of (front ++ []); fits = refl }
   closings_fit front (closed conv ∷ slots) w = moved front slots (closed conv) _ (closings_fit (front ++ closed conv ∷ []) slots w)
   closings_fit front (opened h ∷ slots) w =
-      let v : PlainWorld = world_behind players status h w in
+      let v : PlainWorld = world_after players status h w in
       let y : PlainSlot = closed h.room.conv in
       let rest : FitsOn (places_of (front ++ y ∷ slots)) (closing_blocks players status (front ++ y ∷ []) slots v) =
       moved front slots y _ (closings_fit (front ++ y ∷ []) slots v) in
       record {
-        behind = rest.behind;
+        past_end = rest.past_end;
         fits = ap (λ (x : Option (List SlotLog)). fold_on stacks x (λ p. fold stacks p (closing_blocks players status (front ++ y ∷ []) slots v)))
             (one_closed front slots h y w v refl) ∙ rest.fits;
       }
 
   closings_print_all : (by : ByRemainders) (front slots : List PlainSlot) (w : PlainWorld)
-      → blocks_text (closing_blocks players status front slots w) ≡ closings_text (closings_behind players status front slots w)
-  unfolding closings_behind
+      → blocks_text (closing_blocks players status front slots w) ≡ closings_text (closings_after players status front slots w)
+  unfolding closings_after
   closings_print_all by front [] w = refl
   closings_print_all by front (closed conv ∷ slots) w = closings_print_all by (front ++ closed conv ∷ []) slots w
   closings_print_all by front (opened h ∷ slots) w =
-      let v : PlainWorld = world_behind players status h w in
+      let v : PlainWorld = world_after players status h w in
       let text : List ℕ = blocks_text (closing_blocks players status (front ++ closed h.room.conv ∷ []) slots v) in
       ap (λ (t : List ℕ). t ++ text) (closings_print by (names_of players) (length front + 1) status v.process.ledger (length w.process.ledger.filed))
       ∙ ap (λ (t : List ℕ). text_of_end players status (length front + 1) w v ++ t) (closings_print_all by (front ++ closed h.room.conv ∷ []) slots v)
@@ -166,12 +166,12 @@ runs_fit AreSuch prints setting stacks ending start end input taken left text e 
     ∙ ap (λ (t : List ℕ). e.body ++ t) (closings_print_all setting.players (ending_status ending) stacks by [] e.last.slots e.last.world) in
     let sixteen : length e.last.slots ≡ 16 = sym (length-map e.last.slots place_of)
     ∙ fold_length stacks all_shut (run_blocks setting 0 start ls) (places_of e.last.slots) first in
-    let whole : fold stacks all_shut (run_blocks setting 0 start ls ++ closes) ≡ Some f.behind =
+    let whole : fold stacks all_shut (run_blocks setting 0 start ls ++ closes) ≡ Some f.past_end =
     fold-append stacks all_shut (run_blocks setting 0 start ls) closes (places_of e.last.slots) first ∙ f.fits in
     let all_formed : AreBlocks (run_blocks setting 0 start ls ++ closes) =
     blocks_whole (run_blocks setting 0 start ls ++ closes) (both_formed (run_blocks setting 0 start ls) closes (run_formed setting 0 start ls)
     (closings_formed setting.players (ending_status ending) [] e.last.slots e.last.world 16 sixteen (omega arith)))
-    (fits_seen stacks all_shut (run_blocks setting 0 start ls ++ closes) f.behind printable whole) in
+    (fits_seen stacks all_shut (run_blocks setting 0 start ls ++ closes) f.past_end printable whole) in
     record {
       blocks = run_blocks setting 0 start ls ++ closes;
       last = last_of ending e.lines;
@@ -180,7 +180,7 @@ runs_fit AreSuch prints setting stacks ending start end input taken left text e 
           ∙ ap (λ (t : List ℕ). blocks_text (run_blocks setting 0 start ls ++ closes) ++ t) (last_prints by ending e.lines);
       formed = all_formed;
       ended = last_ends ending e.lines;
-      places = f.behind;
+      places = f.past_end;
       fits = whole;
     }
 

@@ -42,12 +42,12 @@ use Rattle.pam_base.specs.declared.call.Func.TheVariants as funcs
 use Rattle.pam_base.specs.declared.call.AppCall.TheVariants as calls
 use Rattle.cmd_run.specs.State.{Setting, RunState}
 use Rattle.cmd_run.specs.Step.{line_step}
-use Rattle.cmd_run.specs.Closings.{world_behind}
+use Rattle.cmd_run.specs.Closings.{world_after}
 use Rattle.report_lines.specs.Line.{Told, told_visit, Shown, Command, Block, AreBytes, IsLong, byte_of, bytes_of, long_of, IsSeen, IsTold}
 use Rattle.report_lines.specs.Line.{IsShown, IsResult, AreBlocks}
 use Rattle.session_audit.specs.Laws.{AreSeen}
-use Rattle.session_audit.specs.Fits.{SlotLog, place_at, with_place, visits_told, is_none, behind_result, is_bad_number, with_behind}
-use Rattle.session_audit.specs.Fits.{behind_at, behind_block, fold_on, fold}
+use Rattle.session_audit.specs.Fits.{SlotLog, place_at, with_place, visits_told, is_none, after_result, is_bad_number, with_after}
+use Rattle.session_audit.specs.Fits.{after_at, after_block, fold_on, fold}
 use Rattle.laws_audit.specs.Report.{message_told, visit_told, missing_told, variable_told, receipt_told, filed_told, cleanups_told}
 use Rattle.laws_audit.specs.Report.{waited_told, variables_told, all_told, command_of, shown_of, blocks_by, reported}
 use Rattle.laws_audit.specs.Run.{blocks_asked, line_blocks, blocks_on, run_blocks, closing_blocks}
@@ -277,11 +277,11 @@ closings_formed players status front (opened h ∷ slots) w n is small =
     let within : length front + 1 < 2 ^ 32 = omega (arith, is, length-append front (opened h ∷ slots)) in (
       record {
         number = within;
-        told = filed_formed (names_of players) (world_behind players status h w).process.ledger.births
-            (drop (length w.process.ledger.filed) (world_behind players status h w).process.ledger.filed);
+        told = filed_formed (names_of players) (world_after players status h w).process.ledger.births
+            (drop (length w.process.ledger.filed) (world_after players status h w).process.ledger.filed);
         result = tt;
       },
-      closings_formed players status (front ++ closed h.room.conv ∷ []) slots (world_behind players status h w) n
+      closings_formed players status (front ++ closed h.room.conv ∷ []) slots (world_after players status h w) n
           (ap length (append_assoc front (closed h.room.conv ∷ []) slots) ∙ length-append front (closed h.room.conv ∷ slots)
           ∙ sym (length-append front (opened h ∷ slots)) ∙ is) small,
     )
@@ -297,17 +297,17 @@ module _ (stacks : Stacks) where
   SoMany n None = Unit {0}
   SoMany n (Some places) = length places ≡ n
 
-  behind_many : (places : List SlotLog) (number : ℕ) (next : Option SlotLog) → SoMany (length places) (with_behind stacks places number next)
-  behind_many places number (Some place) = with_length places number place
-  behind_many places number None = tt
+  after_many : (places : List SlotLog) (number : ℕ) (next : Option SlotLog) → SoMany (length places) (with_after stacks places number next)
+  after_many places number (Some place) = with_length places number place
+  after_many places number None = tt
 
   many_if : (b : Bool) (places : List SlotLog) → SoMany (length places) (if b then Some places else None)
   many_if true places = refl
   many_if false places = tt
 
-  at_many : (places : List SlotLog) (b : Block) (found : Option SlotLog) → SoMany (length places) (behind_at stacks places b found)
+  at_many : (places : List SlotLog) (b : Block) (found : Option SlotLog) → SoMany (length places) (after_at stacks places b found)
   at_many places b None = many_if (is_bad_number stacks b.result && is_none (visits_told b.told)) places
-  at_many places b (Some place) = behind_many places b.number (behind_result stacks place (visits_told b.told) b.result)
+  at_many places b (Some place) = after_many places b.number (after_result stacks place (visits_told b.told) b.result)
 
   on_many : (n : ℕ) (next : Option (List SlotLog)) (f : List SlotLog → Option (List SlotLog)) → SoMany n next
       → ((places : List SlotLog) → length places ≡ n → SoMany n (f places)) → SoMany n (fold_on stacks next f)
@@ -317,7 +317,7 @@ module _ (stacks : Stacks) where
   fold_many : (places : List SlotLog) (blocks : List Block) (n : ℕ) → length places ≡ n → SoMany n (fold stacks places blocks)
   fold_many places [] n is = is
   fold_many places (b ∷ blocks) n is =
-      on_many n (behind_block stacks places b) _ (subst (λ (m : ℕ). SoMany m (behind_block stacks places b)) is (at_many places b (place_at places b.number)))
+      on_many n (after_block stacks places b) _ (subst (λ (m : ℕ). SoMany m (after_block stacks places b)) is (at_many places b (place_at places b.number)))
       (λ next is'. fold_many next blocks n is')
 
   pub fold_length : (places : List SlotLog) (blocks : List Block) (next : List SlotLog) → fold stacks places blocks ≡ Some next → length next ≡ length places

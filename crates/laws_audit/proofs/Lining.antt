@@ -16,8 +16,8 @@ use Rattle.control_words.specs.declared.bracket.ControlFault.{ControlFault}
 use Rattle.control_words.specs.declared.control.Action.{Action}
 use Rattle.control_words.specs.conf_lex.specs.declared.token.Token.{Token}
 use Rattle.laws_audit.proofs.Naming.{OnGood, good_if, kept_good}
-use Rattle.service_load.specs.Files.{Held, absent, faulty, holds, all_fine, entries_of, held, is_absent, is_in_folder, plain_file, rules_held}
-use Rattle.service_load.specs.FirstFault.{Counts, Stop, absent_file, asked, behind, checked_rule, going_on, held_file, look, opened, stop}
+use Rattle.service_load.specs.Files.{Held, absent, faulty, holds, all_fine, entries_of, held, is_absent, is_in_directory, plain_file, rules_held}
+use Rattle.service_load.specs.FirstFault.{Counts, Stop, absent_file, asked, past_end, checked_rule, going_on, held_file, look, opened, stop}
 use Rattle.service_load.specs.Order.{Item, Opener, as_last, as_other, as_service, begin, by_rule, checked, content_items, entry_items}
 use Rattle.service_load.specs.Order.{file_items, items, items_of, made, opening, other_opener, tree_items, trees_items}
 use Rattle.service_load.specs.Tree.{content_nodes, entry_nodes, nodes, nodes_of, serves, tree_from, tree_of}
@@ -73,9 +73,9 @@ module _ (texts : List ℕ → Option (List ℕ)) (fails : List ℕ) where
   nothing_added c = stays c
 
   -- one item, and those after it
-  item_adds : (i : Item) (is : List Item) (m n : ℕ) → ((c : Counts) → Adds (behind texts fails c i) c.lines m) → AddsAll is n → AddsAll (i ∷ is) (m + n)
+  item_adds : (i : Item) (is : List Item) (m n : ℕ) → ((c : Counts) → Adds (past_end texts fails c i) c.lines m) → AddsAll is n → AddsAll (i ∷ is) (m + n)
   unfolding look
-  item_adds i is m n one rest c = both_add (behind texts fails c i) c.lines m n (λ d. look texts fails d is) (one c) rest
+  item_adds i is m n one rest c = both_add (past_end texts fails c i) c.lines m n (λ d. look texts fails d is) (one c) rest
 
   going_along : (first : Result Counts Stop) (xs ys : List Item) → ((c : Counts)
       → look texts fails c (xs ++ ys) ≡ going_on (look texts fails c xs) (λ d. look texts fails d ys))
@@ -86,7 +86,7 @@ module _ (texts : List ℕ → Option (List ℕ)) (fails : List ℕ) where
   look_on : (c : Counts) (xs ys : List Item) → look texts fails c (xs ++ ys) ≡ going_on (look texts fails c xs) (λ d. look texts fails d ys)
   unfolding look
   look_on c [] ys = refl
-  look_on c (x ∷ xs) ys = going_along (behind texts fails c x) xs ys (λ d. look_on d xs ys)
+  look_on c (x ∷ xs) ys = going_along (past_end texts fails c x) xs ys (λ d. look_on d xs ys)
 
   all_add : (xs ys : List Item) (m n : ℕ) → AddsAll xs m → AddsAll ys n → AddsAll (xs ++ ys) (m + n)
   all_add xs ys m n a b c = rw (look_on c xs ys) (both_add (look texts fails c xs) c.lines m n (λ d. look texts fails d ys) (a c) b)
@@ -107,13 +107,13 @@ module _ (texts : List ℕ → Option (List ℕ)) (fails : List ℕ) where
   held_adds c file opener (faulty fault) = tt
   held_adds c file opener (holds rules) = stays c
 
-  opening_adds : (file : _) (level : ℕ) (opener : Opener) (c : Counts) → Adds (behind texts fails c (opening file level opener)) c.lines 0
+  opening_adds : (file : _) (level : ℕ) (opener : Opener) (c : Counts) → Adds (past_end texts fails c (opening file level opener)) c.lines 0
   opening_adds file level opener c =
       adds_if (nat_lt 16 level) _ _ c.lines 0 (λ e. tt)
       (λ e. adds_if (nat_le 256 c.openings) _ _ c.lines 0 (λ f. tt)
       (λ f. adds_if (fails_next c.calls fails) _ _ c.lines 0 (λ g. tt) (λ g. held_adds (asked c) file opener (held texts file))))
 
-  made_adds : (name : List ℕ) (n : ℕ) (c : Counts) → Adds (behind texts fails c (made name n)) c.lines 1
+  made_adds : (name : List ℕ) (n : ℕ) (c : Counts) → Adds (past_end texts fails c (made name n)) c.lines 1
   made_adds name n c =
       adds_if (nat_le 4096 c.lines) _ _ c.lines 1 (λ e. tt) (λ e. (refl, λ few. let below : c.lines < 4096 = grind (arith, nat_tests) in omega arith))
 
@@ -125,11 +125,11 @@ module _ (texts : List ℕ → Option (List ℕ)) (fails : List ℕ) where
   rule_adds name at (Err kind) fine rest xs n c a = tt
 
   rules_add : (file : _) (xs : List Item) (n : ℕ) → AddsAll xs n → (rules : List RawRule)
-      → AddsAll (map (checked file) rules ++ cond (all_fine (is_in_folder file) rules) xs []) n
+      → AddsAll (map (checked file) rules ++ cond (all_fine (is_in_directory file) rules) xs []) n
   unfolding look
   rules_add file xs n a [] c = a c
   rules_add file xs n a (r ∷ rs) c =
-      rule_adds file.name r.line (entry_of (is_in_folder file) r) (all_fine (is_in_folder file) rs) (map (checked file) rs) xs n c (rules_add file xs n a rs)
+      rule_adds file.name r.line (entry_of (is_in_directory file) r) (all_fine (is_in_directory file) rs) (map (checked file) rs) xs n c (rules_add file xs n a rs)
 
   items_if : (b : Bool) (xs : List Item) (s : Stack) → AddsAll xs (lines_in s) → AddsAll (cond b xs []) (lines_in (cond b s none))
   items_if true xs s a = a
@@ -153,16 +153,16 @@ module _ (texts : List ℕ → Option (List ℕ)) (fails : List ℕ) (type : Rul
   control_adds silent (Ok control) (t ∷ ts) = λ name n. as_line name n
   control_adds silent (Err fault) ts = tt
 
-  behind_adds : (silent : Bool) (ts : List Token)
+  after_adds : (silent : Bool) (ts : List Token)
       → OnGood (λ c. (name : List ℕ) (n : ℕ) → AddsAll texts fails (content_items deeper name n c) (lines_in (content_nodes stacks c))) (after_type silent ts)
-  behind_adds silent [] = tt
-  behind_adds silent (t ∷ []) =
+  after_adds silent [] = tt
+  after_adds silent (t ∷ []) =
       good_if (λ c. (name : List ℕ) (n : ℕ) → AddsAll texts fails (content_items deeper name n c) (lines_in (content_nodes stacks c)))
       (is_word (codes "include") t) _ _ tt
       (good_if (λ c. (name : List ℕ) (n : ℕ) → AddsAll texts fails (content_items deeper name n c) (lines_in (content_nodes stacks c)))
       (is_word (codes "substack") t) _ _ tt
       (control_adds silent (control_of t.bracketed t.text) []))
-  behind_adds silent (t ∷ u ∷ us) =
+  after_adds silent (t ∷ u ∷ us) =
       good_if (λ c. (name : List ℕ) (n : ℕ) → AddsAll texts fails (content_items deeper name n c) (lines_in (content_nodes stacks c)))
       (is_word (codes "include") t) _ _
       (λ name n. adds (by_rule name n) (named_file u.text))
@@ -181,12 +181,12 @@ module _ (texts : List ℕ → Option (List ℕ)) (fails : List ℕ) (type : Rul
   typed_adds : (n : ℕ) (field : Option _) (ts : List Token)
       → OnGood (λ e. (name : List ℕ) → AddsAll texts fails (entry_items deeper type name e) (lines_in (entry_nodes stacks type e))) (with_type n field ts)
   typed_adds n None ts = tt
-  typed_adds n (Some field) ts = entry_adds n (Some field.rule_type) (after_type field.silent ts) (behind_adds field.silent ts)
+  typed_adds n (Some field) ts = entry_adds n (Some field.rule_type) (after_type field.silent ts) (after_adds field.silent ts)
 
-  tokens_add : (n : ℕ) (in_folder : Bool) (ts : List Token)
+  tokens_add : (n : ℕ) (in_directory : Bool) (ts : List Token)
       → OnGood (λ e. (name : List ℕ) → AddsAll texts fails (entry_items deeper type name e) (lines_in (entry_nodes stacks type e)))
-      (entry_of_tokens n in_folder ts)
-  tokens_add n in_folder [] = tt
+      (entry_of_tokens n in_directory ts)
+  tokens_add n in_directory [] = tt
   tokens_add n true (t ∷ []) =
       good_if (λ e. (name : List ℕ) → AddsAll texts fails (entry_items deeper type name e) (lines_in (entry_nodes stacks type e)))
       (is_word (codes "@include") t) _ _ tt
@@ -197,19 +197,19 @@ module _ (texts : List ℕ → Option (List ℕ)) (fails : List ℕ) (type : Rul
       (λ name. adds (by_rule name n) (named_file u.text)) (typed_adds n (type_field_of t) (u ∷ us))
   tokens_add n false (t ∷ ts) = typed_adds n (type_field_of t) ts
 
-  rule_is_counted : (in_folder : Bool) (r : RawRule)
-      → OnGood (λ e. (name : List ℕ) → AddsAll texts fails (entry_items deeper type name e) (lines_in (entry_nodes stacks type e))) (entry_of in_folder r)
+  rule_is_counted : (in_directory : Bool) (r : RawRule)
+      → OnGood (λ e. (name : List ℕ) → AddsAll texts fails (entry_items deeper type name e) (lines_in (entry_nodes stacks type e))) (entry_of in_directory r)
   unfolding entry_of
-  rule_is_counted in_folder r = tokens_add r.line in_folder r.tokens
+  rule_is_counted in_directory r = tokens_add r.line in_directory r.tokens
 
-  rules_are_counted : (in_folder : Bool) (rules : List RawRule)
+  rules_are_counted : (in_directory : Bool) (rules : List RawRule)
       → AllByRecursion (λ e. (name : List ℕ) → AddsAll texts fails (entry_items deeper type name e) (lines_in (entry_nodes stacks type e)))
-      (entries_of in_folder rules)
-  rules_are_counted in_folder [] = tt
-  rules_are_counted in_folder (r ∷ rs) =
-      kept_good (λ e. (name : List ℕ) → AddsAll texts fails (entry_items deeper type name e) (lines_in (entry_nodes stacks type e))) (entry_of in_folder r)
-      (entries_of in_folder rs)
-      (rule_is_counted in_folder r) (rules_are_counted in_folder rs)
+      (entries_of in_directory rules)
+  rules_are_counted in_directory [] = tt
+  rules_are_counted in_directory (r ∷ rs) =
+      kept_good (λ e. (name : List ℕ) → AddsAll texts fails (entry_items deeper type name e) (lines_in (entry_nodes stacks type e))) (entry_of in_directory r)
+      (entries_of in_directory rs)
+      (rule_is_counted in_directory r) (rules_are_counted in_directory rs)
 
   entries_add : (name : List ℕ) (es : _) → AllByRecursion (λ e. (name : List ℕ)
       → AddsAll texts fails (entry_items deeper type name e) (lines_in (entry_nodes stacks type e))) es
@@ -221,10 +221,10 @@ module _ (texts : List ℕ → Option (List ℕ)) (fails : List ℕ) (type : Rul
       (all_add texts fails (entry_items deeper type name e) (items_of deeper type name es) _ _ (a.0 name) (entries_add name es a.1))
 
   file_adds : (file : _) (rules : List RawRule)
-      → AddsAll texts fails (file_items deeper type file rules) (lines_in (nodes_of stacks type (entries_of (is_in_folder file) rules)))
+      → AddsAll texts fails (file_items deeper type file rules) (lines_in (nodes_of stacks type (entries_of (is_in_directory file) rules)))
   file_adds file rules =
-      rules_add texts fails file (items_of deeper type file.name (entries_of (is_in_folder file) rules)) _
-      (entries_add file.name (entries_of (is_in_folder file) rules) (rules_are_counted (is_in_folder file) rules)) rules
+      rules_add texts fails file (items_of deeper type file.name (entries_of (is_in_directory file) rules)) _
+      (entries_add file.name (entries_of (is_in_directory file) rules) (rules_are_counted (is_in_directory file) rules)) rules
 
 module _ (texts : List ℕ → Option (List ℕ)) (fails : List ℕ) where
   items_add : (levels : ℕ) (type : RuleType) (opener : Opener) (file : _)
@@ -235,7 +235,7 @@ module _ (texts : List ℕ → Option (List ℕ)) (fails : List ℕ) where
       (item_adds texts fails (opening file 17 opener) [] 0 0 (opening_adds texts fails file 17 opener) (nothing_added texts fails))
   items_add (suc levels) type opener file =
       let stacks : List ℕ → Stack = λ name. nodes texts levels type (plain_file name) in
-      let n : ℕ = lines_in (nodes_of stacks type (entries_of (is_in_folder file) (rules_held (held texts file)))) in
+      let n : ℕ = lines_in (nodes_of stacks type (entries_of (is_in_directory file) (rules_held (held texts file)))) in
       same_number texts fails (opening file (16 - levels) opener ∷ file_items (items texts levels type) type file (rules_held (held texts file))) (0 + n) n
       (omega arith)
       (item_adds texts fails (opening file (16 - levels) opener) (file_items (items texts levels type) type file (rules_held (held texts file))) 0 n

@@ -8,7 +8,7 @@ use Rattle.control_words.specs.conf_lex.specs.Reading.{pieces_of}
 use Rattle.control_words.specs.Stack.{Stack, lines_in}
 use Rattle.service_load.specs.Files.{service_file}
 use Rattle.service_load.specs.FirstFault.{Counts, Stop, look}
-use Rattle.service_load.specs.Load.{has_folder, loaded, loaded_from}
+use Rattle.service_load.specs.Load.{directory_exists, loaded, loaded_from}
 use Rattle.service_load.specs.Loading.{texts_of}
 use Rattle.service_load.specs.Order.{order, trees_items}
 use Rattle.service_load.specs.RuleType.{all_types}
@@ -34,10 +34,10 @@ module _ (reading : (text : List ℕ) → IsReading text (pieces_of text)) where
       (of_bytes : AllByRecursion (λ (f : File). AllByRecursion (λ (b : ℕ). b < 256) f.bytes) vault.files)
       → loaded vault root service ≡ Ok counts → ArePrintable (stacks_under vault root service)
   under_printable vault root service counts of_bytes e =
-      let own = service_file (has_folder vault root) service in
-      let other = service_file (has_folder vault root) (codes "other") in
+      let own = service_file (directory_exists vault root) service in
+      let other = service_file (directory_exists vault root) (codes "other") in
       let begun : Counts = record { calls = next_count vault.calls; openings = 0; lines = 0 } in
-      let read : loaded_from (has_folder vault root) vault root service (next_count vault.calls) ≡ Ok counts = by_failing (is_failing vault) _ _ counts e in
+      let read : loaded_from (directory_exists vault root) vault root service (next_count vault.calls) ≡ Ok counts = by_failing (is_failing vault) _ _ counts e in
       let few = trees_fit (texts_of root vault) vault.fails own other all_types begun counts read in
       let named = λ (type : RuleType). tree_named reading (texts_of root vault) (texts_of_bytes root vault.files of_bytes) own other type in
       record {

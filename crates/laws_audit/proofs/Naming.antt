@@ -15,7 +15,7 @@ use Rattle.control_words.specs.conf_lex.specs.Piece.{join, plain, bracket, open_
 use Rattle.control_words.specs.conf_lex.specs.Piece.{piece_tokens, spelling, tokens_of}
 use Rattle.control_words.specs.conf_lex.specs.Piece as pieces
 use Rattle.control_words.specs.conf_lex.specs.Reading.{pieces_of}
-use Rattle.control_words.specs.conf_lex.specs.Rules.{JoinedLine, first_fault, in_front, line_rules, lines_of_pieces, newlines, numbered, rule_at}
+use Rattle.control_words.specs.conf_lex.specs.Rules.{JoinedLine, first_fault, put_before, line_rules, lines_of_pieces, newlines, numbered, rule_at}
 use Rattle.control_words.specs.conf_lex.specs.declared.token.LexFault.{LexFault}
 use Rattle.control_words.specs.conf_lex.specs.declared.token.RawRule.{RawRule}
 use Rattle.control_words.specs.conf_lex.specs.declared.token.Token.{Token}
@@ -27,7 +27,7 @@ use Rattle.control_words.specs.declared.bracket.ControlFault.{ControlFault}
 use Rattle.control_words.specs.declared.control.Action.{Action}
 use Rattle.service_load.specs.Entry.{after_type, entry_at, entry_of, entry_of_tokens, named_file, with_control, with_type}
 use Rattle.service_load.specs.Files.{Held, absent, faulty, holds, entries_of, held, held_answer, held_for, held_in_conf, held_text}
-use Rattle.service_load.specs.Files.{is_in_folder, own_rule, own_rules, plain_file, rule_without, rules_held}
+use Rattle.service_load.specs.Files.{is_in_directory, own_rule, own_rules, plain_file, rule_without, rules_held}
 use Rattle.service_load.specs.RuleType.{is_word, type_field_of}
 use Rattle.service_load.specs.Tree.{content_nodes, entry_nodes, nodes, nodes_of, serves, tree_from, tree_of}
 use Rattle.service_load.specs.declared.rule_type.RuleType.{RuleType}
@@ -98,12 +98,12 @@ abbrev pub IsLine : JoinedLine → Type 0
 IsLine l = AllByRecursion IsPiece l.pieces
 
 front_of_bytes : (p : Piece) (ls : List (List Piece)) → IsPiece p → AllByRecursion (AllByRecursion IsPiece) ls
-    → AllByRecursion (AllByRecursion IsPiece) (in_front p ls)
+    → AllByRecursion (AllByRecursion IsPiece) (put_before p ls)
 front_of_bytes p [] a b = ((a, tt), tt)
 front_of_bytes p (l ∷ ls) a b = ((a, b.0), b.1)
 
 line_if : (b : Bool) (p : Piece) (ls : List (List Piece)) → IsPiece p → AllByRecursion (AllByRecursion IsPiece) ls
-    → AllByRecursion (AllByRecursion IsPiece) (cond b ([] ∷ ls) (in_front p ls))
+    → AllByRecursion (AllByRecursion IsPiece) (cond b ([] ∷ ls) (put_before p ls))
 line_if true p ls a c = (tt, c)
 line_if false p ls a c = front_of_bytes p ls a c
 
@@ -253,12 +253,12 @@ module _ (deeper : List ℕ → Stack) (named : (name : List ℕ) → AreNamed (
   control_named silent (Ok control) (t ∷ ts) a = (name_of_bytes t.text a.0, tt)
   control_named silent (Err fault) ts a = tt
 
-  behind_named : (silent : Bool) (ts : List Token) → AllByRecursion IsToken ts → OnGood (λ c. AreNamed (content_nodes deeper c)) (after_type silent ts)
-  behind_named silent [] a = tt
-  behind_named silent (t ∷ []) a =
+  after_named : (silent : Bool) (ts : List Token) → AllByRecursion IsToken ts → OnGood (λ c. AreNamed (content_nodes deeper c)) (after_type silent ts)
+  after_named silent [] a = tt
+  after_named silent (t ∷ []) a =
       good_if (λ c. AreNamed (content_nodes deeper c)) (is_word (codes "include") t) _ _ tt
       (good_if (λ c. AreNamed (content_nodes deeper c)) (is_word (codes "substack") t) _ _ tt (control_named silent (control_of t.bracketed t.text) [] tt))
-  behind_named silent (t ∷ u ∷ us) a =
+  after_named silent (t ∷ u ∷ us) a =
       good_if (λ c. AreNamed (content_nodes deeper c)) (is_word (codes "include") t) _ _ (named (named_file u.text))
       (good_if (λ c. AreNamed (content_nodes deeper c)) (is_word (codes "substack") t) _ _ (named (named_file u.text), tt)
       (control_named silent (control_of t.bracketed t.text) (u ∷ us) a.1))
@@ -271,11 +271,11 @@ module _ (deeper : List ℕ → Stack) (named : (name : List ℕ) → AreNamed (
   typed_named : (n : ℕ) (field : Option _) (ts : List Token) → AllByRecursion IsToken ts
       → OnGood (λ e. AreNamed (entry_nodes deeper type e)) (with_type n field ts)
   typed_named n None ts a = tt
-  typed_named n (Some field) ts a = entry_named n (Some field.rule_type) (after_type field.silent ts) (behind_named field.silent ts a)
+  typed_named n (Some field) ts a = entry_named n (Some field.rule_type) (after_type field.silent ts) (after_named field.silent ts a)
 
-  tokens_named : (n : ℕ) (in_folder : Bool) (ts : List Token) → AllByRecursion IsToken ts
-      → OnGood (λ e. AreNamed (entry_nodes deeper type e)) (entry_of_tokens n in_folder ts)
-  tokens_named n in_folder [] a = tt
+  tokens_named : (n : ℕ) (in_directory : Bool) (ts : List Token) → AllByRecursion IsToken ts
+      → OnGood (λ e. AreNamed (entry_nodes deeper type e)) (entry_of_tokens n in_directory ts)
+  tokens_named n in_directory [] a = tt
   tokens_named n true (t ∷ []) a = good_if (λ e. AreNamed (entry_nodes deeper type e)) (is_word (codes "@include") t) _ _ tt
       (typed_named n (type_field_of t) [] tt)
   tokens_named n true (t ∷ u ∷ us) a =
@@ -283,16 +283,16 @@ module _ (deeper : List ℕ → Stack) (named : (name : List ℕ) → AreNamed (
       (typed_named n (type_field_of t) (u ∷ us) a.1)
   tokens_named n false (t ∷ ts) a = typed_named n (type_field_of t) ts a.1
 
-  rule_named : (in_folder : Bool) (r : RawRule) → IsRule r → OnGood (λ e. AreNamed (entry_nodes deeper type e)) (entry_of in_folder r)
+  rule_named : (in_directory : Bool) (r : RawRule) → IsRule r → OnGood (λ e. AreNamed (entry_nodes deeper type e)) (entry_of in_directory r)
   unfolding entry_of
-  rule_named in_folder r a = tokens_named r.line in_folder r.tokens a
+  rule_named in_directory r a = tokens_named r.line in_directory r.tokens a
 
-  rules_named : (in_folder : Bool) (rules : List RawRule) → AllByRecursion IsRule rules
-      → AllByRecursion (λ e. AreNamed (entry_nodes deeper type e)) (entries_of in_folder rules)
-  rules_named in_folder [] a = tt
-  rules_named in_folder (r ∷ rs) a =
-      kept_good (λ e. AreNamed (entry_nodes deeper type e)) (entry_of in_folder r) (entries_of in_folder rs) (rule_named in_folder r a.0)
-      (rules_named in_folder rs a.1)
+  rules_named : (in_directory : Bool) (rules : List RawRule) → AllByRecursion IsRule rules
+      → AllByRecursion (λ e. AreNamed (entry_nodes deeper type e)) (entries_of in_directory rules)
+  rules_named in_directory [] a = tt
+  rules_named in_directory (r ∷ rs) a =
+      kept_good (λ e. AreNamed (entry_nodes deeper type e)) (entry_of in_directory r) (entries_of in_directory rs) (rule_named in_directory r a.0)
+      (rules_named in_directory rs a.1)
 
   entries_named : (es : _) → AllByRecursion (λ e. AreNamed (entry_nodes deeper type e)) es → AreNamed (nodes_of deeper type es)
   entries_named [] a = tt
@@ -307,8 +307,8 @@ module _ (reading : (text : List ℕ) → IsReading text (pieces_of text)) (text
       let deeper : List ℕ → Stack = λ name. nodes texts levels type (plain_file name) in
       let named : (name : List ℕ) → AreNamed (deeper name) = λ name. nodes_named levels type (plain_file name) in
       let rules : List RawRule = rules_held (held texts file) in
-      entries_named deeper named type (entries_of (is_in_folder file) rules)
-      (rules_named deeper named type (is_in_folder file) rules (by_text reading file.service (texts file.name) (of_bytes file.name)))
+      entries_named deeper named type (entries_of (is_in_directory file) rules)
+      (rules_named deeper named type (is_in_directory file) rules (by_text reading file.service (texts file.name) (of_bytes file.name)))
 
   pub tree_named : (own : _) (other : _) (type : RuleType) → AreNamed (tree_from texts own other type)
   tree_named own other type = named_if (count (nodes texts 17 type own) == 0) _ _ (nodes_named 17 type other) (nodes_named 17 type own)

@@ -37,7 +37,7 @@ use Rattle.report_step.specs.Step.{step_text}
 use Rattle.cmd_run.specs.State.{Setting, RunState}
 use Rattle.cmd_run.specs.Step.{applied_or_refused, line_step}
 use Rattle.report_lines.specs.Line.{Block, Shown, block_text, blocks_text}
-use Rattle.session_audit.specs.Fits.{SlotLog, fold_on, fold, behind_block}
+use Rattle.session_audit.specs.Fits.{SlotLog, fold_on, fold, after_block}
 use Rattle.session_audit.specs.Sound.{AreSound}
 use Rattle.session_audit.proofs.Sound.{folds_sound}
 use Rattle.laws_audit.specs.Report.{shown_of, all_told, command_of, blocks_by, reported}
@@ -153,7 +153,7 @@ by_first stacks (Some places) one two next each is = each places is
 pub fold-append : (stacks : Stacks) (places : List SlotLog) (one two : List Block) (next : List SlotLog) → fold stacks places one ≡ Some next
     → fold stacks places (one ++ two) ≡ fold stacks next two
 fold-append stacks places [] two next is = let e : places ≡ next = cc in ap (λ (x : List SlotLog). fold stacks x two) e
-fold-append stacks places (b ∷ one) two next is = by_first stacks (behind_block stacks places b) one two next
+fold-append stacks places (b ∷ one) two next is = by_first stacks (after_block stacks places b) one two next
     (λ first is'. fold-append stacks first one two next is') is
 
 module _ (by : ByRemainders) (setting : Setting) (stacks : Stacks) where
@@ -196,12 +196,12 @@ module _ (by : ByRemainders) (setting : Setting) (stacks : Stacks) where
       let none : blocks ++ [] ≡ [] = append-nil blocks ∙ fits in
       record { fits = ap (λ (bs : List Block). fold stacks (places_of s.slots) bs) none; text = ap blocks_text none }
   lines_on n s (Ok x) blocks next rest Along fits sound have each =
-      let behind : LinesFit x.0 (next x.0) (rest x.0) = each x.0 have.0
+      let past_end : LinesFit x.0 (next x.0) (rest x.0) = each x.0 have.0
       (folds_sound stacks (places_of s.slots) blocks (places_of x.0.slots) sound fits.0) have.1 in
       record {
-        fits = fold-append stacks (places_of s.slots) blocks (rest x.0) (places_of x.0.slots) fits.0 ∙ behind.fits;
+        fits = fold-append stacks (places_of s.slots) blocks (rest x.0) (places_of x.0.slots) fits.0 ∙ past_end.fits;
         text = flat_map-append block_text blocks (rest x.0) ∙ ap (λ (t : List ℕ). t ++ blocks_text (rest x.0)) fits.1
-            ∙ ap (λ (t : List ℕ). x.1 ++ t) behind.text;
+            ∙ ap (λ (t : List ℕ). x.1 ++ t) past_end.text;
       }
 
   pub lines_fit : (n : ℕ) (s : RunState) (ls : List (List ℕ)) → HaveStacks stacks s.slots → AreSound stacks (places_of s.slots)

@@ -49,7 +49,7 @@ use Rattle.report_lines.specs.Line.{block_of, answered as answers_with}
 use Rattle.dispatch_core.specs.Calls.{Held, nothing_held, Went, went, goes}
 use Rattle.pass_replay.specs.Replay.{as_told}
 use Rattle.session_audit.specs.Fits.{SlotLog, shut, running, place_at, with_place, visits_told, is_none, same_code, only_if}
-use Rattle.session_audit.specs.Fits.{is_refused_change, behind_call, at_call, behind_result, with_behind, behind_at, behind_block, fold_on}
+use Rattle.session_audit.specs.Fits.{is_refused_change, past_call, at_call, after_result, with_after, after_at, after_block, fold_on}
 use Rattle.session_audit.specs.Fits.{fold, aborted_by}
 use Rattle.session_audit.specs.Sound.{Asks, IsSound, AreSound}
 use Rattle.session_audit.specs.Laws.{Retold}
@@ -156,7 +156,7 @@ module _ (stacks : Stacks) where
   -- what a result is shown as leads to a place; what isn't shown leaves it
   abbrev FitsBy : SlotLog → List Seen → Command → Option Shown → SlotLog → Type 0
   FitsBy place vs command None next = next ≡ place
-  FitsBy place vs command (Some shown) next = behind_result stacks place vs (answers_with command shown) ≡ Some next
+  FitsBy place vs command (Some shown) next = after_result stacks place vs (answers_with command shown) ≡ Some next
 
   abbrev SlotFits : SlotLog → Command → SlotStepped → Type 0
   SlotFits place command s = FitsBy place (map seen_of s.outcome.trail) command (shown_of s.outcome.answer) (place_of s.slot)
@@ -218,16 +218,16 @@ module _ (stacks : Stacks) where
   at_call_if false true x y is is' = absurd (true≢false is')
   at_call_if false false x y is is' = refl
 
-  retold_is : (code : Code) (h : Held) → behind_call code (went code h (telling [])) ≡ Some (running h)
+  retold_is : (code : Code) (h : Held) → past_call code (went code h (telling [])) ≡ Some (running h)
   retold_is code h = ap (λ (b : Bool). only_if b (running h)) (same_code-refl code)
 
   call_fits : (func : Func) (code : Code) (vs : List Seen) (h next : Held) → goes as_told stacks func h (telling vs) ≡ went code next (telling [])
       → Asks stacks h h.pending → is_other_pending h.pending func ≡ false → at_call stacks func code vs h ≡ Some (running next)
   call_fits func code vs h next is asks own =
       at_call_if (is_refused_change func code vs) (is_other_pending h.pending func) (Some (running h))
-      (behind_call code (goes as_told stacks func h (telling vs)))
+      (past_call code (goes as_told stacks func h (telling vs)))
       (isnt_refused func code vs h (went code next (telling [])) is refl refl asks own) own
-      ∙ ap (behind_call code) is ∙ retold_is code next
+      ∙ ap (past_call code) is ∙ retold_is code next
 
 module _ (players : List Player) (number_of : Code → ℕ → ℕ) (stacks : Stacks) where
   ran_fits : (func : Func) (flags : ℕ) (h : PlainHandle) (w : PlainWorld) → h.stacks ≡ stacks → h.room.transaction.trail ≡ []
@@ -327,8 +327,8 @@ module _ (players : List Player) (number_of : Code → ℕ → ℕ) (stacks : St
 
   -- ---- one step
 
-  on_behind : (places next : List SlotLog) (b : Block) → behind_block stacks places b ≡ Some next → fold stacks places (b ∷ []) ≡ Some next
-  on_behind places next b is = ap (λ (x : Option (List SlotLog)). fold_on stacks x (λ behind. fold stacks behind [])) is
+  on_after : (places next : List SlotLog) (b : Block) → after_block stacks places b ≡ Some next → fold stacks places (b ∷ []) ≡ Some next
+  on_after places next b is = ap (λ (x : Option (List SlotLog)). fold_on stacks x (λ past_end. fold stacks past_end [])) is
 
   -- what is shown of a step on a place that is there
   shown_fits : (slots : List PlainSlot) (number : ℕ) (call : AppCall) (slot : PlainSlot) (s : SlotStepped) (told : List Told) (shown : Option Shown)
@@ -340,9 +340,9 @@ module _ (players : List Player) (number_of : Code → ℕ → ℕ) (stacks : St
       ∙ ap (with_place (places_of slots) number) (sym is) ∙ with_place-of slots number s.slot)
   shown_fits slots number call slot s told (Some shown) there vs is =
       let b : Block = block_of number told (answers_with (command_of call) shown) in
-      on_behind (places_of slots) (places_of (with_slot slots number s.slot)) b
-      (ap (behind_at stacks (places_of slots) b) (place_at-of slots number ∙ ap (option_map place_of) there)
-      ∙ ap (with_behind stacks (places_of slots) number) (ap (λ (xs : List Seen). behind_result stacks (place_of slot) xs
+      on_after (places_of slots) (places_of (with_slot slots number s.slot)) b
+      (ap (after_at stacks (places_of slots) b) (place_at-of slots number ∙ ap (option_map place_of) there)
+      ∙ ap (with_after stacks (places_of slots) number) (ap (λ (xs : List Seen). after_result stacks (place_of slot) xs
       (answers_with (command_of call) shown)) vs ∙ is)
       ∙ ap (λ (x : List SlotLog). Some x) (with_place-of slots number s.slot))
 
@@ -374,8 +374,8 @@ module _ (players : List Player) (number_of : Code → ℕ → ℕ) (stacks : St
       let s : Stepped = stepped_at players number_of slots w step.number step.call None in
       let told : List Told = all_told (names_of players) s.outcome s.world.process.ledger in
       let b : Block = block_of step.number told (answers_with (command_of step.call) shows_bad_number) in
-      on_behind (places_of slots) (places_of slots) b
-      (ap (behind_at stacks (places_of slots) b) (place_at-of slots step.number ∙ ap (option_map place_of) there)
+      on_after (places_of slots) (places_of slots) b
+      (ap (after_at stacks (places_of slots) b) (place_at-of slots step.number ∙ ap (option_map place_of) there)
       ∙ ap (λ (xs : List Seen). if is_none xs then Some (places_of slots) else None) (block_visits (names_of players) s.outcome s.world.process.ledger))
   found_fits slots w step (Some slot) there have sound =
       let s : SlotStepped = slot_step players number_of step.number slot w step.call in

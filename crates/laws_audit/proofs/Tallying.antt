@@ -12,7 +12,7 @@ use Rattle.pam_library.specs.Plays.{Asked, AskedLine, LineLeads, LinesLead, answ
 use Rattle.mod_tally.specs.Faillock.{faillock_plays, new_failure}
 use Rattle.mod_tally.specs.declared.tally.Failure.{Failure}
 use Rattle.mod_tally.specs.Tally.{IsFailure}
-use Rattle.mod_tally.specs.Recorded.{Deed, Does, Follow, IsWith, Served, cleared, deeds_of, left, recorded, failures_on_file, stands_by}
+use Rattle.mod_tally.specs.Recorded.{Deed, Does, Follow, IsWith, Served, cleared, deeds_of, left, recorded, failures_on_file, failures_by}
 use Rattle.laws_audit.specs.Tallied.{CanRecord, CanRecordIf, FaillockAloneWrites, IsTallied, IsText, LeavesFile, LeavesFileIf, TalliedLine}
 use Rattle.laws_audit.specs.Tallied.{Tallies, calls_in, counted, line_in, passed_by}
 
@@ -107,7 +107,7 @@ module _ (path : List ℕ) (players : List Player) (alone : FaillockAloneWrites 
 
   pub tallies : ((path : List ℕ) (interval : ℕ) (calls : List Served) (before after : Option (List ℕ)) (failures : List Failure)
       → Follow path before calls after → AllByRecursion (IsWith interval) (deeds_of calls)
-      → failures_on_file before ≡ Some failures → failures_on_file after ≡ Some (stands_by interval (deeds_of calls) failures))
+      → failures_on_file before ≡ Some failures → failures_on_file after ≡ Some (failures_by interval (deeds_of calls) failures))
       → (before : List File) (asked : List AskedLine) (last : List File) → LinesLead players before asked last → Tallies path players before asked last
   tallies all before asked last leads =
       let l = lines_led asked before last leads in
@@ -116,6 +116,6 @@ module _ (path : List ℕ) (players : List Player) (alone : FaillockAloneWrites 
         lines_are = l.lines_are;
         each = l.each;
         follow = l.follow;
-        stands_by_deeds = λ interval failures one stood. all path interval (calls_in l.lines) _ _ failures l.follow one stood;
+        failures_by_deeds = λ interval failures one stood. all path interval (calls_in l.lines) _ _ failures l.follow one stood;
         stands = λ interval failures can stood. all path interval (calls_in l.lines) _ _ failures l.follow (l.with_one interval can) stood;
       }

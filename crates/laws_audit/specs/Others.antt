@@ -50,7 +50,7 @@ pub record IsApart (folder : List ℕ) : Type 0 where
   pub rooted : is_rooted folder ≡ true
   pub above : List ℕ
   pub last : List ℕ
-  pub folder_is : folder ≡ above ++ 47 ∷ last
+  pub directory_is : folder ≡ above ++ 47 ∷ last
   pub part : IsPart last
   pub not_etc : last ≢ codes "etc"
   pub not_security : last ≢ codes "security"

@@ -24,7 +24,7 @@ use Rattle.pam_library.specs.Step.{Stepped, stepped}
 use Rattle.pam_outside.specs.Streams.{SourceState, SinkState}
 use Rattle.cmd_run.specs.State.{Setting, RunState}
 use Rattle.cmd_run.specs.Step.{line_step}
-use Rattle.cmd_run.specs.Closings.{world_behind}
+use Rattle.cmd_run.specs.Closings.{world_after}
 use Rattle.cmd_run.specs.Whole.{EndsAs, RunsScript, ending_status}
 use Rattle.report_lines.specs.Line.{long_of, Block, Last, unread, refused_at}
 use Rattle.session_audit.specs.Fits.{Fits, all_shut}
@@ -87,8 +87,8 @@ abbrev pub closing_blocks : List Player → Code → List PlainSlot → List Pla
 closing_blocks players status front [] w = []
 closing_blocks players status front (closed conv ∷ slots) w = closing_blocks players status (front ++ closed conv ∷ []) slots w
 closing_blocks players status front (opened h ∷ slots) w =
-    closing_reported (names_of players) (length front + 1) status (world_behind players status h w).process.ledger (length w.process.ledger.filed)
-    ∷ closing_blocks players status (front ++ closed h.room.conv ∷ []) slots (world_behind players status h w)
+    closing_reported (names_of players) (length front + 1) status (world_after players status h w).process.ledger (length w.process.ledger.filed)
+    ∷ closing_blocks players status (front ++ closed h.room.conv ∷ []) slots (world_after players status h w)
 
 abbrev pub last_of : Ending → ℕ → Option Last
 last_of Done n = None

@@ -7,7 +7,7 @@ use Rattle.pam_room.specs.Module.{NamedData, Player, Plays, SeenRoom, Sight}
 use Rattle.pam_library.specs.Plays.{Asked, AskedLine, answer_of, module_of_path}
 use Rattle.mod_tally.specs.declared.tally.Failure.{Failure}
 use Rattle.mod_tally.specs.Faillock.{faillock_plays}
-use Rattle.mod_tally.specs.Recorded.{Follow, IsWith, Served, deeds_of, played, failures_on_file, stands_by}
+use Rattle.mod_tally.specs.Recorded.{Follow, IsWith, Served, deeds_of, played, failures_on_file, failures_by}
 use Rattle.mod_tally.specs.Settings.{settings_of}
 
 -- no call of the module changes the file with this path
@@ -80,7 +80,7 @@ CanRecordIf interval players a = (p : Player) → module_of_path players a.visit
 
 -- These lines lead the file from its state in some files to that in others: each line run is one of pam_faillock, and
 -- its call finds the file as the one before left it, or its module leaves the file. If the failures
--- that these calls record have one `fail_interval` and can be written (`stands_by_deeds`), as they do
+-- that these calls record have one `fail_interval` and can be written (`failures_by_deeds`), as they do
 -- if each line of pam_faillock has it and can record (`stands`), the file is as at the start if
 -- nothing was written, and otherwise has the failures that count among those recorded since they were
 -- last cleared.
@@ -90,13 +90,13 @@ pub record Tallies (path : List ℕ) (players : List Player) (before : List File
   pub lines_are : map line_in lines ≡ asked
   pub each : AllByRecursion (IsTallied path players) lines
   pub follow : Follow path (file_at path before) (calls_in lines) (file_at path after)
-  pub stands_by_deeds : (interval : ℕ) (failures : List Failure)
+  pub failures_by_deeds : (interval : ℕ) (failures : List Failure)
       → AllByRecursion (IsWith interval) (deeds_of (calls_in lines))
       → failures_on_file (file_at path before) ≡ Some failures
       → failures_on_file (file_at path after)
-      ≡ Some (stands_by interval (deeds_of (calls_in lines)) failures)
+      ≡ Some (failures_by interval (deeds_of (calls_in lines)) failures)
   pub stands : (interval : ℕ) (failures : List Failure)
       → AllByRecursion (CanRecordIf interval players) asked
       → failures_on_file (file_at path before) ≡ Some failures
       → failures_on_file (file_at path after)
-      ≡ Some (stands_by interval (deeds_of (calls_in lines)) failures)
+      ≡ Some (failures_by interval (deeds_of (calls_in lines)) failures)

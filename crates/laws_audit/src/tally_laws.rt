@@ -33,7 +33,7 @@ pub fn runs_keep_recorded_failures()
         (all_closed setting.players status (run_lines
         (line_step setting) n s script).last).world.vault.files }
 {
-    mod_tally::laws::recorded_failures_stand();
+    mod_tally::laws::recorded_failures_are_kept();
     mod_tally::laws::written_tallies_are_read();
     cmd_run::laws::runs_change_files_by_plays();
 }

@@ -9,7 +9,7 @@ use Rattle.dispatch_core.specs.Pending.{Pending}
 use Rattle.pam_handle.specs.Call.{Called, begun_or_going_on, called, tokens_cleared}
 use Rattle.pam_handle.specs.Handle.{PlainHandle}
 use Rattle.pam_handle.specs.Pass.{Passed}
-use Rattle.pam_handle.specs.StackCalls.{authenticated, authentication, behind_pass, passes_first}
+use Rattle.pam_handle.specs.StackCalls.{authenticated, authentication, past_pass, passes_first}
 use Rattle.laws_denial.specs.Kept_out.{LockedIsNotAuthenticated}
 use Rattle.laws_denial.proofs.Keeping_out.{kept_out}
 
@@ -30,6 +30,6 @@ not_authenticated players number flags set possible h w user none each way_less 
     let begun = begins h.pending (called returns.Abort h w) (authentication players number flags [] cleared w)
     (λ q. authentication players number flags q.past h w) none in
     let at_end : (authentication players number flags [] cleared w).code ≡ p.code =
-    code_at_end number p.paused p.code (behind_pass Authenticate None p cleared) p.state.world in
+    code_at_end number p.paused p.code (past_pass Authenticate None p cleared) p.state.world in
     kept_out players flags set possible h.stacks.auth (answers_held h.authenticated) (state_of cleared.room w) user each way_less is l
     (sym at_end ∙ ap (λ (c : Called). c.code) (sym begun) ∙ succeeds)

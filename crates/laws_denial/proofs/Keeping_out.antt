@@ -6,7 +6,7 @@ use Rattle.pam_base.specs.declared.code.Code.TheVariants as returns
 use Rattle.pam_outside.specs.Counts.{next_count}
 use Rattle.pam_outside.specs.Files.{File, VaultState, counted, file_at, is_failing}
 use Rattle.pam_outside.specs.Paths.{path_of}
-use Rattle.pam_outside.specs.Time.{ClockState, after_draws, drawn}
+use Rattle.pam_outside.specs.Time.{ClockState, after_draws, random_taken}
 use Rattle.control_words.specs.declared.nodes.Rule.{Rule}
 use Rattle.control_words.specs.Stack.{Stack, none, line, sub, lines_in}
 use Rattle.handler_chain.specs.FlatLines.{module_of}
@@ -38,7 +38,7 @@ no_way State possible stack kept answering past s way_less = λ are succeeds.
 
 draws_later : (n : ℕ) (c : ClockState) → (after_draws n c).moment ≡ c.moment
 draws_later zero c = refl
-draws_later (suc n) c = draws_later n (drawn c)
+draws_later (suc n) c = draws_later n (random_taken c)
 
 -- whether accesses fail depends on two numbers of the vault alone
 same_failing : (k : ℕ) (v w : VaultState) → v.calls ≡ w.calls → v.fails ≡ w.fails → is_failing (after_calls k v) ≡ is_failing (after_calls k w)

@@ -17,14 +17,14 @@ use Rattle.handler_chain.specs.Pass.{pass_after}
 use Rattle.handler_chain.specs.Retell.{Telling, replaying, telling}
 use Rattle.handler_chain.specs.Route.{KeptAnswers}
 use Rattle.handler_chain.specs.Walk.{code_of}
-use Rattle.pass_replay.specs.dispatch_core.specs.Calls.{Held, Went, answers_held, behind_check, call_after, change, first_pass, following}
-use Rattle.pass_replay.specs.dispatch_core.specs.Calls.{goes, held_behind, second_pass}
+use Rattle.pass_replay.specs.dispatch_core.specs.Calls.{Held, Went, answers_held, after_check, call_after, change, first_pass, following}
+use Rattle.pass_replay.specs.dispatch_core.specs.Calls.{goes, held_past, second_pass}
 use Rattle.pass_replay.specs.dispatch_core.specs.Pending.{first_in, is_other_pending, past_in}
 use Rattle.pass_replay.specs.Replay.{as_told}
 use Rattle.report_lines.specs.Line.{Told, answered, block_of, runs, shows_code}
-use Rattle.session_audit.specs.Fits.{SlotLog, at_call, behind_at, is_none, is_refused_change, is_retold, only_if, running, same_code, visits_told, with_behind}
+use Rattle.session_audit.specs.Fits.{SlotLog, at_call, after_at, is_none, is_refused_change, is_retold, only_if, running, same_code, visits_told, with_after}
 use Rattle.explain_lines.specs.Origins.{Sources, origins_in}
-use Rattle.explain_calls.specs.Calls.{behind_text, call_after_text, call_text, change_text, first_text, refused_text, run_text, second_text}
+use Rattle.explain_calls.specs.Calls.{past_text, call_after_text, call_text, change_text, first_text, refused_text, run_text, second_text}
 use Rattle.explain_report.specs.Report.{block_text}
 use Rattle.laws_explain.specs.Codes.{CallsEndWithTheirCode, EndsWith, FittingCallsEndWithTheirCode}
 use Rattle.laws_explain.proofs.Ending.{ends_longer, runs_end_with_their_code}
@@ -50,16 +50,16 @@ module _ (stacks : Stacks) (sources : Sources) (number : ℕ) where
       → EndsWith (second_pass as_told stacks first past told).code (second_text stacks sources number first past told)
   second_ends first past told = run_ends ChAuthTok Password stacks.password Follow first past told
 
-  behind_ends : (code : Code) (kept : Option KeptAnswers) (h : Held) (told : Telling) (text : List ℕ) → EndsWith code text
-      → EndsWith (behind_check as_told stacks code kept h told).code (text ++ behind_text stacks sources number code kept told)
-  behind_ends codes.Success kept h told text e = ends_longer (second_pass as_told stacks kept [] told).code text _ (second_ends kept [] told)
-  behind_ends code kept h told text e = nothing_more code text e
+  after_ends : (code : Code) (kept : Option KeptAnswers) (h : Held) (told : Telling) (text : List ℕ) → EndsWith code text
+      → EndsWith (after_check as_told stacks code kept h told).code (text ++ past_text stacks sources number code kept told)
+  after_ends codes.Success kept h told text e = ends_longer (second_pass as_told stacks kept [] told).code text _ (second_ends kept [] told)
+  after_ends code kept h told text e = nothing_more code text e
 
   change_ends : (past : List Code) (first : Option KeptAnswers) (h : Held) (told : Telling)
       → EndsWith (change as_told stacks past first h told).code (change_text stacks sources number past first h told)
   change_ends past None h told =
       let p = first_pass as_told stacks ChAuthTok past h told in
-      behind_ends p.code p.kept (held_behind ChAuthTok None p h) p.state (first_text stacks sources number ChAuthTok past h told)
+      after_ends p.code p.kept (held_past ChAuthTok None p h) p.state (first_text stacks sources number ChAuthTok past h told)
       (first_ends ChAuthTok past h told)
   change_ends past (Some first) h told = second_ends (Some first) past told
 
@@ -85,10 +85,10 @@ are_same : (a b : Code) → same_code a b ≡ true → a ≡ b
 are_same a b e =
     sym (numbered a) ∙ ap (λ (n : ℕ). get_or all_codes n codes.Success) (eqb-true (number_of a) (number_of b) e) ∙ numbered b
 
-some_place : (places : List SlotLog) (number : ℕ) (next : Option SlotLog) (behind : List SlotLog) (stacks : Stacks)
-    → with_behind stacks places number next ≡ Some behind → next ≡ None → ⊥
-some_place places number None behind stacks e is = absurd cc
-some_place places number (Some place) behind stacks e is = absurd cc
+some_place : (places : List SlotLog) (number : ℕ) (next : Option SlotLog) (past_end : List SlotLog) (stacks : Stacks)
+    → with_after stacks places number next ≡ Some past_end → next ≡ None → ⊥
+some_place places number None past_end stacks e is = absurd cc
+some_place places number (Some place) past_end stacks e is = absurd cc
 
 only_true : (b : Bool) (place : SlotLog) → (only_if b place ≡ None → ⊥) → b ≡ true
 only_true true place e = refl
@@ -120,13 +120,13 @@ if_not_refused true code x y plain e = absurd (true≢false plain)
 if_not_refused false code x y plain e = e
 
 pub fitting_calls_end_with_their_code : FittingCallsEndWithTheirCode
-fitting_calls_end_with_their_code stacks sources places behind number told func code h opened fits plain =
+fitting_calls_end_with_their_code stacks sources places past_end number told func code h opened fits plain =
     let vs = visits_told told in
     let result = answered (runs func) (shows_code code) in
-    let there : with_behind stacks places number (at_call stacks func code vs h) ≡ Some behind =
-    ap (behind_at stacks places (block_of number told result)) (sym opened) ∙ fits in
+    let there : with_after stacks places number (at_call stacks func code vs h) ≡ Some past_end =
+    ap (after_at stacks places (block_of number told result)) (sym opened) ∙ fits in
     let same : code ≡ (goes as_told stacks func h (telling vs)).code = code_told stacks func code told h plain
-    (some_place places number (at_call stacks func code vs h) behind stacks there) in
+    (some_place places number (at_call stacks func code vs h) past_end stacks there) in
     let text : List ℕ = call_text stacks sources number func h (telling vs) in
     let ends : EndsWith code text = subst (λ (c : Code). EndsWith c text) (sym same) (calls_end_with_their_code stacks sources number func h (telling vs)) in
     subst (λ (p : Option SlotLog). EndsWith code (block_text stacks sources number p vs result)) (sym opened)

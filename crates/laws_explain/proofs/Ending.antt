@@ -77,13 +77,13 @@ module _ {State : Type 0} where
   leads_onward stop left at o by shown f w each here = here
 
   -- rows of a substack, and of what is behind it
-  leads_behind : (b : Bool) (o : Opinion) (by : Option ℕ) (xs over ys : List Row) (v w : Walked State) → v.stopped ≡ b → Leads o by xs v
+  leads_past : (b : Bool) (o : Opinion) (by : Option ℕ) (xs over ys : List Row) (v w : Walked State) → v.stopped ≡ b → Leads o by xs v
       → ((last : Option ℕ) → Leads v.opinion last ys w) → Leads o by (xs ++ (if b then over else ys)) (if b then v else w)
-  leads_behind true o by xs over ys v w is d rest = record {
+  leads_past true o by xs over ys v w is d rest = record {
     waits = λ e. let h = d.waits is in (h.0, λ more. ap (end_from o by) (append_assoc xs over more) ∙ h.1 (over ++ more));
     goes = λ e. absurd (true≢false (sym is ∙ e));
   }
-  leads_behind false o by xs over ys v w is d rest =
+  leads_past false o by xs over ys v w is d rest =
       let h = d.goes is in
       leads_after o v.opinion by h.0 ys (xs ++ ys) w (λ more. ap (end_from o by) (append_assoc xs ys more) ∙ h.1 (ys ++ more)) (rest h.0)
 
@@ -137,7 +137,7 @@ module _ {State : Type 0} where
         (at + 1) entry last v.state last here))))
     leads (sub inner rest) zero why passes at entry o s by =
         let inside : Walked State = walk kind serve zero inner at o o s in
-        leads_behind inside.stopped o by (rows kind serve zero why inner at o o s) (rows_over Unreached (at + lines_in inner) rest)
+        leads_past inside.stopped o by (rows kind serve zero why inner at o o s) (rows_over Unreached (at + lines_in inner) rest)
         (rows kind serve zero why rest (at + lines_in inner) entry inside.opinion inside.state) inside
         (walk kind serve zero rest (at + lines_in inner) entry inside.opinion inside.state) refl
         (leads inner zero why passes at o o s by)

@@ -15,7 +15,7 @@ use Rattle.handler_chain.specs.Walk.{code_of}
 use Rattle.pass_replay.specs.dispatch_core.specs.Calls.{Held, goes}
 use Rattle.pass_replay.specs.Replay.{as_told}
 use Rattle.report_lines.specs.Line.{Told, answered, block_of, runs, shows_code}
-use Rattle.session_audit.specs.Fits.{SlotLog, behind_block, is_refused_change, place_at, running, visits_told}
+use Rattle.session_audit.specs.Fits.{SlotLog, after_block, is_refused_change, place_at, running, visits_told}
 use Rattle.explain_lines.specs.Origins.{Sources}
 use Rattle.explain_lines.specs.Text.{pass_text}
 use Rattle.explain_lines.specs.declared.origin.Origin.{Origin}
@@ -59,11 +59,11 @@ CallsEndWithTheirCode =
 -- of a call in a report, if the report fits the stacks up to its result
 abbrev pub FittingCallsEndWithTheirCode : Type 0
 FittingCallsEndWithTheirCode =
-    (stacks : Stacks) (sources : Sources) (places behind : List SlotLog) (number : ℕ)
+    (stacks : Stacks) (sources : Sources) (places past_end : List SlotLog) (number : ℕ)
     (told : List Told) (func : Func) (code : Code) (h : Held) →
     let result = answered (runs func) (shows_code code) in
     place_at places number ≡ Some (running h) →
-    behind_block stacks places (block_of number told result) ≡ Some behind →
+    after_block stacks places (block_of number told result) ≡ Some past_end →
     is_refused_change func code (visits_told told) ≡ false →
     EndsWith code
     (block_text stacks sources number (place_at places number) (visits_told told) result)

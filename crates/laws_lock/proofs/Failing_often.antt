@@ -7,7 +7,7 @@ use Rattle.std.specs.List.{AllByRecursion}
 use Rattle.pam_outside.specs.Paths.{path_of}
 use Rattle.mod_tally.specs.declared.tally.Failure.{Failure}
 use Rattle.mod_tally.specs.Faillock.{tally_name}
-use Rattle.mod_tally.specs.Recorded.{Deed, Follow, IsWith, Served, cleared, deeds_of, failures_on_file, is_written, left, recorded, recorded_by, stands_by}
+use Rattle.mod_tally.specs.Recorded.{Deed, Follow, IsWith, Served, cleared, deeds_of, failures_on_file, is_written, left, recorded, recorded_by, failures_by}
 use Rattle.mod_tally.specs.Settings.{PlainSettings, settings_of}
 use Rattle.mod_tally.specs.Tally.{counting, counts, failures_of, is_locked, is_soon, latest}
 use Rattle.laws_lock.specs.Failed.{AreEnough, EnoughFailuresLock, WrongPasswordsLock, recent}
@@ -128,12 +128,12 @@ module _ (s : PlainSettings) where
 
 pub enough_failures_lock : ((path : List ℕ) (interval : ℕ) (calls : List Served) (before after : Option (List ℕ)) (failures : List Failure)
     → Follow path before calls after → AllByRecursion (IsWith interval) (deeds_of calls) → failures_on_file before ≡ Some failures
-    → failures_on_file after ≡ Some (stands_by interval (deeds_of calls) failures))
+    → failures_on_file after ≡ Some (failures_by interval (deeds_of calls) failures))
     → EnoughFailuresLock
 enough_failures_lock all calls before after failures s sight user follow one stood enough counted at fits =
     let now = sight.clock.moment in
     let path = path_of sight.root (tally_name s.folder user) in
-    let still = stands_by s.interval (deeds_of calls) failures in
+    let still = failures_by s.interval (deeds_of calls) failures in
     let are = standing_enough s now (is_written (deeds_of calls)) (deeds_of calls) failures refl enough in
     let h = holds s now after still (all path s.interval calls before after failures follow one stood) are in
     record {

@@ -25,7 +25,7 @@ pub fn locked_user_is_denied()
 pub fn enough_failures_lock()
     ensures { EnoughFailuresLock }
 {
-    mod_tally::laws::recorded_failures_stand();
+    mod_tally::laws::recorded_failures_are_kept();
 }
 
 /// Then pam_faillock's authenticate with `preauth` returns AUTH_ERR.

@@ -23,7 +23,7 @@ use Rattle.pam_handle.specs.Call.{Called, begun_or_going_on, called, tokens_clea
 use Rattle.pam_handle.specs.Handle.{PlainHandle}
 use Rattle.pam_handle.specs.Items.{all_told}
 use Rattle.pam_handle.specs.Pass.{Passed}
-use Rattle.pam_handle.specs.StackCalls.{authenticated, authentication, behind_pass, passes_first, stack_call}
+use Rattle.pam_handle.specs.StackCalls.{authenticated, authentication, past_pass, passes_first, stack_call}
 use Rattle.pam_library.specs.declared.outcome.Answer.TheVariants as answers
 use Rattle.pam_library.specs.Plays.{AskedLine, LinesLead, StepAsks}
 use Rattle.pam_library.specs.SlotStep.{SlotStepped, filed_in, other_pending, told_by, unless_pending}
@@ -49,10 +49,10 @@ same_code a b e = cc
 -- ---- pam_authenticate(3) in a slot
 
 module _ (players : List Player) (number_of : Code → ℕ → ℕ) where
-  behind : (pending : Option Pending) (slot : PlainSlot) (w : PlainWorld) (s : SlotStepped) → pending ≡ None
+  past_end : (pending : Option Pending) (slot : PlainSlot) (w : PlainWorld) (s : SlotStepped) → pending ≡ None
       → (unless_pending (other_pending pending Authenticate) slot w s).outcome.answer ≡ s.outcome.answer
-  behind None slot w s none = refl
-  behind (Some p) slot w s none = absurd cc
+  past_end None slot w s none = refl
+  past_end (Some p) slot w s none = absurd cc
 
   in_slot : (slots : List PlainSlot) (w : PlainWorld) (number flags : ℕ) (found : Option PlainSlot) (h : PlainHandle) → found ≡ Some (opened h)
       → h.pending ≡ None
@@ -61,7 +61,7 @@ module _ (players : List Player) (number_of : Code → ℕ → ℕ) where
   in_slot slots w number flags found h there none =
       let c = stack_call players number_of Authenticate flags (all_told h) w in
       subst (λ (o : Option PlainSlot). (stepped_at players number_of slots w number (calls.Authenticate flags) o).outcome.answer ≡ answers.Code c.code)
-      (sym there) (behind h.pending (opened (all_told h)) w (told_by (filed_in w) (answers.Code c.code) c) none)
+      (sym there) (past_end h.pending (opened (all_told h)) w (told_by (filed_in w) (answers.Code c.code) c) none)
 
   pub answer_is : (slots : List PlainSlot) (w : PlainWorld) (number flags : ℕ) (h : PlainHandle) → slot_at slots number ≡ Some (opened h)
       → h.pending ≡ None
@@ -90,7 +90,7 @@ module _ (players : List Player) (number_of : Code → ℕ → ℕ) where
       let p : Passed = passes_first players Authenticate flags [] cleared w in
       ap (λ (c : Called). c.code) (begins h.pending (called codes.Abort h w) (authentication players number_of flags [] cleared w)
       (λ q. authentication players number_of flags q.past h w) none)
-      ∙ code_at_end p.paused p.code (behind_pass Authenticate None p cleared) p.state.world
+      ∙ code_at_end p.paused p.code (past_pass Authenticate None p cleared) p.state.world
 
   module _ (refuses : LockedIsDenied) (keeps_out : LockedIsNotAuthenticated) (set : PlainSettings) (h : PlainHandle) (w : PlainWorld) (user : List ℕ)
       (none : h.pending ≡ None) (is : h.room.transaction.items.user ≡ Some user) (locked : IsLocked set (sight_of (scene_in (state_of h.room w))) user) where
@@ -139,11 +139,11 @@ module _ (one : (path : List ℕ) (call : PlainCall) (room : SeenRoom) (held : L
         lines_are = by.led.lines_are;
         each = by.led.each;
         follow = by.led.follow;
-        denied = λ failures set later number h w can stood interval_is folder_is enough next.
+        denied = λ failures set later number h w can stood interval_is directory_is enough next.
             let sight = sight_of (scene_in (state_of h.room w)) in
             let there : path ≡ path_of w.process.root (tally_name set.folder user) =
             ap (λ (r : List ℕ). path_of r (tally_name folder user)) (sym next.root_is)
-            ∙ ap (λ (f : List ℕ). path_of w.process.root (tally_name f user)) (sym folder_is) in
+            ∙ ap (λ (f : List ℕ). path_of w.process.root (tally_name f user)) (sym directory_is) in
             let written = by.led.with_one interval (can_record players interval by.asked within can) in
             let locked = lock (calls_in by.led.lines) before after failures set sight user
             (subst (λ (p : List ℕ). Follow p before (calls_in by.led.lines) after) there by.led.follow)

@@ -24,7 +24,7 @@ use Rattle.pam_handle.specs.Call.{Called, begun_or_going_on, called, tokens_clea
 use Rattle.pam_handle.specs.Handle.{PlainHandle}
 use Rattle.pam_handle.specs.Items.{all_told}
 use Rattle.pam_handle.specs.Pass.{Passed}
-use Rattle.pam_handle.specs.StackCalls.{account, authenticated, authentication, behind_check, behind_pass, change_goes_on, changed, check, closing, credentials, has_pass_flag, opening, passes_first, passes_second, stack_call, update}
+use Rattle.pam_handle.specs.StackCalls.{account, authenticated, authentication, after_check, past_pass, change_goes_on, changed, check, closing, credentials, has_pass_flag, opening, passes_first, passes_second, stack_call, update}
 use Rattle.pam_handle.specs.Start.{new_handle, stacks_under, started_by}
 use Rattle.pam_library.specs.SlotStep.{SlotStepped, closed_step, filed_in, is_refused_for_flags, open_step, opened_by, other_pending, slot_step, stack_step, unless_pending}
 use Rattle.pam_library.specs.Slots.{PlainSlot, closed, opened, slot_at, with_slot}
@@ -81,22 +81,22 @@ module _ (players : List Player) (number_of : Code → ℕ → ℕ) where
   authentication_keeps : (flags : ℕ) (past : List Code) (h : PlainHandle) (w : PlainWorld) → Keeps h (authentication players number_of flags past h w)
   authentication_keeps flags past h w =
       let p : Passed = passes_first players funcs.Authenticate flags past h w in
-      authenticated_keeps p.paused p.code (behind_pass funcs.Authenticate None p h) p.state.world
+      authenticated_keeps p.paused p.code (past_pass funcs.Authenticate None p h) p.state.world
 
   update_keeps : (flags : ℕ) (first : Option KeptAnswers) (past : List Code) (h : PlainHandle) (w : PlainWorld) → Keeps h (update players flags first past h w)
   update_keeps flags first past h w =
       let p : Passed = passes_second players flags first past h w in
-      changed_keeps p.paused p.code (behind_pass funcs.ChAuthTok first p h) p.state.world
+      changed_keeps p.paused p.code (past_pass funcs.ChAuthTok first p h) p.state.world
 
-  behind_check_keeps : (flags : ℕ) (code : Code) (paused : Option (List Code)) (kept : Option KeptAnswers) (h : PlainHandle) (w : PlainWorld)
-      → Keeps h (behind_check players flags code paused kept h w)
-  behind_check_keeps flags codes.Success paused kept h w = update_keeps flags kept [] h w
-  behind_check_keeps flags other paused kept h w = changed_keeps paused other h w
+  after_check_keeps : (flags : ℕ) (code : Code) (paused : Option (List Code)) (kept : Option KeptAnswers) (h : PlainHandle) (w : PlainWorld)
+      → Keeps h (after_check players flags code paused kept h w)
+  after_check_keeps flags codes.Success paused kept h w = update_keeps flags kept [] h w
+  after_check_keeps flags other paused kept h w = changed_keeps paused other h w
 
   check_keeps : (flags : ℕ) (past : List Code) (h : PlainHandle) (w : PlainWorld) → Keeps h (check players flags past h w)
   check_keeps flags past h w =
       let p : Passed = passes_first players funcs.ChAuthTok flags past h w in
-      behind_check_keeps flags p.code p.paused p.kept (behind_pass funcs.ChAuthTok None p h) p.state.world
+      after_check_keeps flags p.code p.paused p.kept (past_pass funcs.ChAuthTok None p h) p.state.world
 
   change_keeps : (flags : ℕ) (past : List Code) (first : Option KeptAnswers) (h : PlainHandle) (w : PlainWorld)
       → Keeps h (change_goes_on players flags past first h w)

@@ -13,7 +13,7 @@ use Rattle.pam_room.specs.State.{PlainWorld, State, state_of}
 use Rattle.pam_room.specs.declared.visits.Visit.{Visit}
 use Rattle.pam_handle.specs.Items.{all_told}
 use Rattle.pam_handle.specs.Stopping.{first_stack, room_begun}
-use Rattle.pam_library.specs.Plays.{AskedLine, IsLineOf, LineRun, RunOn, RunsBy, RunsNothing, StackCall, StandsAt, asked_along, module_of_path, run_in, stack_call_of}
+use Rattle.pam_library.specs.Plays.{AskedLine, IsLineOf, LineRun, RunOn, RunsBy, RunsNothing, StackCall, IsRuleAt, asked_along, module_of_path, run_in, stack_call_of}
 use Rattle.pam_library.specs.SideBySide.{Met}
 use Rattle.pam_library.specs.Slots.{PlainSlot, closed, opened, slot_at}
 use Rattle.pam_library.specs.Step.{stepped}
@@ -25,7 +25,7 @@ use Rattle.laws_lockout.proofs.Keeping.{AllHave, HasIf, have_at, step_has}
 
 -- ---- a line of a stack
 
-at_place : (Holds : Rule → Type 0) (rule : Rule) (place : ℕ) (stack : Stack) (at : ℕ) → EachRule Holds stack → StandsAt rule place stack at → Holds rule
+at_place : (Holds : Rule → Type 0) (rule : Rule) (place : ℕ) (stack : Stack) (at : ℕ) → EachRule Holds stack → IsRuleAt rule place stack at → Holds rule
 at_place Holds rule place none at each stands = absurd stands
 at_place Holds rule place (line r rest) at each (inl is) = subst Holds (sym is.0) each.0
 at_place Holds rule place (line r rest) at each (inr more) = at_place Holds rule place rest (at + 1) each.1 more

@@ -10,7 +10,7 @@ ghost use Rattle.laws_lockout.specs.Lockout.{WrongPasswordsLockOut};
 pub fn wrong_passwords_lock_out()
     ensures { WrongPasswordsLockOut }
 {
-    mod_tally::laws::recorded_failures_stand();
+    mod_tally::laws::recorded_failures_are_kept();
     mod_tally::laws::written_tallies_are_read();
     pam_library::laws::steps_change_files_by_plays();
     laws_audit::tally_laws::other_modules_leave_tallies();

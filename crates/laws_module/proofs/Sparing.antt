@@ -487,24 +487,24 @@ module _ (T : ℕ → Type 0) (Q : List ℕ → List File → List File → Type
 -- ---- all six
 
 -- how files are, and USER still is this user, if it was set
-record Behind (Q : List ℕ → List File → List File → Type 0) (user root : List ℕ) (files : List File) (room : SeenRoom) (p : Played) : Type 0 where
+record Past (Q : List ℕ → List File → List File → Type 0) (user root : List ℕ) (files : List File) (room : SeenRoom) (p : Played) : Type 0 where
   others : Q root files p.files
   user_is : room.items.user ≡ Some user → p.room.items.user ≡ Some user
 
 module _ (T : ℕ → Type 0) (Q : List ℕ → List File → List File → Type 0) (stays : (root : List ℕ) (files : List File) → Q root files files)
     (user : List ℕ) where
-  abbrev BehindFrom : Stage → Played → Type 0
-  BehindFrom stage p = Behind Q user stage.sight.root stage.sight.files stage.room p
+  abbrev AfterFrom : Stage → Played → Type 0
+  AfterFrom stage p = Past Q user stage.sight.root stage.sight.files stage.room p
 
-  set_or_not : (stage : Stage) (p : Played) → Left Q user stage.sight.root stage.sight.files p → BehindFrom stage p
+  set_or_not : (stage : Stage) (p : Played) → Left Q user stage.sight.root stage.sight.files p → AfterFrom stage p
   set_or_not stage p left = record { others = left.others; user_is = λ set. left.user_is }
 
-  untouched : (code : Code) (stage : Stage) → BehindFrom stage (answers code stage)
+  untouched : (code : Code) (stage : Stage) → AfterFrom stage (answers code stage)
   unfolding answers
   untouched code stage = record { others = stays stage.sight.root stage.sight.files; user_is = λ set. set }
 
   by_function : (f : Func) (call : PlainCall) (stage : Stage) → T stage.sight.clock.moment → (user_asked stage.room).room.items.user ≡ Some user
-      → (f ≡ ChAuthTok → BehindFrom stage (changes_token call answers stage)) → BehindFrom stage (act_of_func f call stage)
+      → (f ≡ ChAuthTok → AfterFrom stage (changes_token call answers stage)) → AfterFrom stage (act_of_func f call stage)
   unfolding authenticates checks_account sees_data
   by_function Authenticate call stage time is change =
       set_or_not stage (act_of_func Authenticate call stage)
@@ -522,7 +522,7 @@ is_time moment = moment ≤ 1000000000000
 
 change_first : (read : ReadsAgain) (others_same : OthersUnchanged) (fits : HashesFit) (user : List ℕ) (call : PlainCall) (stage : Stage)
     → stage.sight.clock.moment ≤ 1000000000000 → (user_asked stage.room).room.items.user ≡ Some user
-    → Behind (λ root before after. OthersStay user root before after) user stage.sight.root stage.sight.files stage.room (changes_token call answers stage)
+    → Past (λ root before after. OthersStay user root before after) user stage.sight.root stage.sight.files stage.room (changes_token call answers stage)
 unfolding changes_token
 change_first read others_same fits user call stage time is =
     let Q : List ℕ → List File → List File → Type 0 = λ root before after. OthersStay user root before after in

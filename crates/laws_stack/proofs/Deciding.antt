@@ -10,7 +10,7 @@ use Rattle.handler_chain.specs.declared.opinion.Opinion.{Opinion}
 use Rattle.handler_chain.specs.declared.pass_kind.PassKind.{PassKind}
 use Rattle.handler_chain.specs.declared.pass_kind.PassKind.TheVariants as kinds
 use Rattle.handler_chain.specs.Opinion.{acted, bad, good, good_by, is_ignore, jumped, opinion_of, overrun, verdict, verdict_at}
-use Rattle.handler_chain.specs.Route.{negative_behind}
+use Rattle.handler_chain.specs.Route.{negative_past}
 use Rattle.handler_chain.specs.Walk.{is_negative, new_or_overrun}
 use Rattle.handler_chain.proofs.Negativity.{acted_negative, negative_opinion, settled_negative}
 use Rattle.laws_stack.specs.Deeds.{denies, grants, resets}
@@ -104,22 +104,22 @@ jump_doomed : (b now : Bool) → now ≡ true → (if b then now else true) ≡ 
 jump_doomed true now is = is
 jump_doomed false now is = refl
 
-doomed_behind : (a : Action) (left : ℕ) (doomed entry now : Bool) → (doomed ≡ true → now ≡ true) → doomed_by a doomed ≡ true
-    → negative_behind a left entry now ≡ true
-doomed_behind actions.Ignore left doomed entry now on e = on e
-doomed_behind actions.Ok left doomed entry now on e = on e
-doomed_behind actions.Done left doomed entry now on e = on e
-doomed_behind actions.Bad left doomed entry now on e = refl
-doomed_behind actions.Die left doomed entry now on e = refl
-doomed_behind actions.Reset left doomed entry now on e = absurd (true≢false (sym e))
-doomed_behind (actions.Jump n) left doomed entry now on e = jump_doomed (nat_le n left) now (on e)
+doomed_after : (a : Action) (left : ℕ) (doomed entry now : Bool) → (doomed ≡ true → now ≡ true) → doomed_by a doomed ≡ true
+    → negative_past a left entry now ≡ true
+doomed_after actions.Ignore left doomed entry now on e = on e
+doomed_after actions.Ok left doomed entry now on e = on e
+doomed_after actions.Done left doomed entry now on e = on e
+doomed_after actions.Bad left doomed entry now on e = refl
+doomed_after actions.Die left doomed entry now on e = refl
+doomed_after actions.Reset left doomed entry now on e = absurd (true≢false (sym e))
+doomed_after (actions.Jump n) left doomed entry now on e = jump_doomed (nat_le n left) now (on e)
 
 pub settled_doomed : (kind : PassKind) (a : Action) (left : ℕ) (answer deciding : Code) (entry o : Opinion) (doomed : Bool)
     → (doomed ≡ true → negative_opinion o ≡ true) → doomed_by a doomed ≡ true
     → negative_opinion (new_or_overrun a left (acted kind a answer deciding entry o)) ≡ true
 settled_doomed kind a left answer deciding entry o doomed on e =
     settled_negative a left (acted kind a answer deciding entry o) (negative_opinion entry) (negative_opinion o) (acted_negative kind a answer deciding entry o)
-    ∙ doomed_behind a left doomed (negative_opinion entry) (negative_opinion o) on e
+    ∙ doomed_after a left doomed (negative_opinion entry) (negative_opinion o) on e
 
 pub denies_dooms : (a : Action) (now : Bool) → denies a ≡ true → doomed_by a now ≡ true
 denies_dooms actions.Ignore now e = absurd (true≢false (sym e))

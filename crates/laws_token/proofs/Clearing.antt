@@ -11,7 +11,7 @@ use Rattle.pam_handle.specs.Call.{Called, begun_or_going_on, called, clears_toke
 use Rattle.pam_handle.specs.AnyWorld.{AreUnset}
 use Rattle.pam_handle.specs.Handle.{PlainHandle, in_room}
 use Rattle.pam_handle.specs.Pass.{Passed}
-use Rattle.pam_handle.specs.StackCalls.{authenticated, authentication, behind_pass, change_goes_on, check, has_pass_flag, passes_first, stack_call}
+use Rattle.pam_handle.specs.StackCalls.{authenticated, authentication, past_pass, change_goes_on, check, has_pass_flag, passes_first, stack_call}
 use Rattle.laws_token.specs.Tokens.{BeginsWithoutTokens, EarlierTokensDontMatter, FirstLineSeesNoToken, NoTokenWhileItWaits, WaitsUnset}
 use Rattle.laws_token.specs.Tokens.{begun, begun_for, with_tokens}
 
@@ -58,7 +58,7 @@ module _ (players : List Player) (number : Code → ℕ → ℕ) (flags : ℕ) w
       → WaitsUnset number (passes_first players Authenticate flags past h w) (authentication players number flags past h w)
   ended past h w is =
       let p = passes_first players Authenticate flags past h w in
-      ended_by p.paused p (behind_pass Authenticate None p h) is
+      ended_by p.paused p (past_pass Authenticate None p h) is
 
   abbrev begun_by : PlainHandle → Option Pending → PlainHandle
   begun_by h pending = in_room (record h.room {

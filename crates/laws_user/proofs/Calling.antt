@@ -6,7 +6,7 @@ use Rattle.pam_base.specs.declared.code.Code.{Code}
 use Rattle.pam_base.specs.declared.code.Code.TheVariants as returns
 use Rattle.pam_outside.specs.Files.{File}
 use Rattle.pam_outside.specs.Paths.{path_of}
-use Rattle.pam_outside.specs.Time.{drawn, rested}
+use Rattle.pam_outside.specs.Time.{random_taken, rested}
 use Rattle.fail_delay.specs.Delay.{asked_delay}
 use Rattle.fail_delay.specs.Wait.{wait_of}
 use Rattle.control_words.specs.Stack.{Stack}
@@ -20,10 +20,10 @@ use Rattle.pam_room.specs.State.{PlainRoom, PlainWorld, State, state_of}
 use Rattle.dispatch_core.specs.Calls.{answers_held, following, passed_by}
 use Rattle.dispatch_core.specs.Lines.{answers_by}
 use Rattle.dispatch_core.specs.Pending.{Pending, same_func}
-use Rattle.pam_handle.specs.Call.{Called, begun_or_going_on, called, drawn_by, request_forgotten, rested_by, tokens_cleared}
+use Rattle.pam_handle.specs.Call.{Called, begun_or_going_on, called, random_taken_for, request_forgotten, rested_by, tokens_cleared}
 use Rattle.pam_handle.specs.Handle.{PlainHandle}
 use Rattle.pam_handle.specs.Pass.{Passed}
-use Rattle.pam_handle.specs.StackCalls.{account, authenticated, authentication, behind_check, behind_pass, change_goes_on, changed, check, closing, credentials, ended, flags_seen, has_pass_flag, opening, update}
+use Rattle.pam_handle.specs.StackCalls.{account, authenticated, authentication, after_check, past_pass, change_goes_on, changed, check, closing, credentials, ended, flags_seen, has_pass_flag, opening, update}
 use Rattle.mod_tally.specs.Faillock.{tally_name}
 use Rattle.laws_denial.specs.Kept_out.{EachLine}
 use Rattle.laws_user.specs.Calls.{EndAlike, IsOwnLine, OthersDontMatterToCalls, with_files}
@@ -33,10 +33,10 @@ use Rattle.laws_user.proofs.Walking.{PassAlike, WalkedAlike, pass_alike}
 
 -- ---- the wait after an authentication leaves files
 
-drawn_with : (longest : ℕ) (files : List File) (w : PlainWorld) → drawn_by longest (with_files files w) ≡ with_files files (drawn_by longest w)
-drawn_with longest files w =
-    elim (longest == 0) as (λ (x : Bool). (if x then with_files files w else record (with_files files w) { clock = drawn w.clock })
-    ≡ with_files files (if x then w else record w { clock = drawn w.clock })) [ true ↦ refl | false ↦ refl ]
+random_taken_with : (longest : ℕ) (files : List File) (w : PlainWorld) → random_taken_for longest (with_files files w) ≡ with_files files (random_taken_for longest w)
+random_taken_with longest files w =
+    elim (longest == 0) as (λ (x : Bool). (if x then with_files files w else record (with_files files w) { clock = random_taken w.clock })
+    ≡ with_files files (if x then w else record w { clock = random_taken w.clock })) [ true ↦ refl | false ↦ refl ]
 
 rested_with : (wait : Option ℕ) (files : List File) (w : PlainWorld) → rested_by wait (with_files files w) ≡ with_files files (rested_by wait w)
 rested_with None files w = refl
@@ -49,9 +49,9 @@ record Rests (v w : PlainWorld) : Type 0 where
   files : w.vault.files ≡ v.vault.files
   root : w.process.root ≡ v.process.root
 
-drawn_rests : (longest : ℕ) (w : PlainWorld) → Rests w (drawn_by longest w)
-drawn_rests longest w =
-    elim (longest == 0) as (λ (x : Bool). Rests w (if x then w else record w { clock = drawn w.clock })) [
+random_taken_rests : (longest : ℕ) (w : PlainWorld) → Rests w (random_taken_for longest w)
+random_taken_rests longest w =
+    elim (longest == 0) as (λ (x : Bool). Rests w (if x then w else record w { clock = random_taken w.clock })) [
       | true ↦ record { files = refl; root = refl }
       | false ↦ record { files = refl; root = refl }
     ]
@@ -69,8 +69,8 @@ pub authenticated_rests : (number_of : Code → ℕ → ℕ) (paused : Option (L
 authenticated_rests number_of (Some past) code g v = refl
 authenticated_rests number_of None code g v =
     let longest : ℕ = g.room.transaction.delay in
-    let drew : PlainWorld = drawn_by longest v in
-    (rested_rests (wait_of g.delay_on number_of code (asked_delay longest v.clock.word)) drew).files ∙ (drawn_rests longest v).files
+    let drew : PlainWorld = random_taken_for longest v in
+    (rested_rests (wait_of g.delay_on number_of code (asked_delay longest v.clock.word)) drew).files ∙ (random_taken_rests longest v).files
 
 -- what holds of a call that is aborted, that begins, or that goes on
 pub begun_or_not : (Holds : Called → Type 0) (func : Func) (pending : Option Pending) (a c : Called) (f : Pending → Called) → Holds a → Holds c
@@ -100,14 +100,14 @@ module _ (func : Func) (folder user : List ℕ) where
       let longest : ℕ = g.room.transaction.delay in
       let asked : ℕ = asked_delay longest v.clock.word in
       let wait : Option ℕ = wait_of g.delay_on number_of code asked in
-      let drew : PlainWorld = drawn_by longest v in
-      let world : rested_by wait (drawn_by longest (with_files files v)) ≡ with_files files (rested_by wait drew) =
-      ap (rested_by wait) (drawn_with longest files v) ∙ rested_with wait files drew in
-      let a = drawn_rests longest v in
+      let drew : PlainWorld = random_taken_for longest v in
+      let world : rested_by wait (random_taken_for longest (with_files files v)) ≡ with_files files (rested_by wait drew) =
+      ap (rested_by wait) (random_taken_with longest files v) ∙ rested_with wait files drew in
+      let a = random_taken_rests longest v in
       let b = rested_rests wait drew in
       let is_files : (rested_by wait drew).vault.files ≡ v.vault.files = b.files ∙ a.files in
       let is_root : (rested_by wait drew).process.root ≡ v.process.root = b.root ∙ a.root in
-      let left : (rested_by wait (drawn_by longest (with_files files v))).vault.files ≡ files = ap (λ (w : PlainWorld). w.vault.files) world in
+      let left : (rested_by wait (random_taken_for longest (with_files files v))).vault.files ≡ files = ap (λ (w : PlainWorld). w.vault.files) world in
       record {
         code = refl;
         handle = refl;
@@ -187,16 +187,16 @@ module _ (folder user root : List ℕ) (moment : ℕ) (distinct : path_of root (
       → EndAlike ChAuthTok folder user (update players flags first past h w) (update players flags first past h (with_files others w))
   update_goes first past h w others each both =
       goes ChAuthTok folder user root moment distinct timely players
-      (λ p. changed p.paused p.code (behind_pass ChAuthTok first p h) p.state.world)
-      (λ p files after. changed_ends ChAuthTok folder user p.paused p.code (behind_pass ChAuthTok first p h) p.state.world files
+      (λ p. changed p.paused p.code (past_pass ChAuthTok first p h) p.state.world)
+      (λ p files after. changed_ends ChAuthTok folder user p.paused p.code (past_pass ChAuthTok first p h) p.state.world files
       (seen_in ChAuthTok folder user root moment distinct timely players p.state (in_files files p.state) after))
       kinds.Follow first (flags_seen ChAuthTok true flags) h.stacks.password each past (state_of h.room w) (state_of h.room (with_files others w)) both
 
-  behind_check_ends : (code : Code) (paused : Option (List Code)) (kept : Option KeptAnswers) (h : PlainHandle) (w : PlainWorld) (others : List File)
+  after_check_ends : (code : Code) (paused : Option (List Code)) (kept : Option KeptAnswers) (h : PlainHandle) (w : PlainWorld) (others : List File)
       → EachLine (IsOwnLine players ChAuthTok folder) 1 h.stacks.password → BothIn (state_of h.room w) (state_of h.room (with_files others w))
-      → EndAlike ChAuthTok folder user (behind_check players flags code paused kept h w) (behind_check players flags code paused kept h (with_files others w))
-  behind_check_ends returns.Success paused kept h w others each both = update_goes kept [] h w others each both
-  behind_check_ends code paused kept h w others each both =
+      → EndAlike ChAuthTok folder user (after_check players flags code paused kept h w) (after_check players flags code paused kept h (with_files others w))
+  after_check_ends returns.Success paused kept h w others each both = update_goes kept [] h w others each both
+  after_check_ends code paused kept h w others each both =
       changed_ends ChAuthTok folder user paused code h w others
       (seen_in ChAuthTok folder user root moment distinct timely players (state_of h.room w) (state_of h.room (with_files others w)) both)
 
@@ -205,8 +205,8 @@ module _ (folder user root : List ℕ) (moment : ℕ) (distinct : path_of root (
       → EndAlike ChAuthTok folder user (check players flags past h w) (check players flags past h (with_files others w))
   check_goes past h w others each both =
       goes ChAuthTok folder user root moment distinct timely players
-      (λ p. behind_check players flags p.code p.paused p.kept (behind_pass ChAuthTok None p h) p.state.world)
-      (λ p files after. behind_check_ends p.code p.paused p.kept (behind_pass ChAuthTok None p h) p.state.world files each after)
+      (λ p. after_check players flags p.code p.paused p.kept (past_pass ChAuthTok None p h) p.state.world)
+      (λ p files after. after_check_ends p.code p.paused p.kept (past_pass ChAuthTok None p h) p.state.world files each after)
       kinds.Keep None (flags_seen ChAuthTok false flags) h.stacks.password each past (state_of h.room w) (state_of h.room (with_files others w)) both
 
   change_goes : (past : List Code) (first : Option KeptAnswers) (h : PlainHandle) (w : PlainWorld) (others : List File)
@@ -224,8 +224,8 @@ calls_alike players number_of Authenticate flags folder user h w others each is 
     → Alike Authenticate folder user w.process.root w.clock.moment distinct (state_of g.room w) (state_of g.room (with_files others w))
     → EndAlike Authenticate folder user (authentication players number_of flags past g w) (authentication players number_of flags past g (with_files others w)) =
     λ past g lines both. goes Authenticate folder user w.process.root w.clock.moment distinct time players
-    (λ p. authenticated number_of p.paused p.code (behind_pass Authenticate None p g) p.state.world)
-    (λ p files after. authenticated_ends Authenticate folder user number_of p.paused p.code (behind_pass Authenticate None p g) p.state.world files
+    (λ p. authenticated number_of p.paused p.code (past_pass Authenticate None p g) p.state.world)
+    (λ p files after. authenticated_ends Authenticate folder user number_of p.paused p.code (past_pass Authenticate None p g) p.state.world files
     (seen_in Authenticate folder user w.process.root w.clock.moment distinct time players p.state (in_files files p.state) after))
     kinds.Keep g.authenticated flags g.stacks.auth lines past (state_of g.room w) (state_of g.room (with_files others w)) both in
     begun_ends Authenticate folder user h.pending (called returns.Abort h w) (called returns.Abort h (with_files others w))
@@ -237,8 +237,8 @@ calls_alike players number_of Authenticate flags folder user h w others each is 
 calls_alike players number_of SetCred flags folder user h w others each is time distinct look =
     let both = begins SetCred folder user w.process.root w.clock.moment distinct time players h w others is refl refl look in
     let runs : (past : List Code) → EndAlike SetCred folder user (credentials players flags past h w) (credentials players flags past h (with_files others w)) =
-    λ past. goes SetCred folder user w.process.root w.clock.moment distinct time players (λ p. ended SetCred p (behind_pass SetCred None p h))
-    (ended_goes SetCred folder user w.process.root w.clock.moment distinct time players (λ p. behind_pass SetCred None p h) (λ p files. refl))
+    λ past. goes SetCred folder user w.process.root w.clock.moment distinct time players (λ p. ended SetCred p (past_pass SetCred None p h))
+    (ended_goes SetCred folder user w.process.root w.clock.moment distinct time players (λ p. past_pass SetCred None p h) (λ p files. refl))
     (following h.authenticated) h.authenticated (flags_seen SetCred false flags) h.stacks.auth each past (state_of h.room w)
     (state_of h.room (with_files others w)) both in
     begun_ends SetCred folder user h.pending (called returns.Abort h w) (called returns.Abort h (with_files others w))
@@ -256,8 +256,8 @@ calls_alike players number_of AcctMgmt flags folder user h w others each is time
 calls_alike players number_of OpenSession flags folder user h w others each is time distinct look =
     let both = begins OpenSession folder user w.process.root w.clock.moment distinct time players h w others is refl refl look in
     let runs : (past : List Code) → EndAlike OpenSession folder user (opening players flags past h w) (opening players flags past h (with_files others w)) =
-    λ past. goes OpenSession folder user w.process.root w.clock.moment distinct time players (λ p. ended OpenSession p (behind_pass OpenSession None p h))
-    (ended_goes OpenSession folder user w.process.root w.clock.moment distinct time players (λ p. behind_pass OpenSession None p h) (λ p files. refl))
+    λ past. goes OpenSession folder user w.process.root w.clock.moment distinct time players (λ p. ended OpenSession p (past_pass OpenSession None p h))
+    (ended_goes OpenSession folder user w.process.root w.clock.moment distinct time players (λ p. past_pass OpenSession None p h) (λ p files. refl))
     kinds.Keep h.opened (flags_seen OpenSession false flags) h.stacks.session each past (state_of h.room w) (state_of h.room (with_files others w)) both in
     begun_ends OpenSession folder user h.pending (called returns.Abort h w) (called returns.Abort h (with_files others w))
     (opening players flags [] h w) (opening players flags [] h (with_files others w)) (λ p. opening players flags p.past h w)
@@ -265,8 +265,8 @@ calls_alike players number_of OpenSession flags folder user h w others each is t
 calls_alike players number_of CloseSession flags folder user h w others each is time distinct look =
     let both = begins CloseSession folder user w.process.root w.clock.moment distinct time players h w others is refl refl look in
     let runs : (past : List Code) → EndAlike CloseSession folder user (closing players flags past h w) (closing players flags past h (with_files others w)) =
-    λ past. goes CloseSession folder user w.process.root w.clock.moment distinct time players (λ p. ended CloseSession p (behind_pass CloseSession None p h))
-    (ended_goes CloseSession folder user w.process.root w.clock.moment distinct time players (λ p. behind_pass CloseSession None p h) (λ p files. refl))
+    λ past. goes CloseSession folder user w.process.root w.clock.moment distinct time players (λ p. ended CloseSession p (past_pass CloseSession None p h))
+    (ended_goes CloseSession folder user w.process.root w.clock.moment distinct time players (λ p. past_pass CloseSession None p h) (λ p files. refl))
     (following h.opened) h.opened (flags_seen CloseSession false flags) h.stacks.session each past (state_of h.room w)
     (state_of h.room (with_files others w)) both in
     begun_ends CloseSession folder user h.pending (called returns.Abort h w) (called returns.Abort h (with_files others w))

@@ -14,7 +14,7 @@ use Rattle.mod_tally.specs.Faillock.{tally_name}
 use Rattle.laws_module.specs.Others.{IsShadow}
 use Rattle.laws_module.specs.OwnEntry.{OthersIn}
 use Rattle.laws_user.specs.Calls.{CallsWriteOwn, IsNotReplaced, KeepsOthers, OthersDontMatterToCalls}
-use Rattle.laws_user.specs.Logins.{CallsDontMatter, IsElsewhere, OthersCall, UserCall, files_behind}
+use Rattle.laws_user.specs.Logins.{CallsDontMatter, IsElsewhere, OthersCall, UserCall, files_after}
 use Rattle.laws_user.specs.Users.{LookSame}
 
 other_name : (root a b : List ℕ) → a ≢ b → path_of root a ≢ path_of root b
@@ -33,11 +33,11 @@ not_replaced CloseSession root path other = tt
 module _ (writes : CallsWriteOwn) (players : List Player) (number_of : Code → ℕ → ℕ) (folder user root : List ℕ) where
   -- what a call of another user leaves, with the root of this one
   keeps : (c : UserCall) (before after : List File) (cs : List UserCall) → OthersCall players number_of folder user root before (c ∷ cs) after
-      → KeepsOthers c.func folder c.user root before (files_behind players number_of c)
+      → KeepsOthers c.func folder c.user root before (files_after players number_of c)
   keeps c before after cs log =
       let all = writes players number_of c.func c.flags folder c.user c.handle c.world log.0.lines log.0.user_is log.0.is_timely in
-      subst (λ (r : List ℕ). KeepsOthers c.func folder c.user r before (files_behind players number_of c)) log.2
-      (subst (λ (fs : List File). KeepsOthers c.func folder c.user c.world.process.root fs (files_behind players number_of c)) log.1 all)
+      subst (λ (r : List ℕ). KeepsOthers c.func folder c.user r before (files_after players number_of c)) log.2
+      (subst (λ (fs : List File). KeepsOthers c.func folder c.user c.world.process.root fs (files_after players number_of c)) log.1 all)
 
   -- a file that isn't shadow or the tally of one of the others stays
   stays : (path : List ℕ) → path_of root (codes "/etc/shadow") ≢ path → ((other : List ℕ) → IsElsewhere folder user root other → other ≢ path)
@@ -45,7 +45,7 @@ module _ (writes : CallsWriteOwn) (players : List Player) (number_of : Code → 
       → file_at path after ≡ file_at path before
   stays path no_shadow apart [] before after log = ap (file_at path) log
   stays path no_shadow apart (c ∷ cs) before after log =
-      stays path no_shadow apart cs (files_behind players number_of c) after log.4
+      stays path no_shadow apart cs (files_after players number_of c) after log.4
       ∙ (keeps c before after cs log).files path (apart (path_of root (tally_name folder c.user)) log.3) (not_replaced c.func root path no_shadow)
 
   -- the user's entry stays
@@ -54,9 +54,9 @@ module _ (writes : CallsWriteOwn) (players : List Player) (number_of : Code → 
       → (later : List Shadow) × IsShadow root after later × (shadow_of user later ≡ shadow_of user entries)
   entry_stays entries [] before after s log = (entries, subst (λ (fs : List File). IsShadow root fs entries) (sym log) s, refl)
   entry_stays entries (c ∷ cs) before after s log =
-      let left : OthersIn c.user root entries (files_behind players number_of c) = (keeps c before after cs log).entries log.3.shadow entries s in
+      let left : OthersIn c.user root entries (files_after players number_of c) = (keeps c before after cs log).entries log.3.shadow entries s in
       let differs : user ≢ c.user = λ e. log.3.tally (ap (λ (u : List ℕ). path_of root (tally_name folder u)) (sym e)) in
-      let rest = entry_stays left.changed cs (files_behind players number_of c) after left.shadow_is log.4 in
+      let rest = entry_stays left.changed cs (files_after players number_of c) after left.shadow_is log.4 in
       (rest.0, rest.1, rest.2 ∙ left.stay user differs)
 
   look_same : (entries : List Shadow) (others : List UserCall) (before after : List File) → IsShadow root before entries

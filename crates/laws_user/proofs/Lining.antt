@@ -3,7 +3,7 @@ use Rattle.std.proofs.Common.{◌≡◌, ◌≢◌, ℕ, zero, suc, ◌+◌, Boo
 use Rattle.pam_base.specs.declared.call.Func.{Func}
 use Rattle.pam_outside.specs.Files.{File, VaultState, counted, is_failing}
 use Rattle.pam_outside.specs.Paths.{path_of}
-use Rattle.pam_outside.specs.Time.{ClockState, after_draws, drawn}
+use Rattle.pam_outside.specs.Time.{ClockState, after_draws, random_taken}
 use Rattle.control_words.specs.declared.nodes.Rule.{Rule}
 use Rattle.control_words.specs.Stack.{Stack, none, line, sub, lines_in}
 use Rattle.handler_chain.specs.FlatLines.{module_of}
@@ -39,7 +39,7 @@ failing_put files v = λ i. λ n. fails_put files v n i
 -- nor does drawing words change the time
 pub draws_moment : (n : ℕ) (c : ClockState) → (after_draws n c).moment ≡ c.moment
 draws_moment zero c = refl
-draws_moment (suc n) c = draws_moment n (drawn c)
+draws_moment (suc n) c = draws_moment n (random_taken c)
 
 -- ---- a state with other files
 
@@ -61,8 +61,8 @@ module _ (func : Func) (folder user root : List ℕ) (moment : ℕ) (distinct : 
 
   module _ (timely : IsTimely func moment) (players : List Player) (flags : ℕ) where
     -- what a module's call leads to
-    abbrev behind : State → Played → Answered
-    behind s p = record {
+    abbrev past_end : State → Played → Answered
+    past_end s p = record {
       answer = answer_or_incomplete p.room.put_off p.code;
       state = swept (notes_of players) (with_scene (with_played p (scene_in s)) s);
     }
@@ -71,12 +71,12 @@ module _ (func : Func) (folder user root : List ℕ) (moment : ℕ) (distinct : 
     abbrev in_vault : VaultState → State → State
     in_vault v s = record s { world = record s.world { vault = v } }
 
-    behind_alike : (s : State) (others left : List File) (p : Played) → s.world.process.root ≡ root → s.world.clock.moment ≡ moment → p.room.items.user ≡ Some user
-        → LookSameTo func folder user root p.files left → AnswersAlike (behind s p) (behind (in_files others s) (record p { files = left }))
-    behind_alike s others left p root_is moment_is is look = record {
+    after_alike : (s : State) (others left : List File) (p : Played) → s.world.process.root ≡ root → s.world.clock.moment ≡ moment → p.room.items.user ≡ Some user
+        → LookSameTo func folder user root p.files left → AnswersAlike (past_end s p) (past_end (in_files others s) (record p { files = left }))
+    after_alike s others left p root_is moment_is is look = record {
       answer = refl;
       state = record {
-        rest = ap (λ (v : VaultState). in_vault (record v { files = left; locks = p.locks s.world.vault.calls s.world.vault.locks }) (behind s p).state)
+        rest = ap (λ (v : VaultState). in_vault (record v { files = left; locks = p.locks s.world.vault.calls s.world.vault.locks }) (past_end s p).state)
             (sym (calls_put p.calls others s.world.vault));
         user_is = is;
         root_is = root_is;
@@ -112,8 +112,8 @@ module _ (func : Func) (folder user root : List ℕ) (moment : ℕ) (distinct : 
         (back root root_is look) in
         let left : LookSameTo func folder user root p.files there.files =
         subst (λ (r : List ℕ). LookSameTo func folder user r p.files there.files) root_is own.same.look in
-        subst (λ (x : Played). AnswersAlike (behind now p) (behind (in_files others now) x)) (with_left p there own.same.rest ∙ same_sight)
-        (behind_alike now others there.files p root_is moment_is own.user_is left)
+        subst (λ (x : Played). AnswersAlike (past_end now p) (past_end (in_files others now) x)) (with_left p there own.same.rest ∙ same_sight)
+        (after_alike now others there.files p root_is moment_is own.user_is left)
 
     -- a line that changes nothing
     unchanged : (s : State) (others : List File) → s.room.transaction.items.user ≡ Some user → s.world.process.root ≡ root → s.world.clock.moment ≡ moment

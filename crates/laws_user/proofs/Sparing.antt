@@ -21,7 +21,7 @@ use Rattle.dispatch_core.specs.Pending.{Pending}
 use Rattle.pam_handle.specs.Call.{Called, begun_or_going_on, called, tokens_cleared}
 use Rattle.pam_handle.specs.Handle.{PlainHandle}
 use Rattle.pam_handle.specs.Pass.{Passed}
-use Rattle.pam_handle.specs.StackCalls.{account, authenticated, authentication, behind_check, behind_pass, change_goes_on, changed, check, closing, credentials, ended, flags_seen, has_pass_flag, opening, update}
+use Rattle.pam_handle.specs.StackCalls.{account, authenticated, authentication, after_check, past_pass, change_goes_on, changed, check, closing, credentials, ended, flags_seen, has_pass_flag, opening, update}
 use Rattle.laws_denial.specs.Kept_out.{EachLine}
 use Rattle.laws_user.specs.Calls.{CallsWriteOwn, IsOwnLine, KeepsOthers, KeepsToOwn}
 use Rattle.laws_user.specs.Users.{IsTimely}
@@ -128,22 +128,22 @@ module _ (folder user root : List ℕ) (moment : ℕ) (timely : IsTimely ChAuthT
   update_leaves : (first : Option KeptAnswers) (past : List Code) (h : PlainHandle) (w : PlainWorld) → EachLine (IsOwnLine players ChAuthTok folder) 1 h.stacks.password
       → SameIn (state_of h.room w) (state_of h.room w) → LeavesIn (update players flags first past h w)
   update_leaves first past h w each same =
-      goes ChAuthTok folder user root moment timely before players (λ p. changed p.paused p.code (behind_pass ChAuthTok first p h) p.state.world)
-      (λ p after. changed_leaves p.paused p.code (behind_pass ChAuthTok first p h) p.state.world after.others)
+      goes ChAuthTok folder user root moment timely before players (λ p. changed p.paused p.code (past_pass ChAuthTok first p h) p.state.world)
+      (λ p after. changed_leaves p.paused p.code (past_pass ChAuthTok first p h) p.state.world after.others)
       kinds.Follow first (flags_seen ChAuthTok true flags) h.stacks.password each past (state_of h.room w) same
 
-  behind_check_leaves : (code : Code) (paused : Option (List Code)) (kept : Option KeptAnswers) (h : PlainHandle) (w : PlainWorld)
+  after_check_leaves : (code : Code) (paused : Option (List Code)) (kept : Option KeptAnswers) (h : PlainHandle) (w : PlainWorld)
       → EachLine (IsOwnLine players ChAuthTok folder) 1 h.stacks.password → SameIn (state_of h.room w) (state_of h.room w)
-      → LeavesIn (behind_check players flags code paused kept h w)
-  behind_check_leaves returns.Success paused kept h w each same = update_leaves kept [] h w each same
-  behind_check_leaves code paused kept h w each same = changed_leaves paused code h w same.others
+      → LeavesIn (after_check players flags code paused kept h w)
+  after_check_leaves returns.Success paused kept h w each same = update_leaves kept [] h w each same
+  after_check_leaves code paused kept h w each same = changed_leaves paused code h w same.others
 
   check_leaves : (past : List Code) (h : PlainHandle) (w : PlainWorld) → EachLine (IsOwnLine players ChAuthTok folder) 1 h.stacks.password
       → SameIn (state_of h.room w) (state_of h.room w) → LeavesIn (check players flags past h w)
   check_leaves past h w each same =
       goes ChAuthTok folder user root moment timely before players
-      (λ p. behind_check players flags p.code p.paused p.kept (behind_pass ChAuthTok None p h) p.state.world)
-      (λ p after. behind_check_leaves p.code p.paused p.kept (behind_pass ChAuthTok None p h) p.state.world each after)
+      (λ p. after_check players flags p.code p.paused p.kept (past_pass ChAuthTok None p h) p.state.world)
+      (λ p after. after_check_leaves p.code p.paused p.kept (past_pass ChAuthTok None p h) p.state.world each after)
       kinds.Keep None (flags_seen ChAuthTok false flags) h.stacks.password each past (state_of h.room w) same
 
   change_leaves : (past : List Code) (first : Option KeptAnswers) (h : PlainHandle) (w : PlainWorld)
@@ -186,9 +186,9 @@ module _ (players : List Player) (number_of : Code → ℕ → ℕ) (flags : ℕ
       → g.room.transaction.items.user ≡ Some user → KeepsOthers Authenticate folder user root files (authentication players number_of flags past g w).world.vault.files
   authentication_leaves time g past each there =
       goes Authenticate folder user root w.clock.moment time files players
-      (λ p. authenticated number_of p.paused p.code (behind_pass Authenticate None p g) p.state.world)
+      (λ p. authenticated number_of p.paused p.code (past_pass Authenticate None p g) p.state.world)
       (λ p after. subst (λ (fs : List File). KeepsOthers Authenticate folder user root files fs)
-      (sym (authenticated_rests number_of p.paused p.code (behind_pass Authenticate None p g) p.state.world)) after.others)
+      (sym (authenticated_rests number_of p.paused p.code (past_pass Authenticate None p g) p.state.world)) after.others)
       kinds.Keep g.authenticated flags g.stacks.auth each past (state_of g.room w) (at_first Authenticate time g there)
 
 pub writes_own : CallsWriteOwn
@@ -200,7 +200,7 @@ writes_own players number_of Authenticate flags folder user h w each is time =
     (authentication_leaves players number_of flags folder user h w is time cleared [] each is)
     (λ p. authentication_leaves players number_of flags folder user h w is time h p.past each is)
 writes_own players number_of SetCred flags folder user h w each is time =
-    let runs = one_pass players number_of flags folder user h w is SetCred time (λ p. behind_pass SetCred None p h) (following h.authenticated) h.authenticated
+    let runs = one_pass players number_of flags folder user h w is SetCred time (λ p. past_pass SetCred None p h) (following h.authenticated) h.authenticated
     (flags_seen SetCred false flags) h.stacks.auth each in
     begun_or_not (λ (c : Called). KeepsOthers SetCred folder user w.process.root w.vault.files c.world.vault.files) SetCred h.pending
     (called returns.Abort h w) (credentials players flags [] h w) (λ p. credentials players flags p.past h w)
@@ -212,13 +212,13 @@ writes_own players number_of AcctMgmt flags folder user h w each is time =
     (called returns.Abort h w) (account players flags [] h w) (λ p. account players flags p.past h w)
     (none_yet players number_of flags folder user h w is AcctMgmt) (runs []) (λ p. runs p.past)
 writes_own players number_of OpenSession flags folder user h w each is time =
-    let runs = one_pass players number_of flags folder user h w is OpenSession time (λ p. behind_pass OpenSession None p h) kinds.Keep h.opened
+    let runs = one_pass players number_of flags folder user h w is OpenSession time (λ p. past_pass OpenSession None p h) kinds.Keep h.opened
     (flags_seen OpenSession false flags) h.stacks.session each in
     begun_or_not (λ (c : Called). KeepsOthers OpenSession folder user w.process.root w.vault.files c.world.vault.files) OpenSession h.pending
     (called returns.Abort h w) (opening players flags [] h w) (λ p. opening players flags p.past h w)
     (none_yet players number_of flags folder user h w is OpenSession) (runs []) (λ p. runs p.past)
 writes_own players number_of CloseSession flags folder user h w each is time =
-    let runs = one_pass players number_of flags folder user h w is CloseSession time (λ p. behind_pass CloseSession None p h) (following h.opened) h.opened
+    let runs = one_pass players number_of flags folder user h w is CloseSession time (λ p. past_pass CloseSession None p h) (following h.opened) h.opened
     (flags_seen CloseSession false flags) h.stacks.session each in
     begun_or_not (λ (c : Called). KeepsOthers CloseSession folder user w.process.root w.vault.files c.world.vault.files) CloseSession h.pending
     (called returns.Abort h w) (closing players flags [] h w) (λ p. closing players flags p.past h w)

@@ -29,16 +29,16 @@ module _ {State : Type 0} (R : State → State → Type 0) where
   ServesAlike serve at rule = (s t : State) → R s t → ServedAlike (serve rule at s) (serve rule at t)
 
   -- what follows a line, by its result, and what follows a substack
-  abbrev behind_line : PassKind → Serving State → Rule → Stack → ℕ → Opinion → Opinion → Served State → Walked State
-  behind_line kind serve rule rest at entry opinion served =
+  abbrev past_line : PassKind → Serving State → Rule → Stack → ℕ → Opinion → Opinion → Served State → Walked State
+  past_line kind serve rule rest at entry opinion served =
       let action = action_at rule.control served.deciding in
       let new = acted kind action served.answer served.deciding entry opinion in
       let last = new_or_overrun action (count rest) new in
       if served.stopped then halted opinion served.state
       else onward (next_of action (count rest) new) (λ n. walk kind serve n rest (at + 1) entry last served.state) (walked last served.state)
 
-  abbrev behind_sub : PassKind → Serving State → Stack → ℕ → Opinion → Walked State → Walked State
-  behind_sub kind serve rest at entry inside = if inside.stopped then inside else walk kind serve zero rest at entry inside.opinion inside.state
+  abbrev past_sub : PassKind → Serving State → Stack → ℕ → Opinion → Walked State → Walked State
+  past_sub kind serve rest at entry inside = if inside.stopped then inside else walk kind serve zero rest at entry inside.opinion inside.state
 
   module _ (kind : PassKind) (serve : Serving State) where
     onward_alike : (next : Next) (rest : Stack) (at : ℕ) (entry last : Opinion) (s t : State) → R s t
@@ -50,7 +50,7 @@ module _ {State : Type 0} (R : State → State → Type 0) where
 
     line_alike : (rule : Rule) (rest : Stack) (at : ℕ) (entry opinion : Opinion) (a : Served State) (t : State) → R a.state t
         → ((n : ℕ) (last : Opinion) → WalkedAlike (walk kind serve n rest (at + 1) entry last a.state) (walk kind serve n rest (at + 1) entry last t))
-        → WalkedAlike (behind_line kind serve rule rest at entry opinion a) (behind_line kind serve rule rest at entry opinion (record a { state = t }))
+        → WalkedAlike (past_line kind serve rule rest at entry opinion a) (past_line kind serve rule rest at entry opinion (record a { state = t }))
     line_alike rule rest at entry opinion a t r more =
         let action : Action = action_at rule.control a.deciding in
         let new : Opinion = acted kind action a.answer a.deciding entry opinion in
@@ -66,7 +66,7 @@ module _ {State : Type 0} (R : State → State → Type 0) where
 
     sub_alike : (rest : Stack) (at : ℕ) (entry : Opinion) (a : Walked State) (t : State) → R a.state t
         → WalkedAlike (walk kind serve zero rest at entry a.opinion a.state) (walk kind serve zero rest at entry a.opinion t)
-        → WalkedAlike (behind_sub kind serve rest at entry a) (behind_sub kind serve rest at entry (record a { state = t }))
+        → WalkedAlike (past_sub kind serve rest at entry a) (past_sub kind serve rest at entry (record a { state = t }))
     sub_alike rest at entry a t r more = elim a.stopped as (λ (x : Bool). WalkedAlike
         (if x then a else walk kind serve zero rest at entry a.opinion a.state)
         (if x then record a { state = t } else walk kind serve zero rest at entry a.opinion t)) [
@@ -83,7 +83,7 @@ module _ {State : Type 0} (R : State → State → Type 0) where
         let a : Served State = serve rule at s in
         let b : Served State = serve rule at t in
         let alike : ServedAlike a b = each.0 s t r in
-        subst (λ (x : Served State). WalkedAlike (behind_line kind serve rule rest at entry opinion a) (behind_line kind serve rule rest at entry opinion x))
+        subst (λ (x : Served State). WalkedAlike (past_line kind serve rule rest at entry opinion a) (past_line kind serve rule rest at entry opinion x))
         alike.rest
         (line_alike rule rest at entry opinion a b.state alike.state (λ n last. walk_alike n rest (at + 1) entry last a.state b.state each.1 alike.state))
     walk_alike zero (sub inner rest) at entry opinion s t each r =
@@ -91,7 +91,7 @@ module _ {State : Type 0} (R : State → State → Type 0) where
         let b : Walked State = walk kind serve zero inner at opinion opinion t in
         let alike : WalkedAlike a b = walk_alike zero inner at opinion opinion s t each.0 r in
         let on : ℕ = at + lines_in inner in
-        subst (λ (x : Walked State). WalkedAlike (behind_sub kind serve rest on entry a) (behind_sub kind serve rest on entry x)) alike.rest
+        subst (λ (x : Walked State). WalkedAlike (past_sub kind serve rest on entry a) (past_sub kind serve rest on entry x)) alike.rest
         (sub_alike rest on entry a b.state alike.state (walk_alike zero rest on entry a.opinion a.state b.state each.1 alike.state))
 
 -- ---- a pass

@@ -38,8 +38,8 @@ pub record IsElsewhere (folder user root path : List ℕ) : Type 0 where
   pub tally : path ≢ path_of root (tally_name folder user)
 
 module _ (players : List Player) (number_of : Code → ℕ → ℕ) where
-  abbrev pub files_behind : UserCall → List File
-  files_behind c =
+  abbrev pub files_after : UserCall → List File
+  files_after c =
       (stack_call players number_of c.func c.flags c.handle c.world).world.vault.files
 
   -- Calls of others, in whatever processes, lead from files to files: each finds them as the one
@@ -50,7 +50,7 @@ module _ (players : List Player) (number_of : Code → ℕ → ℕ) where
   OthersCall folder user root before (c ∷ cs) after =
       IsOwn players folder c × (c.world.vault.files ≡ before) × (c.world.process.root ≡ root)
       × IsElsewhere folder user root (path_of root (tally_name folder c.user))
-      × OthersCall folder user root (files_behind c) cs after
+      × OthersCall folder user root (files_after c) cs after
 
 -- Whoever else logs in or changes a token meanwhile, whether they succeed or fail: a user's call
 -- returns the same and leaves the same, if shadow can be read, and for a change of token has room

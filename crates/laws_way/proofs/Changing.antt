@@ -8,7 +8,7 @@ use Rattle.handler_chain.specs.Pass.{PassState, kept_in}
 use Rattle.handler_chain.specs.Route.{KeptAnswers}
 use Rattle.handler_chain.specs.Walk.{Walked, code_of}
 use Rattle.service_load.specs.Stacks.{Stacks}
-use Rattle.dispatch_core.specs.Calls.{Asking, Held, Passed, Went, answers_held, behind_check, change, first_pass, goes, held_behind, second_pass, update, went}
+use Rattle.dispatch_core.specs.Calls.{Asking, Held, Passed, Went, answers_held, after_check, change, first_pass, goes, held_past, second_pass, update, went}
 use Rattle.dispatch_core.specs.Pending.{first_in, past_in, pending_after}
 use Rattle.stack_ways.specs.Laws.{ArePossible, granted}
 use Rattle.stack_ways.specs.MayEnd.{CodesOf, StackMayEnd}
@@ -21,13 +21,13 @@ use Rattle.laws_way.proofs.Again.{cached_granted_by}
 module _ {State : Type 0} (asking : Asking State) (stacks : Stacks) where
   -- ---- what follows the first pass
 
-  check_succeeded : (code : Code) (kept : Option KeptAnswers) (h : Held) (s : State) → (behind_check asking stacks code kept h s).code ≡ codes.Success
+  check_succeeded : (code : Code) (kept : Option KeptAnswers) (h : Held) (s : State) → (after_check asking stacks code kept h s).code ≡ codes.Success
       → code ≡ codes.Success
   check_succeeded codes.Success kept h s e = refl
   check_succeeded code kept h s e = e
 
   check_failed : (code : Code) (kept : Option KeptAnswers) (h : Held) (s : State) → code ≢ codes.Success
-      → behind_check asking stacks code kept h s ≡ went code h s
+      → after_check asking stacks code kept h s ≡ went code h s
   check_failed codes.Success kept h s other = absurd (other refl)
   check_failed code kept h s other = refl
 
@@ -37,7 +37,7 @@ module _ {State : Type 0} (asking : Asking State) (stacks : Stacks) where
   first_left first (Some past) kept e = e
 
   left_in_update : (code : Code) (cached : Option KeptAnswers) (p : Passed State) (h : Held) (s : State) (kept : KeptAnswers)
-      → first_in (behind_check asking stacks code cached (held_behind ChAuthTok None p h) s).held.pending ≡ Some kept
+      → first_in (after_check asking stacks code cached (held_past ChAuthTok None p h) s).held.pending ≡ Some kept
       → (code ≡ codes.Success) × (cached ≡ Some kept)
   left_in_update codes.Success cached p h s kept e = (refl, first_left cached (second_pass asking stacks cached [] s).paused kept e)
   left_in_update code cached p h s kept e = let nothing : None ≡ Some kept = first_left None p.paused kept e in absurd cc
@@ -52,9 +52,9 @@ module _ {State : Type 0} (asking : Asking State) (stacks : Stacks) where
     second = update_run asking stacks (kept_in first.state.visits) [] first.state.state
 
     abbrev there : Held
-    there = held_behind ChAuthTok None (first_pass asking stacks ChAuthTok (past_in h.pending) h s) h
+    there = held_past ChAuthTok None (first_pass asking stacks ChAuthTok (past_in h.pending) h s) h
 
-    is_check : goes asking stacks ChAuthTok h s ≡ behind_check asking stacks (code_of first) (Some (kept_in first.state.visits)) there first.state.state
+    is_check : goes asking stacks ChAuthTok h s ≡ after_check asking stacks (code_of first) (Some (kept_in first.state.visits)) there first.state.state
     is_check = ap (λ (cached : Option KeptAnswers). change asking stacks (past_in h.pending) cached h s) none
 
     pub succeeded : (goes asking stacks ChAuthTok h s).code ≡ codes.Success → code_of first ≡ codes.Success
@@ -63,7 +63,7 @@ module _ {State : Type 0} (asking : Asking State) (stacks : Stacks) where
 
     pub is_update : code_of first ≡ codes.Success
         → goes asking stacks ChAuthTok h s ≡ update asking stacks (Some (kept_in first.state.visits)) [] there first.state.state
-    is_update checked = is_check ∙ ap (λ (c : Code). behind_check asking stacks c (Some (kept_in first.state.visits)) there first.state.state) checked
+    is_update checked = is_check ∙ ap (λ (c : Code). after_check asking stacks c (Some (kept_in first.state.visits)) there first.state.state) checked
 
     pub caches : (possible : CodesOf) → ArePossible possible first.state.visits → code_of first ≡ codes.Success
         → CachedBy possible stacks.password first.state.visits granted (kept_in first.state.visits)

@@ -17,7 +17,7 @@ use Rattle.mod_env.specs.declared.conf.Key.TheVariants.{Default, Override}
 use Rattle.mod_env.specs.declared.conf.Values.{Values}
 use Rattle.mod_env.specs.declared.conf.EnvLine.{EnvLine}
 use Rattle.mod_env.specs.Marks.{begins_with, after_white, is_byte, is_white_mark, marks_of, text_of}
-use Rattle.mod_env.specs.Value.{Next, broken, pieces_from_next, closed, ended, in_front, is_sigil, next_piece, one, pieces_of, pieces_within}
+use Rattle.mod_env.specs.Value.{Next, broken, pieces_from_next, closed, ended, put_before, is_sigil, next_piece, one, pieces_of, pieces_within}
 use Rattle.mod_env.specs.Conf as conf
 use Rattle.mod_env.specs.Conf.{values_of}
 use Rattle.mod_env.specs.Spelling.{Follows, Given, IsPassedOver, SpellsConf, SpellsEntry, SpellsLines, SpellsPiece, SpellsPlace, SpellsQuoted, SpellsSetting, SpellsSettings, SpellsValue, SpellsWord, is_end, opens, quotes, values_after, word_of}
@@ -34,19 +34,19 @@ pub record FoundAt {A : Type 0} (p : A → Bool) (xs : List A) (n : ℕ) : Type 
   pub passes : p at ≡ true
 
 module _ {A : Type 0} (p : A → Bool) where
-  found_behind : (x : A) (xs : List A) → ((m : ℕ) → position_or_len p xs ≡ m → m < length xs → FoundAt p xs m)
+  found_after : (x : A) (xs : List A) → ((m : ℕ) → position_or_len p xs ≡ m → m < length xs → FoundAt p xs m)
       → (b : Bool) (n : ℕ) → p x ≡ b → position_or_len p (x ∷ xs) ≡ n → n < length (x ∷ xs) → FoundAt p (x ∷ xs) n
-  found_behind x xs more true zero e is few = record { at = x; is = refl; rest = refl; none = refl; passes = e }
-  found_behind x xs more true (suc n) e is few = let at : 0 ≡ suc n = rw e at is in absurd (omega arith)
-  found_behind x xs more false zero e is few = let at : 1 + position_or_len p xs ≡ 0 = rw e at is in absurd (omega arith)
-  found_behind x xs more false (suc n) e is few =
+  found_after x xs more true zero e is few = record { at = x; is = refl; rest = refl; none = refl; passes = e }
+  found_after x xs more true (suc n) e is few = let at : 0 ≡ suc n = rw e at is in absurd (omega arith)
+  found_after x xs more false zero e is few = let at : 1 + position_or_len p xs ≡ 0 = rw e at is in absurd (omega arith)
+  found_after x xs more false (suc n) e is few =
       let at : 1 + position_or_len p xs ≡ suc n = rw e at is in
       let m = more n (omega arith) (omega (arith, few)) in
       record { at = m.at; is = ap (λ (t : List A). x ∷ t) m.is; rest = m.rest; none = rw e m.none; passes = m.passes }
 
   first_found : (xs : List A) (n : ℕ) → position_or_len p xs ≡ n → n < length xs → FoundAt p xs n
   first_found [] n is few = absurd (omega (arith, few))
-  first_found (x ∷ xs) n is few = found_behind x xs (first_found xs) (p x) n refl is few
+  first_found (x ∷ xs) n is few = found_after x xs (first_found xs) (p x) n refl is few
 
   pub found_at : (xs : List A) (n : ℕ) → position p xs ≡ Some n → FoundAt p xs n
   found_at xs n e =
@@ -54,14 +54,14 @@ module _ {A : Type 0} (p : A → Bool) where
       let few : position_or_len p xs < length xs = grind (arith, nat_tests) in
       first_found xs n at (omega arith)
 
-  none_behind : (x : A) (xs : List A) → (length xs ≤ position_or_len p xs → list_any p xs ≡ false)
+  none_past : (x : A) (xs : List A) → (length xs ≤ position_or_len p xs → list_any p xs ≡ false)
       → (b : Bool) → p x ≡ b → length (x ∷ xs) ≤ position_or_len p (x ∷ xs) → list_any p (x ∷ xs) ≡ false
-  none_behind x xs more true e few = let at : length (x ∷ xs) ≤ 0 = rw e at few in absurd (omega (arith, at))
-  none_behind x xs more false e few = let at : length (x ∷ xs) ≤ 1 + position_or_len p xs = rw e at few in rw e (more (omega (arith, at)))
+  none_past x xs more true e few = let at : length (x ∷ xs) ≤ 0 = rw e at few in absurd (omega (arith, at))
+  none_past x xs more false e few = let at : length (x ∷ xs) ≤ 1 + position_or_len p xs = rw e at few in rw e (more (omega (arith, at)))
 
   pub none_in : (xs : List A) → length xs ≤ position_or_len p xs → list_any p xs ≡ false
   none_in [] few = refl
-  none_in (x ∷ xs) few = none_behind x xs (none_in xs) (p x) refl few
+  none_in (x ∷ xs) few = none_past x xs (none_in xs) (p x) refl few
 
   pub none_at : (xs : List A) → position p xs ≡ None → list_any p xs ≡ false
   none_at xs e = let few : length xs ≤ position_or_len p xs = grind (arith, nat_tests) in none_in xs few
@@ -129,7 +129,7 @@ SpellsRead None text = Unit {0}
 SpellsRead (Some value) text = SpellsValue value text
 
 piece_before : (piece : Piece) (text rest : List Mark) → SpellsPiece piece text rest → (more : Option (List Piece)) → SpellsRead more rest
-    → SpellsRead (in_front piece more) text
+    → SpellsRead (put_before piece more) text
 piece_before piece text rest s None t = tt
 piece_before piece text rest s (Some value) t = (rest, s, t)
 
@@ -151,20 +151,20 @@ value_is_spelled text = pieces_spelled (length text) text
 -- ---- settings
 
 -- a setting, except what its value's marks spell
-pub record Sets (key : Key) (inner text behind : List Mark) : Type 0 where
+pub record Sets (key : Key) (inner text past_end : List Mark) : Type 0 where
   pub white : List Mark
   pub at : List Mark
   pub text_is : text ≡ white ++ (word_of key ++ at)
   pub is_blank : list_all is_white_mark white ≡ true
-  pub form : (value : List Piece) → SpellsValue value inner → SpellsQuoted value at behind ⊎ SpellsWord value at behind
-  pub ends : is_end behind ≡ true
+  pub form : (value : List Piece) → SpellsValue value inner → SpellsQuoted value at past_end ⊎ SpellsWord value at past_end
+  pub ends : is_end past_end ≡ true
 
 abbrev pub SetsNext : conf.Setting → List Mark → Type 0
 SetsNext conf.ended text = list_all is_white_mark text ≡ true
 SetsNext conf.broken text = Unit {0}
-SetsNext (conf.one key inner behind) text = Sets key inner text behind
+SetsNext (conf.one key inner past_end) text = Sets key inner text past_end
 
-ends_as : (behind : List Mark) → conf.ends_word behind ≡ is_end behind
+ends_as : (past_end : List Mark) → conf.ends_word past_end ≡ is_end past_end
 ends_as [] = refl
 ends_as (m ∷ ms) = refl
 
@@ -172,8 +172,8 @@ quoted_by : (ms : List Mark) → quotes ms ≡ true → ms ≡ marks.Byte 34 ∷
 quoted_by [] e = absurd cc
 quoted_by (m ∷ ms) e = ap (λ (n : Mark). n ∷ ms) (is_that 34 m e)
 
-white_ends : (behind : List Mark) (m : Mark) (ms : List Mark) → behind ≡ m ∷ ms → is_white_mark m ≡ true → is_end behind ≡ true
-white_ends behind m ms is e = rw is e
+white_ends : (past_end : List Mark) (m : Mark) (ms : List Mark) → past_end ≡ m ∷ ms → is_white_mark m ≡ true → is_end past_end ≡ true
+white_ends past_end m ms is e = rw is e
 
 module _ (key : Key) (white at text : List Mark) (is : text ≡ white ++ (word_of key ++ at)) (blank : list_all is_white_mark white ≡ true) where
   in_quotes : (n : ℕ) → at ≡ marks.Byte 34 ∷ drop 1 at → FoundAt (is_byte 34) (drop 1 at) n → is_end (drop (suc n) (drop 1 at)) ≡ true
@@ -208,9 +208,9 @@ module _ (key : Key) (white at text : List Mark) (is : text ≡ white ++ (word_o
   quoted_spelled None opens_at e = tt
   quoted_spelled (Some n) opens_at e = closes n opens_at (found_at (is_byte 34) (drop 1 at) n e) (conf.ends_word (drop (n + 1) (drop 1 at))) refl
 
-  as_word : (inner behind : List Mark) → at ≡ inner ++ behind → quotes at ≡ false → list_any is_white_mark inner ≡ false → is_end behind ≡ true
-      → Sets key inner text behind
-  as_word inner behind at_is plain whole ends = record {
+  as_word : (inner past_end : List Mark) → at ≡ inner ++ past_end → quotes at ≡ false → list_any is_white_mark inner ≡ false → is_end past_end ≡ true
+      → Sets key inner text past_end
+  as_word inner past_end at_is plain whole ends = record {
     white = white;
     at = at;
     text_is = is;
@@ -301,9 +301,9 @@ abbrev pub SettlesTo : Values → Option Values → List Mark → Type 0
 SettlesTo values None text = Unit {0}
 SettlesTo values (Some all) text = (given : List Given) × SpellsSettings given text × (values_after given values ≡ all)
 
-whole_setting : (key : Key) (inner text behind : List Mark) (value : List Piece) → Sets key inner text behind → SpellsValue value inner
-    → SpellsSetting key value text behind
-whole_setting key inner text behind value s spelled = record {
+whole_setting : (key : Key) (inner text past_end : List Mark) (value : List Piece) → Sets key inner text past_end → SpellsValue value inner
+    → SpellsSetting key value text past_end
+whole_setting key inner text past_end value s spelled = record {
   white = s.white;
   at = s.at;
   text_is = s.text_is;
@@ -312,23 +312,23 @@ whole_setting key inner text behind value s spelled = record {
   ends = s.ends;
 }
 
-one_more : (key : Key) (value : List Piece) (text behind : List Mark) (values : Values) → SpellsSetting key value text behind
-    → (all : Option Values) → SettlesTo (conf.with_value key value values) all behind → SettlesTo values all text
-one_more key value text behind values s None t = tt
-one_more key value text behind values s (Some all) t = (record { key = key; value = value } ∷ t.0, (behind, s, t.1), t.2)
+one_more : (key : Key) (value : List Piece) (text past_end : List Mark) (values : Values) → SpellsSetting key value text past_end
+    → (all : Option Values) → SettlesTo (conf.with_value key value values) all past_end → SettlesTo values all text
+one_more key value text past_end values s None t = tt
+one_more key value text past_end values s (Some all) t = (record { key = key; value = value } ∷ t.0, (past_end, s, t.1), t.2)
 
 module _ (more : Values → List Mark → Option Values) (spelled : (values : Values) (rest : List Mark) → SettlesTo values (more values rest) rest) (values : Values) (text : List Mark) where
-  by_value : (key : Key) (inner behind : List Mark) → Sets key inner text behind → (value : Option (List Piece)) → SpellsRead value inner
-      → SettlesTo values (conf.values_after_pieces more values key behind value) text
-  by_value key inner behind s None t = tt
-  by_value key inner behind s (Some value) t =
-      one_more key value text behind values (whole_setting key inner text behind value s t) (more (conf.with_value key value values) behind)
-      (spelled (conf.with_value key value values) behind)
+  by_value : (key : Key) (inner past_end : List Mark) → Sets key inner text past_end → (value : Option (List Piece)) → SpellsRead value inner
+      → SettlesTo values (conf.values_after_pieces more values key past_end value) text
+  by_value key inner past_end s None t = tt
+  by_value key inner past_end s (Some value) t =
+      one_more key value text past_end values (whole_setting key inner text past_end value s t) (more (conf.with_value key value values) past_end)
+      (spelled (conf.with_value key value values) past_end)
 
   by_setting_spelled : (found : conf.Setting) → SetsNext found text → SettlesTo values (conf.values_after_setting more values found) text
   by_setting_spelled conf.ended s = ([], s, refl)
   by_setting_spelled conf.broken s = tt
-  by_setting_spelled (conf.one key inner behind) s = by_value key inner behind s (pieces_of inner) (value_is_spelled inner)
+  by_setting_spelled (conf.one key inner past_end) s = by_value key inner past_end s (pieces_of inner) (value_is_spelled inner)
 
 none_left : (values : Values) (text : List Mark) (is : Bool) → (length (after_white text) == 0) ≡ is → SettlesTo values (cond is (Some values) None) text
 none_left values text true e = ([], only_white text (skipped text) (is_empty (after_white text) e), refl)
@@ -388,21 +388,21 @@ named_by text None e =
     let none = none_at is_white text e in
     let at : position_or_len is_white text ≡ length text = none_before is_white text none in
     let all : before_first is_white text ≡ text = rw at (take-length text) in
-    let behind : after_first is_white text ≡ [] = rw at (drop_of_length-le text (omega arith)) in
+    let past_end : after_first is_white text ≡ [] = rw at (drop_of_length-le text (omega arith)) in
     record {
       tail = [];
       is = sym (ap (λ (t : List ℕ). t ++ []) all ∙ append-nil text);
-      follows = inl (refl, behind);
+      follows = inl (refl, past_end);
       whole = ap (list_any is_white) all ∙ none;
     }
 named_by text (Some n) e =
     let at : position_or_len is_white text ≡ n = grind (arith, nat_tests) in
     let f = found_at is_white text n e in
-    let behind : after_first is_white text ≡ drop (suc n) text = rw (at, add-one) refl in
+    let past_end : after_first is_white text ≡ drop (suc n) text = rw (at, add-one) refl in
     record {
       tail = drop n text;
       is = rw at (f.is ∙ ap (λ (t : List ℕ). take n text ++ t) (sym f.rest));
-      follows = inr (f.at, (f.rest ∙ ap (λ (t : List ℕ). f.at ∷ t) (sym behind)), f.passes);
+      follows = inr (f.at, (f.rest ∙ ap (λ (t : List ℕ). f.at ∷ t) (sym past_end)), f.passes);
       whole = rw at f.none;
     }
 
@@ -464,13 +464,13 @@ line_passed line lines s None t = tt
 line_passed line lines s (Some entries) t = inl (s, t)
 
 line_entry : (line : List ℕ) (lines : List (List ℕ)) (more : Option (List EnvLine)) → LinesRead more lines → (found : Option EnvLine)
-    → ((entry : EnvLine) → found ≡ Some entry → SpellsEntry entry line) → LinesRead (conf.in_front found more) (line ∷ lines)
+    → ((entry : EnvLine) → found ≡ Some entry → SpellsEntry entry line) → LinesRead (conf.put_before found more) (line ∷ lines)
 line_entry line lines more t None spelled = tt
 line_entry line lines None t (Some entry) spelled = tt
 line_entry line lines (Some entries) t (Some entry) spelled = inr (entry, entries, refl, spelled entry refl, t)
 
 line_spelled : (line : List ℕ) (lines : List (List ℕ)) (more : Option (List EnvLine)) → LinesRead more lines → (is : Bool) → conf.counts (conf.without_leading_white line) ≡ is
-    → LinesRead (cond is (conf.in_front (conf.entry_at (conf.without_leading_white line)) more) more) (line ∷ lines)
+    → LinesRead (cond is (conf.put_before (conf.entry_at (conf.without_leading_white line)) more) more) (line ∷ lines)
 line_spelled line lines more t true e =
     line_entry line lines more t (conf.entry_at (conf.without_leading_white line)) (λ entry f. entry_spelled line entry e f)
 line_spelled line lines more t false e = line_passed line lines (passed line e) more t

@@ -17,7 +17,7 @@ use Rattle.mod_env.specs.declared.conf.Values.{Values}
 use Rattle.mod_env.specs.declared.conf.EnvLine.{EnvLine}
 use Rattle.mod_env.specs.declared.conf.Setting.{Setting as LentSetting}
 use Rattle.mod_env.specs.declared.conf.Setting.TheVariants as borrowed
-use Rattle.mod_env.specs.Marks.{begins_with, behind, after_white, is_byte, is_white_mark, marks_of}
+use Rattle.mod_env.specs.Marks.{begins_with, past_end, after_white, is_byte, is_white_mark, marks_of}
 use Rattle.mod_env.specs.Value.{pieces_of}
 
 -- ---- the settings of a line
@@ -94,7 +94,7 @@ values_of marks = values_within (length marks) no_values marks
 
 -- a line without leading white space
 abbrev pub without_leading_white : List ℕ → List ℕ
-without_leading_white line = behind is_white line
+without_leading_white line = past_end is_white line
 
 -- a line counts unless it is all white space, or a comment
 abbrev pub counts : List ℕ → Bool
@@ -111,16 +111,16 @@ entry_at text =
     if has_byte 61 (before_first is_white text) then None
     else with_values (before_first is_white text) (values_of (marks_of (after_first is_white text)))
 
-abbrev pub in_front : Option EnvLine → Option (List EnvLine) → Option (List EnvLine)
-in_front (Some entry) (Some entries) = Some (entry ∷ entries)
-in_front (Some entry) None = None
-in_front None entries = None
+abbrev pub put_before : Option EnvLine → Option (List EnvLine) → Option (List EnvLine)
+put_before (Some entry) (Some entries) = Some (entry ∷ entries)
+put_before (Some entry) None = None
+put_before None entries = None
 
 -- the variables of lines, if each line that counts is well formed
 abbrev pub entries_of : List (List ℕ) → Option (List EnvLine)
 entries_of [] = Some []
 entries_of (line ∷ lines) = if counts (without_leading_white line)
-    then in_front (entry_at (without_leading_white line)) (entries_of lines) else entries_of lines
+    then put_before (entry_at (without_leading_white line)) (entries_of lines) else entries_of lines
 
 -- the variables of a text
 abbrev pub conf_of : List ℕ → Option (List EnvLine)

@@ -43,15 +43,15 @@ next_piece (marks.Stray ∷ rest) = broken
 next_piece (marks.Byte b ∷ rest) = at_byte b rest
 
 -- a piece before those that follow it
-abbrev pub in_front : Piece → Option (List Piece) → Option (List Piece)
-in_front piece (Some more) = Some (piece ∷ more)
-in_front piece None = None
+abbrev pub put_before : Piece → Option (List Piece) → Option (List Piece)
+put_before piece (Some more) = Some (piece ∷ more)
+put_before piece None = None
 
 -- the pieces, from how the value begins and from the pieces of the rest
 abbrev pub pieces_from_next : (List Mark → Option (List Piece)) → Next → Option (List Piece)
 pieces_from_next more ended = Some []
 pieces_from_next more broken = None
-pieces_from_next more (one piece rest) = in_front piece (more rest)
+pieces_from_next more (one piece rest) = put_before piece (more rest)
 
 -- the pieces of a value, at most n
 abbrev pub pieces_within : ℕ → List Mark → Option (List Piece)

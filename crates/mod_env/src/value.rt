@@ -40,9 +40,9 @@ pub fn pieces_of(alloc: Global, value: &[Mark]) -> Result<Option<Pieces>, NoMemo
         match next_piece(alloc, rest)? {
             Next::Ended => return Ok(Some(pieces)),
             Next::Broken => return Ok(None),
-            Next::One(piece, behind) => {
+            Next::One(piece, past_end) => {
                 pieces.push(piece)?;
-                rest = behind;
+                rest = past_end;
             }
         }
     }

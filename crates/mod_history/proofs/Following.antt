@@ -8,7 +8,7 @@ use Rattle.mod_unix.specs.Verify.{is_locked}
 use Rattle.mod_history.specs.declared.history.Remembered.{Remembered}
 use Rattle.mod_history.specs.History.{IsPart, history_text}
 use Rattle.mod_history.specs.Renewal.{hashes_in, hashes_of, renewed, renewed_hashes}
-use Rattle.mod_history.specs.Standing.{Deed, left, replaced, Does, Follow, Remembers, Served, StandsBy, deeds_of, is_renewed, kept_by, played, history_on_file}
+use Rattle.mod_history.specs.Standing.{Deed, left, replaced, Does, Follow, Remembers, Served, KeepsHashes, deeds_of, is_renewed, kept_by, played, history_on_file}
 use Rattle.mod_history.proofs.Fields.{Lacks, present_stands}
 use Rattle.mod_history.proofs.Renewed.{others_stay, own_renewed, renewed_fits}
 use Rattle.mod_history.proofs.Rereading.{history_read}
@@ -44,7 +44,7 @@ module _ (remember : ℕ) (some : 0 < remember) where
   hashes_by false user name hash history e = ap hashes_in (others_stay remember name hash user e history)
 
   after_one : (path : List ℕ) (s : Served) (d : Deed) (history : List Remembered) → Does path s.call s.room s.sight (played s) d → Remembers remember s → history_on_file (file_at path s.sight.files) ≡ Some history
-      → StandsBy remember (d ∷ []) history (file_at path (played s).files)
+      → KeepsHashes remember (d ∷ []) history (file_at path (played s).files)
   after_one path s left history does is stood = record { on_file = history; stands = ap history_on_file does ∙ stood; hashes = λ user. refl; others = λ user e. refl }
   after_one path s (replaced name hash) history does is stood =
       let found : does.on_file ≡ history = some_same does.on_file history (sym does.stood ∙ stood) in
@@ -61,7 +61,7 @@ module _ (remember : ℕ) (some : 0 < remember) where
       }
 
   pub calls_stand : (path : List ℕ) (calls : List Served) (before after : Option (List ℕ)) (history : List Remembered) → Follow path before calls after → AllByRecursion (Remembers remember) calls → history_on_file before ≡ Some history
-      → StandsBy remember (deeds_of calls) history after
+      → KeepsHashes remember (deeds_of calls) history after
   calls_stand path [] before after history follow all stood = record { on_file = history; stands = ap history_on_file follow ∙ stood; hashes = λ user. refl; others = λ user e. refl }
   calls_stand path (s ∷ ss) before after history follow all stood =
       let one = after_one path s s.deed history follow.1 all.0 (ap history_on_file follow.0 ∙ stood) in

@@ -6,7 +6,7 @@ use Rattle.pam_base.specs.Lines.{Cut, cut, last_line, lines_of, onto}
 use Rattle.pam_base.specs.Parts.{parts_of}
 use Rattle.pam_base.proofs.Cutting.{either}
 use Rattle.mod_history.specs.declared.history.Remembered.{Remembered}
-use Rattle.mod_history.specs.History.{IsHistory, IsLine, IsPart, all_in, are_distinct, history_of, if_distinct, in_front, part_in, remembered_in, with_hashes, with_parts}
+use Rattle.mod_history.specs.History.{IsHistory, IsLine, IsPart, all_in, are_distinct, history_of, if_distinct, put_before, part_in, remembered_in, with_hashes, with_parts}
 use Rattle.mod_history.specs.Standing.{history_on_file}
 
 pub some_same : {A : Type 0} (x y : A) → ◌≡◌ {A = Option A} (Some x) (Some y) → x ≡ y
@@ -74,7 +74,7 @@ part_fits [] text e f is = absurd cc
 part_fits (b ∷ bs) text e f is = subst IsPart (some_same (b ∷ bs) text is) (record { filled = refl; colons = e; newlines = f })
 
 parts_front : (o : Option (List ℕ)) (rest : Option (List (List ℕ))) (parts : List (List ℕ)) → ((p : List ℕ) → o ≡ Some p → IsPart p) → ((ps : List (List ℕ)) → rest ≡ Some ps → AllByRecursion IsPart ps)
-    → in_front o rest ≡ Some parts → AllByRecursion IsPart parts
+    → put_before o rest ≡ Some parts → AllByRecursion IsPart parts
 parts_front None rest parts first more e = absurd cc
 parts_front (Some p) None parts first more e = absurd cc
 parts_front (Some p) (Some ps) parts first more e = subst (AllByRecursion IsPart) (some_same (p ∷ ps) parts e) (first p refl, more ps refl)
@@ -99,7 +99,7 @@ line_fits line r lack is = line_by (parts_of 58 line) r (own_lack 58 line) (othe
 -- ---- the file
 
 lines_front : (o : Option Remembered) (rest : Option (List Remembered)) (history : List Remembered) → ((r : Remembered) → o ≡ Some r → IsLine r) → ((rs : List Remembered) → rest ≡ Some rs → AllByRecursion IsLine rs)
-    → in_front o rest ≡ Some history → AllByRecursion IsLine history
+    → put_before o rest ≡ Some history → AllByRecursion IsLine history
 lines_front None rest history first more e = absurd cc
 lines_front (Some r) None history first more e = absurd cc
 lines_front (Some r) (Some rs) history first more e = subst (AllByRecursion IsLine) (some_same (r ∷ rs) history e) (first r refl, more rs refl)

@@ -12,15 +12,15 @@ use Rattle.mod_history.specs.declared.history.Damaged.{Damaged}
 use Rattle.mod_history.specs.declared.history.Remembered.{Remembered}
 
 -- one more element before the others, if both exist
-abbrev pub in_front : {A : Type 0} → Option A → Option (List A) → Option (List A)
-in_front None xs = None
-in_front (Some x) None = None
-in_front (Some x) (Some xs) = Some (x ∷ xs)
+abbrev pub put_before : {A : Type 0} → Option A → Option (List A) → Option (List A)
+put_before None xs = None
+put_before (Some x) None = None
+put_before (Some x) (Some xs) = Some (x ∷ xs)
 
 -- what each text has, if each is well formed
 abbrev pub all_in : {A : Type 0} → (List ℕ → Option A) → List (List ℕ) → Option (List A)
 all_in form [] = Some []
-all_in form (t ∷ ts) = in_front (form t) (all_in form ts)
+all_in form (t ∷ ts) = put_before (form t) (all_in form ts)
 
 -- ---- a line
 

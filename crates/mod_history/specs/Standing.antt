@@ -141,7 +141,7 @@ added_by user (replaced name hash ∷ ds) hashes =
 
 -- The file has these lines: each user's hashes are those that were kept, and the line of a user for whom the file
 -- wasn't replaced is as it was.
-pub record StandsBy (remember : ℕ) (deeds : List Deed) (before : List Remembered)
+pub record KeepsHashes (remember : ℕ) (deeds : List Deed) (before : List Remembered)
     (after : Option (List ℕ)) : Type 0 where
   pub on_file : List Remembered
   pub stands : history_on_file after ≡ Some on_file

@@ -4,7 +4,7 @@ use Rattle.std.specs.List.{AllByRecursion}
 use Rattle.pam_outside.specs.Files.{file_at}
 use Rattle.mod_tally.specs.declared.tally.Failure.{Failure}
 use Rattle.mod_tally.specs.Tally.{IsFailure, counting, counts, failures_of, latest, tally_text}
-use Rattle.mod_tally.specs.Recorded.{Deed, left, recorded, cleared, Does, Follow, IsAmong, IsWith, Served, deeds_of, is_cleared, is_written, left_by, played, recorded_by, failures_on_file, stands_by}
+use Rattle.mod_tally.specs.Recorded.{Deed, left, recorded, cleared, Does, Follow, IsAmong, IsWith, Served, deeds_of, is_cleared, is_written, left_by, played, recorded_by, failures_on_file, failures_by}
 use Rattle.mod_tally.proofs.Counting.{counting-counting}
 
 -- ---- operations on the failures that count
@@ -33,7 +33,7 @@ module _ (i : ℕ) where
       rw all.0.0 (written ds (counting i (fs ++ f ∷ [])) (rs ++ f ∷ []) all.1 (recorded_alike fs rs f same) (same (f ∷ [])))
   written (cleared ∷ ds) fs rs all same is = written ds [] [] all.1 (λ more. refl) refl
 
-  pub stands : (ds : List Deed) (fs : List Failure) → AllByRecursion (IsWith i) ds → after_all ds fs ≡ stands_by i ds fs
+  pub stands : (ds : List Deed) (fs : List Failure) → AllByRecursion (IsWith i) ds → after_all ds fs ≡ failures_by i ds fs
   stands [] fs all = refl
   stands (left ∷ ds) fs all = stands ds fs all.1
   stands (recorded j f ∷ ds) fs all =
@@ -80,7 +80,7 @@ module _ (path : List ℕ) (i : ℕ) (read : IsRead) where
       followed ss (file_at path (played s).files) after (left_by s.deed fs) follow.2 all.1 done.0 done.1
 
   pub calls_count : (ss : List Served) (before after : Option (List ℕ)) (fs : List Failure) → Follow path before ss after → AllByRecursion (IsWith i) (deeds_of ss) → AllByRecursion IsFailure fs → failures_on_file before ≡ Some fs
-      → failures_on_file after ≡ Some (stands_by i (deeds_of ss) fs)
+      → failures_on_file after ≡ Some (failures_by i (deeds_of ss) fs)
   calls_count ss before after fs follow all fit stood =
       followed ss before after fs follow all fit stood ∙ ap (λ (x : List Failure). Some x) (stands i (deeds_of ss) fs all)
 
@@ -111,5 +111,5 @@ among_cond : (b : Bool) (f : Failure) (xs ys : List Failure) → IsAmong f xs �
 among_cond true f xs ys a b = a
 among_cond false f xs ys a b = b
 
-pub none_lost : (i : ℕ) (ds : List Deed) (f : Failure) (fs : List Failure) → IsAmong f fs → is_cleared ds ≡ false → counts i (latest (recorded_by ds fs)) f ≡ true → IsAmong f (stands_by i ds fs)
+pub none_lost : (i : ℕ) (ds : List Deed) (f : Failure) (fs : List Failure) → IsAmong f fs → is_cleared ds ≡ false → counts i (latest (recorded_by ds fs)) f ≡ true → IsAmong f (failures_by i ds fs)
 none_lost i ds f fs a e c = among_cond (is_written ds) f (counting i (recorded_by ds fs)) fs (among_filter (counts i (latest (recorded_by ds fs))) f (recorded_by ds fs) c (among_recorded ds f fs e a)) a

@@ -79,16 +79,16 @@ front : (a b : List ℕ) → take (length a) (a ++ b) ≡ a
 front [] b = refl
 front (x ∷ a) b = ap (λ (l : List ℕ). x ∷ l) (front a b)
 
-behind : (a b : List ℕ) → drop (length a) (a ++ b) ≡ b
-behind [] b = refl
-behind (x ∷ a) b = behind a b
+past_end : (a b : List ℕ) → drop (length a) (a ++ b) ≡ b
+past_end [] b = refl
+past_end (x ∷ a) b = past_end a b
 
-behind_next : (a : List ℕ) (x : ℕ) (b : List ℕ) → drop (suc (length a)) (a ++ x ∷ b) ≡ b
-behind_next [] x b = refl
-behind_next (y ∷ a) x b = behind_next a x b
+after_next : (a : List ℕ) (x : ℕ) (b : List ℕ) → drop (suc (length a)) (a ++ x ∷ b) ≡ b
+after_next [] x b = refl
+after_next (y ∷ a) x b = after_next a x b
 
-behind_one : (a : List ℕ) (x : ℕ) (b : List ℕ) → drop (length a + 1) (a ++ x ∷ b) ≡ b
-behind_one a x b = rw (add-one (length a)) (behind_next a x b)
+past_one : (a : List ℕ) (x : ℕ) (b : List ℕ) → drop (length a + 1) (a ++ x ∷ b) ≡ b
+past_one a x b = rw (add-one (length a)) (after_next a x b)
 
 either : (t : Bool) (rest : Bool) → (t || rest) ≡ false → (t ≡ false) × (rest ≡ false)
 either true rest e = absurd cc
@@ -115,7 +115,7 @@ failure-read : (f : Failure) → IsFailure f → failure_in Two (failure_text f)
 failure-read f is =
     let d = decimal f.moment in
     let rest = f.kind ∷ source_text f.source in
-    rw (position-space d rest (decimal_lacks f.moment is.moment 32 refl), front d (32 ∷ rest), behind_one d 32 rest, moment-decimal f.moment is.moment) (origin-read f.moment f.kind f.source is.origin)
+    rw (position-space d rest (decimal_lacks f.moment is.moment 32 refl), front d (32 ∷ rest), past_one d 32 rest, moment-decimal f.moment is.moment) (origin-read f.moment f.kind f.source is.origin)
 
 kind_lacks : (kind : ℕ) (source : List ℕ) → IsOrigin kind source → eqb kind 10 ≡ false
 kind_lacks kind [] is = rw is refl
@@ -153,7 +153,7 @@ all_end (f ∷ fs) before e =
 ends-with : (text : List ℕ) → Ends text → ends_with nat_eq text (10 ∷ []) ≡ true
 ends-with text e =
     let place : length (e.0 ++ 10 ∷ []) - 1 ≡ length e.0 = omega (arith, length-append e.0 (10 ∷ [])) in
-    rw (e.1, place, behind e.0 (10 ∷ [])) refl
+    rw (e.1, place, past_end e.0 (10 ∷ [])) refl
 
 pub tally-read : (fs : List Failure) → AllByRecursion IsFailure fs → failures_of (tally_text fs) ≡ Some fs
 unfolding failures_of tally_text

@@ -4,7 +4,7 @@ use Rattle.std.proofs.lemmas.Bool.{le-leb, lt-leb, ltb-true, ltb-false, leb-true
 use Rattle.std.specs.List.{AllByRecursion}
 use Rattle.pam_base.specs.Bytes.{has_byte}
 use Rattle.pam_base.specs.Quote.{hex_digit}
-use Rattle.mod_tally.specs.Source.{hex_value, in_front, is_printed, spelled, spelled_byte, unspelled}
+use Rattle.mod_tally.specs.Source.{hex_value, put_before, is_printed, spelled, spelled_byte, unspelled}
 
 -- ---- digits
 
@@ -22,7 +22,7 @@ hex_value-digit n few = digit_by n (ltb n 10) refl few
 -- ---- a byte
 
 by_kind : (b : ℕ) (more : List ℕ) (slash plain : Bool) → eqb b 92 ≡ slash → is_printed b ≡ plain → b < 256
-    → unspelled (cond slash (codes "\\\\") (cond plain (b ∷ []) (codes "\\x" ++ (hex_digit (b / 16) ∷ hex_digit (b % 16) ∷ []))) ++ more) ≡ in_front (Some b) (unspelled more)
+    → unspelled (cond slash (codes "\\\\") (cond plain (b ∷ []) (codes "\\x" ++ (hex_digit (b / 16) ∷ hex_digit (b % 16) ∷ []))) ++ more) ≡ put_before (Some b) (unspelled more)
 unfolding unspelled
 by_kind b more true plain e p few = let same : b ≡ 92 = eqb-true b 92 e in rw same refl
 by_kind b more false true e p few = rw (e, p) refl
@@ -32,7 +32,7 @@ by_kind b more false false e p few =
     let whole : 16 * (b / 16) + b % 16 ≡ b = omega arith in
     rw (high, low, whole, p) refl
 
-pub spelled_one : (b : ℕ) (more : List ℕ) → b < 256 → unspelled (spelled_byte b ++ more) ≡ in_front (Some b) (unspelled more)
+pub spelled_one : (b : ℕ) (more : List ℕ) → b < 256 → unspelled (spelled_byte b ++ more) ≡ put_before (Some b) (unspelled more)
 spelled_one b more few = by_kind b more (eqb b 92) (is_printed b) refl refl few
 
 pub unspelled-spelled : (source : List ℕ) → AllByRecursion (λ c. c < 256) source → unspelled (spelled source) ≡ Some source

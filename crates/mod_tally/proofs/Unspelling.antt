@@ -3,7 +3,7 @@ use Rattle.std.proofs.Common.{◌≡◌, ℕ, zero, suc, ◌+◌, ◌-◌, ◌*�
 use Rattle.std.proofs.lemmas.Bool.{lt-ltb, le-ltb, leb-true, eqb-true, ne_eqb}
 use Rattle.std.specs.List.{AllByRecursion}
 use Rattle.pam_base.specs.Quote.{hex_digit}
-use Rattle.mod_tally.specs.Source.{behind_backslash, behind_x, byte_of_digits, hex_value, in_front, is_printed, printed, spelled, spelled_byte, unspelled}
+use Rattle.mod_tally.specs.Source.{past_backslash, after_x, byte_of_digits, hex_value, put_before, is_printed, printed, spelled, spelled_byte, unspelled}
 
 -- a source of bytes, and its spelling
 pub record Spells (source word : List ℕ) : Type 0 where
@@ -56,45 +56,45 @@ digits_back h l x (Some high) (Some low) a b e =
 
 -- ---- a byte, and what follows it
 
-by_rest : (x : ℕ) (front rest source : List ℕ) (o : Option (List ℕ)) → spelled_byte x ≡ front → x < 256 → ((more : List ℕ) → o ≡ Some more → Spells more rest) → in_front (Some x) o ≡ Some source → Spells source (front ++ rest)
+by_rest : (x : ℕ) (front rest source : List ℕ) (o : Option (List ℕ)) → spelled_byte x ≡ front → x < 256 → ((more : List ℕ) → o ≡ Some more → Spells more rest) → put_before (Some x) o ≡ Some source → Spells source (front ++ rest)
 by_rest x front rest source None s few more e = absurd cc
 by_rest x front rest source (Some found) s few more e =
     let is : x ∷ found ≡ source = some_same _ _ e in
     let m = more found refl in
     rw (← is) (record { text = rw (s, m.text) refl; bytes = (few, m.bytes) })
 
-by_printed : (b : ℕ) (rest source : List ℕ) (plain : Bool) → is_printed b ≡ plain → eqb b 92 ≡ false → Exact rest → in_front (cond plain (Some b) None) (unspelled rest) ≡ Some source → Spells source (b ∷ rest)
+by_printed : (b : ℕ) (rest source : List ℕ) (plain : Bool) → is_printed b ≡ plain → eqb b 92 ≡ false → Exact rest → put_before (cond plain (Some b) None) (unspelled rest) ≡ Some source → Spells source (b ∷ rest)
 by_printed b rest source false p n exact e = absurd cc
 by_printed b rest source true p n exact e =
     let most = leb-true b 126 (both (nat_le 33 b) (nat_le b 126) p).1 in
     by_rest b (b ∷ []) rest source (unspelled rest) (rw (n, p) refl) (omega (arith, most)) exact e
 
-by_digits_of : (h l : ℕ) (rest source : List ℕ) (o : Option ℕ) → byte_of_digits (hex_value h) (hex_value l) ≡ o → Exact rest → in_front o (unspelled rest) ≡ Some source → Spells source (92 ∷ 120 ∷ h ∷ l ∷ rest)
+by_digits_of : (h l : ℕ) (rest source : List ℕ) (o : Option ℕ) → byte_of_digits (hex_value h) (hex_value l) ≡ o → Exact rest → put_before o (unspelled rest) ≡ Some source → Spells source (92 ∷ 120 ∷ h ∷ l ∷ rest)
 by_digits_of h l rest source None d exact e = absurd cc
 by_digits_of h l rest source (Some x) d exact e =
     let back = digits_back h l x (hex_value h) (hex_value l) refl refl d in
     by_rest x (92 ∷ 120 ∷ h ∷ l ∷ []) rest source (unspelled rest) back.0 back.1 exact e
 
 module _ (n : ℕ) (below : (word : List ℕ) → length word ≤ n → Exact word) where
-  x_exact : (bs source : List ℕ) → length bs ≤ n → behind_x bs ≡ Some source → Spells source (92 ∷ 120 ∷ bs)
+  x_exact : (bs source : List ℕ) → length bs ≤ n → after_x bs ≡ Some source → Spells source (92 ∷ 120 ∷ bs)
   unfolding unspelled
   x_exact [] source few e = absurd cc
   x_exact (h ∷ []) source few e = absurd cc
   x_exact (h ∷ l ∷ rest) source few e = by_digits_of h l rest source (byte_of_digits (hex_value h) (hex_value l)) refl (below rest (omega (arith, few))) e
 
-  after_slash : (c : ℕ) (rest source : List ℕ) (slash x : Bool) → eqb c 92 ≡ slash → eqb c 120 ≡ x → length rest ≤ n → cond slash (in_front (Some 92) (unspelled rest)) (cond x (behind_x rest) None) ≡ Some source → Spells source (92 ∷ c ∷ rest)
+  after_slash : (c : ℕ) (rest source : List ℕ) (slash x : Bool) → eqb c 92 ≡ slash → eqb c 120 ≡ x → length rest ≤ n → cond slash (put_before (Some 92) (unspelled rest)) (cond x (after_x rest) None) ≡ Some source → Spells source (92 ∷ c ∷ rest)
   after_slash c rest source true x s g few e =
       let same : c ≡ 92 = eqb-true c 92 s in
       rw same (by_rest 92 (92 ∷ 92 ∷ []) rest source (unspelled rest) refl (omega arith) (below rest few) e)
   after_slash c rest source false true s g few e = let same : c ≡ 120 = eqb-true c 120 g in rw same (x_exact rest source few e)
   after_slash c rest source false false s g few e = absurd cc
 
-  slash_exact : (bs source : List ℕ) → length bs ≤ n → behind_backslash bs ≡ Some source → Spells source (92 ∷ bs)
+  slash_exact : (bs source : List ℕ) → length bs ≤ n → past_backslash bs ≡ Some source → Spells source (92 ∷ bs)
   unfolding unspelled
   slash_exact [] source few e = absurd cc
   slash_exact (c ∷ rest) source few e = after_slash c rest source (eqb c 92) (eqb c 120) refl refl (omega (arith, few)) e
 
-  one_exact : (b : ℕ) (rest source : List ℕ) (slash : Bool) → eqb b 92 ≡ slash → length rest ≤ n → cond slash (behind_backslash rest) (in_front (printed b) (unspelled rest)) ≡ Some source → Spells source (b ∷ rest)
+  one_exact : (b : ℕ) (rest source : List ℕ) (slash : Bool) → eqb b 92 ≡ slash → length rest ≤ n → cond slash (past_backslash rest) (put_before (printed b) (unspelled rest)) ≡ Some source → Spells source (b ∷ rest)
   one_exact b rest source true s few e = let same : b ≡ 92 = eqb-true b 92 s in rw same (slash_exact rest source few e)
   one_exact b rest source false s few e = by_printed b rest source (is_printed b) refl s (below rest few) e
 

@@ -10,7 +10,7 @@ use Rattle.pam_base.specs.Number.{value_of_digits}
 use Rattle.mod_tally.specs.declared.tally.Failure.{Failure}
 use Rattle.mod_tally.specs.declared.tally.Version.{Version}
 use Rattle.mod_tally.specs.declared.tally.Version.TheVariants.{One, Two}
-use Rattle.mod_tally.specs.Source.{in_front, unspelled}
+use Rattle.mod_tally.specs.Source.{put_before, unspelled}
 use Rattle.mod_tally.specs.Tally.{IsFailure, all_in, failures_of_version, cut_at, failure_in, failures_of, in_lines, is_kind, moment_of, unknown_at, version_of, with_moment, with_origin, with_source}
 use Rattle.mod_tally.specs.Recorded.{failures_on_file}
 use Rattle.mod_tally.proofs.Unspelling.{unspelled-exact}
@@ -83,7 +83,7 @@ line_fits Two line f e = cut_fits (position (λ b. b == 32) line) line f e
 
 -- ---- the file
 
-front_fits : (o : Option Failure) (rest : Option (List Failure)) (fs : List Failure) → ((f : Failure) → o ≡ Some f → IsFailure f) → ((gs : List Failure) → rest ≡ Some gs → AllByRecursion IsFailure gs) → in_front o rest ≡ Some fs → AllByRecursion IsFailure fs
+front_fits : (o : Option Failure) (rest : Option (List Failure)) (fs : List Failure) → ((f : Failure) → o ≡ Some f → IsFailure f) → ((gs : List Failure) → rest ≡ Some gs → AllByRecursion IsFailure gs) → put_before o rest ≡ Some fs → AllByRecursion IsFailure fs
 front_fits None rest fs first more e = absurd cc
 front_fits (Some f) None fs first more e = absurd cc
 front_fits (Some f) (Some gs) fs first more e = subst (AllByRecursion IsFailure) (some_same (f ∷ gs) fs e) (first f refl, more gs refl)

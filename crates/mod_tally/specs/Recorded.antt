@@ -120,8 +120,8 @@ IsWith interval cleared = Unit {0}
 
 -- the failures in the file after the calls: those at the start if nothing was written; otherwise
 -- the recorded ones that count
-abbrev pub stands_by : ℕ → List Deed → List Failure → List Failure
-stands_by interval deeds failures =
+abbrev pub failures_by : ℕ → List Deed → List Failure → List Failure
+failures_by interval deeds failures =
     if is_written deeds then counting interval (recorded_by deeds failures) else failures
 
 -- ---- no other failure is lost

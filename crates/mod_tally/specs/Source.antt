@@ -3,7 +3,7 @@
 -- hexadecimal digits. Each byte has only this spelling.
 --
 -- What a spelling means, in steps:
---   `unspelled`, `behind_backslash`, `behind_x`: byte by byte
+--   `unspelled`, `past_backslash`, `after_x`: byte by byte
 --   `byte_of_digits`: the byte of two digits
 use Rattle.std.specs.Prelude.{ℕ, ◌+◌, ◌-◌, ◌*◌, ◌/◌, ◌%◌, Bool, ◌==◌, ◌&&◌, nat_le, if◌then◌else◌, List, [], ◌∷◌, ◌++◌, codes, Option, Some, None}
 use Rattle.std.specs.List.{flat_map}
@@ -25,10 +25,10 @@ spelled source = flat_map spelled_byte source
 -- ---- what a spelling means
 
 -- one more byte before the others, if both exist
-abbrev pub in_front : {A : Type 0} → Option A → Option (List A) → Option (List A)
-in_front None xs = None
-in_front (Some x) None = None
-in_front (Some x) (Some xs) = Some (x ∷ xs)
+abbrev pub put_before : {A : Type 0} → Option A → Option (List A) → Option (List A)
+put_before None xs = None
+put_before (Some x) None = None
+put_before (Some x) (Some xs) = Some (x ∷ xs)
 
 abbrev pub printed : ℕ → Option ℕ
 printed b = if is_printed b then Some b else None
@@ -48,14 +48,14 @@ unfoldable mutual
   -- the source that this spells, if it spells one
   pub unspelled : List ℕ → Option (List ℕ)
   unspelled [] = Some []
-  unspelled (b ∷ bs) = if b == 92 then behind_backslash bs else in_front (printed b) (unspelled bs)
+  unspelled (b ∷ bs) = if b == 92 then past_backslash bs else put_before (printed b) (unspelled bs)
 
-  pub behind_backslash : List ℕ → Option (List ℕ)
-  behind_backslash [] = None
-  behind_backslash (b ∷ bs) = if b == 92 then in_front (Some 92) (unspelled bs)
-      else if b == 120 then behind_x bs else None
+  pub past_backslash : List ℕ → Option (List ℕ)
+  past_backslash [] = None
+  past_backslash (b ∷ bs) = if b == 92 then put_before (Some 92) (unspelled bs)
+      else if b == 120 then after_x bs else None
 
-  pub behind_x : List ℕ → Option (List ℕ)
-  behind_x [] = None
-  behind_x (high ∷ []) = None
-  behind_x (high ∷ low ∷ bs) = in_front (byte_of_digits (hex_value high) (hex_value low)) (unspelled bs)
+  pub after_x : List ℕ → Option (List ℕ)
+  after_x [] = None
+  after_x (high ∷ []) = None
+  after_x (high ∷ low ∷ bs) = put_before (byte_of_digits (hex_value high) (hex_value low)) (unspelled bs)

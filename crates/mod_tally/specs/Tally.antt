@@ -17,7 +17,7 @@ use Rattle.mod_tally.specs.declared.tally.Damaged.{Damaged}
 use Rattle.mod_tally.specs.declared.tally.Failure.{Failure}
 use Rattle.mod_tally.specs.declared.tally.Version.{Version}
 use Rattle.mod_tally.specs.declared.tally.Version.TheVariants.{One, Two}
-use Rattle.mod_tally.specs.Source.{in_front, spelled, unspelled}
+use Rattle.mod_tally.specs.Source.{put_before, spelled, unspelled}
 
 -- ---- a line
 
@@ -66,7 +66,7 @@ failure_in Two line = cut_at (position (λ b. b == 32) line) line
 -- what each line has, if each is well formed
 abbrev pub all_in : {A : Type 0} → (List ℕ → Option A) → List (List ℕ) → Option (List A)
 all_in form [] = Some []
-all_in form (l ∷ ls) = in_front (form l) (all_in form ls)
+all_in form (l ∷ ls) = put_before (form l) (all_in form ls)
 
 abbrev pub version_of : List ℕ → Option Version
 version_of header = if bytes_eq header (codes "faillock 2") then Some Two

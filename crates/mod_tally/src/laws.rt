@@ -7,7 +7,7 @@ ghost use Rattle.mod_tally.specs.Source.{spelled, unspelled};
 ghost use Rattle.mod_tally.specs.Tally.{IsFailure, counts, failures_of, latest, tally_text};
 ghost use Rattle.item_store.specs.Items.{ItemTexts};
 ghost use Rattle.mod_tally.specs.Faillock.{faillock_plays, new_failure};
-ghost use Rattle.mod_tally.specs.Recorded.{Deed, Does, Follow, IsAmong, IsWith, Served, deeds_of, is_cleared, recorded_by, failures_on_file, stands_by};
+ghost use Rattle.mod_tally.specs.Recorded.{Deed, Does, Follow, IsAmong, IsWith, Served, deeds_of, is_cleared, recorded_by, failures_on_file, failures_by};
 
 /// Failures and sources that are written are read back as themselves, what is read can be written,
 /// no source has two spellings, and what the module records can be written.
@@ -33,7 +33,7 @@ pub fn written_tallies_are_read()
 /// or clears the failures. After a list of calls, which may be from many transactions, if nothing
 /// else changed the file, it has those of the recorded failures that count: a failure stays in it
 /// unless the failures were cleared, or it doesn't count against the latest one recorded.
-pub fn recorded_failures_stand()
+pub fn recorded_failures_are_kept()
     ensures one { (path : List ℕ) (call : PlainCall) (room : SeenRoom) (held : List NamedData)
         (sight : Sight) →
         (deed : Deed) × Does path call sight (faillock_plays call room held sight) deed }
@@ -41,10 +41,10 @@ pub fn recorded_failures_stand()
         (before after : Option (List ℕ)) (failures : List Failure) →
         Follow path before calls after → AllByRecursion (IsWith interval) (deeds_of calls) →
         failures_on_file before ≡ Some failures → failures_on_file after
-        ≡ Some (stands_by interval (deeds_of calls) failures) }
+        ≡ Some (failures_by interval (deeds_of calls) failures) }
     ensures kept { (interval : ℕ) (deeds : List Deed) (failure : Failure)
         (failures : List Failure) →
         IsAmong failure failures → is_cleared deeds ≡ false →
         counts interval (latest (recorded_by deeds failures)) failure ≡ true →
-        IsAmong failure (stands_by interval deeds failures) }
+        IsAmong failure (failures_by interval deeds failures) }
 {}

@@ -1,7 +1,7 @@
 ghost use Rattle.std.specs.Prelude.{◌≡◌, ◌++◌, ◌<◌, ◌∷◌, Some, None, [], length, IfOk, OnOk, IfSome, IfNone};
 ghost use Rattle.std.specs.Option.{option_copied};
 ghost use Rattle.pam_base.specs.Quote.{hex_digit};
-ghost use Rattle.mod_tally.specs.Source.{byte_of_digits, hex_value, in_front, is_printed, spelled, spelled_byte, unspelled};
+ghost use Rattle.mod_tally.specs.Source.{byte_of_digits, hex_value, put_before, is_printed, spelled, spelled_byte, unspelled};
 
 use pam_base::{NoMemory, Text};
 use std::alloc::Global;
@@ -83,7 +83,7 @@ fn first_spelled(word: &[u8]) -> Option<Spelled<'_>>
     requires { 0 < length word.now }
     ensures shorter { IfSome result (λ s. length s.after.now < length word.now) }
     ensures some { IfSome result (λ s. unspelled word.now
-        ≡ in_front (Some s.byte) (unspelled s.after.now)) }
+        ≡ put_before (Some s.byte) (unspelled s.after.now)) }
     ensures none { IfNone result (unspelled word.now ≡ None) }
 {
     match word {

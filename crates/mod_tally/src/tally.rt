@@ -3,7 +3,7 @@ ghost use Rattle.std.specs.Char.{is_ascii_digit};
 ghost use Rattle.std.specs.List.{list_all};
 ghost use Rattle.pam_base.specs.Number.{value_of_digits};
 ghost use Rattle.std.specs.Fmt.{decimal};
-ghost use Rattle.mod_tally.specs.Source.{in_front};
+ghost use Rattle.mod_tally.specs.Source.{put_before};
 ghost use Rattle.mod_tally.specs.Tally.{ReadsTally, all_in, failures_of_version, counting, counts, failure_in, failure_line, failures_of, is_kind, latest, moment_of, source_text, tally_text, version_of, with_origin, with_source};
 
 use crate::source::{spell, unspelled};

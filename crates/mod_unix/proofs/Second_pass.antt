@@ -31,7 +31,7 @@ use Rattle.mod_unix.specs.Flags.{change_expired_authtok}
 use Rattle.mod_unix.specs.Change.{authtok_or_asks, write_result, unless_token_is_kept, checks_or_changes, replaces_shadow, change_by, changed_by, changed_shadow, changes_entry, changes_locked, changes_shadow, if_locked, is_kept, new_prompts, same_reply, sets_new, stores_token, takes_token, usable}
 use Rattle.mod_unix.specs.Look.{after_passwd, shadow_if_x, field_in, is_x, looks, shadow_among, shadow_in, shadowed}
 use Rattle.mod_unix.specs.NewHash.{hashed_token}
-use Rattle.mod_unix.specs.Stands.{shadow_path}
+use Rattle.mod_unix.specs.Changed.{shadow_path}
 use Rattle.pam_base.specs.declared.code.Code.{Code}
 use Rattle.pam_base.specs.declared.code.Code.TheVariants as returns
 use Rattle.module_acts.specs.declared.content.Content.TheVariants as content

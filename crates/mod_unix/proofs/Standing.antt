@@ -22,7 +22,7 @@ use Rattle.mod_unix.specs.Aging.{day_of}
 use Rattle.mod_unix.specs.Change.{change_by, changes_token}
 use Rattle.mod_unix.specs.Look.{looks}
 use Rattle.mod_unix.specs.NewHash.{hashed_token, made_hash, new_setting}
-use Rattle.mod_unix.specs.Stands.{StaysOrStands, TokenStands, shadow_path}
+use Rattle.mod_unix.specs.Changed.{StaysOrIsChanged, TokenIsChanged, shadow_path}
 use Rattle.mod_unix.specs.Unix.{act_of_func, unix_plays}
 use Rattle.mod_unix.specs.Verify.{hash_verified}
 use Rattle.mod_unix.proofs.Faultless.{made}
@@ -56,7 +56,7 @@ module _ (read : (user hash : List ℕ) (day : ℕ) (text : List ℕ) (entries :
         verified = rw (no_lock hash token hash (again setting token hash is), le-ltb 512 (length token) short, again setting token hash is, same_text hash) refl;
       }
 
-  stands : (user root : List ℕ) (clock : Time) (before : List File) (room : SeenRoom) (after : List File) → clock.moment ≤ 1000000000000 → Written user root clock before room after → TokenStands root user before room after
+  stands : (user root : List ℕ) (clock : Time) (before : List File) (room : SeenRoom) (after : List File) → clock.moment ≤ 1000000000000 → Written user root clock before room after → TokenIsChanged root user before room after
   stands user root clock before room after bound w =
       let hash = hashed_token w.args clock.word w.token in
       let day = day_of clock.moment in
@@ -80,32 +80,32 @@ module _ (read : (user hash : List ℕ) (day : ℕ) (text : List ℕ) (entries :
         files = λ path distinct. ap (file_at path) w.after_is ∙ others_stay (shadow_path root) path (with_hash user hash day w.old) before distinct;
       }
 
-  ended : (call : PlainCall) (user : List ℕ) (stage : Stage) (p : Played) (sight : Sight) → stage.sight ≡ sight → sight.clock.moment ≤ 1000000000000 → user ≡ unwrap_or stage.room.items.user [] → Ended call user stage p → StaysOrStands call sight p
+  ended : (call : PlainCall) (user : List ℕ) (stage : Stage) (p : Played) (sight : Sight) → stage.sight ≡ sight → sight.clock.moment ≤ 1000000000000 → user ≡ unwrap_or stage.room.items.user [] → Ended call user stage p → StaysOrIsChanged call sight p
   ended call user stage p sight same bound is (inl k) = inl (k.flag, k.files_are ∙ ap (λ (x : Sight). x.files) same)
   ended call user stage p sight same bound is (inr d) =
       let who : user ≡ unwrap_or p.room.items.user [] = is ∙ ap (λ (u : Option (List ℕ)). unwrap_or u []) (sym d.user_stays) in
       let W : Sight → Type 0 = λ x. Written user x.root x.clock x.files p.room p.files in
       let w = subst W same d.written in
-      inr (subst (λ (u : List ℕ). TokenStands sight.root u sight.files p.room p.files) who (stands user sight.root sight.clock sight.files p.room p.files bound w))
+      inr (subst (λ (u : List ℕ). TokenIsChanged sight.root u sight.files p.room p.files) who (stands user sight.root sight.clock sight.files p.room p.files bound w))
 
   by_asking : (asked : Asked) (refused : Bool) (call : PlainCall) (stage : Stage) → asked.refused ≡ refused → has_flag call.flags prelim_check ≡ false → stage.sight.clock.moment ≤ 1000000000000
       → (cond refused (answered returns.ConvErr asked.room stage.sight) (looks (unwrap_or asked.room.items.user []) (λ look. change_by call (unwrap_or asked.room.items.user []) look answers) (in_room asked.room stage))).code ≡ returns.Success
-      → StaysOrStands call stage.sight (cond refused (answered returns.ConvErr asked.room stage.sight) (looks (unwrap_or asked.room.items.user []) (λ look. change_by call (unwrap_or asked.room.items.user []) look answers) (in_room asked.room stage)))
+      → StaysOrIsChanged call stage.sight (cond refused (answered returns.ConvErr asked.room stage.sight) (looks (unwrap_or asked.room.items.user []) (λ look. change_by call (unwrap_or asked.room.items.user []) look answers) (in_room asked.room stage)))
   by_asking asked true call stage r distinct bound e = absurd cc
   by_asking asked false call stage r distinct bound e =
       let user = unwrap_or asked.room.items.user [] in
       let next = in_room asked.room stage in
       ended call user next (looks user (λ look. change_by call user look answers) next) stage.sight refl bound refl (looked call user distinct next e)
 
-  asked_first : (call : PlainCall) (stage : Stage) → has_flag call.flags prelim_check ≡ false → stage.sight.clock.moment ≤ 1000000000000 → (changes_token call answers stage).code ≡ returns.Success → StaysOrStands call stage.sight (changes_token call answers stage)
+  asked_first : (call : PlainCall) (stage : Stage) → has_flag call.flags prelim_check ≡ false → stage.sight.clock.moment ≤ 1000000000000 → (changes_token call answers stage).code ≡ returns.Success → StaysOrIsChanged call stage.sight (changes_token call answers stage)
   unfolding changes_token asks_user
   asked_first call stage distinct bound e = by_asking (user_asked stage.room) (user_asked stage.room).refused call stage refl distinct bound e
 
-  by_function : (f : Func) (call : PlainCall) (stage : Stage) → f ≡ ChAuthTok → has_flag call.flags prelim_check ≡ false → stage.sight.clock.moment ≤ 1000000000000 → (act_of_func f call stage).code ≡ returns.Success → StaysOrStands call stage.sight (act_of_func f call stage)
+  by_function : (f : Func) (call : PlainCall) (stage : Stage) → f ≡ ChAuthTok → has_flag call.flags prelim_check ≡ false → stage.sight.clock.moment ≤ 1000000000000 → (act_of_func f call stage).code ≡ returns.Success → StaysOrIsChanged call stage.sight (act_of_func f call stage)
   by_function f call stage is distinct bound e =
-      let P : Func → Type 0 = λ x. (act_of_func x call stage).code ≡ returns.Success → StaysOrStands call stage.sight (act_of_func x call stage) in
+      let P : Func → Type 0 = λ x. (act_of_func x call stage).code ≡ returns.Success → StaysOrIsChanged call stage.sight (act_of_func x call stage) in
       subst P (sym is) (asked_first call stage distinct bound) e
 
   pub taken : (call : PlainCall) (room : SeenRoom) (held : List NamedData) (sight : Sight) → call.func ≡ ChAuthTok → has_flag call.flags prelim_check ≡ false → sight.clock.moment ≤ 1000000000000
-      → (unix_plays call room held sight).code ≡ returns.Success → StaysOrStands call sight (unix_plays call room held sight)
+      → (unix_plays call room held sight).code ≡ returns.Success → StaysOrIsChanged call sight (unix_plays call room held sight)
   taken call room held sight is distinct bound e = by_function call.func call (record { room = room; held = held; known = nothing_known; sight = sight }) is distinct bound e

@@ -8,7 +8,7 @@ use Rattle.pam_base.specs.declared.fault.Refuse.TheVariants.{NoMemory, Named}
 use Rattle.pam_base.specs.declared.item.ItemName.TheVariants.{AuthTok}
 use Rattle.conv_port.specs.declared.message.Reply.{Reply}
 use Rattle.item_store.specs.Items.{ItemTexts}
-use Rattle.pam_outside.specs.Time.{ClockState, Time, drawn, time_of}
+use Rattle.pam_outside.specs.Time.{ClockState, Time, random_taken, time_of}
 use Rattle.pam_room.specs.Call.{PlainCall, has_flag, prelim_check}
 use Rattle.pam_outside.specs.Files.{VaultState}
 use Rattle.pam_room.specs.State.{PlainProcess, PlainRoom, Scene, scene_of}
@@ -65,14 +65,14 @@ module _ (user hash : List ℕ) (today : ℕ) (content : Content) (s mid : Scene
 -- a random word is taken for the salt
 module _ (seeing : (act : Time → Act) (known : Known) (s : Scene) (code : Code) (new : Scene) → Acts (act (time_of s.clock)) known s code new → Acts (sees_clock act) known s code new)
     (drawing : (act : ℕ → Act) (known : Known) (room : PlainRoom) (vault : VaultState) (clock : ClockState) (process : PlainProcess) (code : Code) (new : Scene)
-    → Acts (act clock.word) known (scene_of room vault (drawn clock) process) code new → Acts (draws_word act) known (scene_of room vault clock process) code new)
+    → Acts (act clock.word) known (scene_of room vault (random_taken clock) process) code new → Acts (draws_word act) known (scene_of room vault clock process) code new)
     (call : PlainCall) (user : List ℕ) (room : PlainRoom) (vault : VaultState) (clock : ClockState) (process : PlainProcess) (new : Scene)
     (token : List ℕ) (today word : ℕ) (day : today ≡ day_of clock.moment) (random : word ≡ clock.word) where
-  pub made : (hash : List ℕ) (code : Code) → hash ≡ hashed_token call.args word token → Yields code (changes_shadow user hash today) (scene_of room vault (drawn clock) process) new
+  pub made : (hash : List ℕ) (code : Code) → hash ≡ hashed_token call.args word token → Yields code (changes_shadow user hash today) (scene_of room vault (random_taken clock) process) new
       → Yields code (stores_token call user (Some token)) (scene_of room vault clock process) new
   unfolding stores_token
   made hash code e h = λ act known c end rest.
-      let before = scene_of room vault (drawn clock) process in
+      let before = scene_of room vault (random_taken clock) process in
       let is : hash ≡ hashed_token call.args clock.word token = e ∙ ap (λ w. hashed_token call.args w token) random in
       let written = subst (λ (m : List ℕ). Acts (changes_shadow user m (day_of clock.moment) act) known before c end) is (subst (λ t. Acts (changes_shadow user hash t act) known before c end) day (h act known c end rest)) in
       seeing (λ time. draws_word (λ w. changes_shadow user (hashed_token call.args w token) (day_of time.moment) act)) known (scene_of room vault clock process) c end

@@ -8,4 +8,4 @@ pub mod Account
 pub mod NewHash
 pub mod Change
 pub mod Unix
-pub mod Stands
+pub mod Changed

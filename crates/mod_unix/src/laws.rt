@@ -4,7 +4,7 @@ ghost use Rattle.pam_base.specs.declared.call.Func.{Func};
 ghost use Rattle.pam_base.specs.declared.code.Code.{Code};
 ghost use Rattle.pam_room.specs.Call.{PlainCall, has_flag, prelim_check};
 ghost use Rattle.pam_room.specs.Module.{NamedData, SeenRoom, Sight};
-ghost use Rattle.mod_unix.specs.Stands.{StaysOrStands};
+ghost use Rattle.mod_unix.specs.Changed.{StaysOrIsChanged};
 ghost use Rattle.mod_unix.specs.Unix.{unix_plays};
 
 use pam_base::{Code, Func};
@@ -17,7 +17,7 @@ pub fn changed_token_is_taken()
         call.func ≡ Func.ChAuthTok → has_flag call.flags prelim_check ≡ false →
         sight.clock.moment ≤ 1000000000000 →
         (unix_plays call room held sight).code ≡ Code.Success →
-        StaysOrStands call sight (unix_plays call room held sight) }
+        StaysOrIsChanged call sight (unix_plays call room held sight) }
 {
     account_db::laws::new_hash_is_read();
     sha_crypt::laws::hash_is_a_setting();

@@ -8,7 +8,7 @@ use Rattle.pam_outside.specs.declared.held.LockKind.{LockKind}
 use Rattle.pam_outside.specs.declared.vault.TheConstants.{MAX_FILE}
 use Rattle.pam_outside.specs.Files.{File, Locks, VaultState, counted, file_put, is_failing, locked, refuses, unlocked}
 use Rattle.pam_outside.specs.Counts.{next_count}
-use Rattle.pam_outside.specs.Time.{ClockState, drawn}
+use Rattle.pam_outside.specs.Time.{ClockState, random_taken}
 use Rattle.pam_room.specs.Call.{PlainCall}
 use Rattle.pam_room.specs.declared.process.Process.{Process}
 use Rattle.pam_room.specs.Plain.{plain_process}
@@ -71,7 +71,7 @@ timing act known s code new a = carried (sees_moment act) (act s.clock.moment) k
 -- ---- files
 
 pub drawing : (act : ℕ → Act) (known : Known) (room : PlainRoom) (vault : VaultState) (clock : ClockState) (process : PlainProcess) (code : Code) (new : Scene)
-    → Acts (act clock.word) known (scene_of room vault (drawn clock) process) code new → Acts (draws_word act) known (scene_of room vault clock process) code new
+    → Acts (act clock.word) known (scene_of room vault (random_taken clock) process) code new → Acts (draws_word act) known (scene_of room vault clock process) code new
 unfolding draws_word
 drawing act known room vault clock process code new a = record { code_is = a.code_is; scene_is = a.scene_is }
 

@@ -3,7 +3,7 @@ ghost use Rattle.pam_base.specs.declared.code.Code.{Code};
 ghost use Rattle.pam_base.specs.declared.fault.NoMemory.{NoMemory};
 ghost use Rattle.pam_room.specs.item_store.specs.Items.{ItemTexts};
 ghost use Rattle.pam_outside.specs.Files.{VaultState};
-ghost use Rattle.pam_outside.specs.Time.{ClockState, drawn, Time, time_of};
+ghost use Rattle.pam_outside.specs.Time.{ClockState, random_taken, Time, time_of};
 ghost use Rattle.pam_room.specs.Call.{PlainCall};
 ghost use Rattle.pam_room.specs.State.{PlainProcess, PlainRoom, Scene, scene_of};
 ghost use Rattle.pam_room.specs.Module.{PlaysIn, NamedData, named_data};
@@ -76,7 +76,7 @@ pub fn act_steps()
         Acts (act s.clock.moment) known s code new → Acts (sees_moment act) known s code new }
     ensures drawing { (act : ℕ → Act) (known : Known) (room : PlainRoom) (vault : VaultState)
         (clock : ClockState) (process : PlainProcess) (code : Code) (new : Scene) →
-        Acts (act clock.word) known (scene_of room vault (drawn clock) process) code new →
+        Acts (act clock.word) known (scene_of room vault (random_taken clock) process) code new →
         Acts (draws_word act) known (scene_of room vault clock process) code new }
     ensures playing { (act : PlainCall → Act) (call : PlainCall) (old new : Scene)
         (result : Result Code NoMemory) →

@@ -1,6 +1,6 @@
 ghost use Rattle.std.specs.Prelude.{◌≡◌, ◌≢◌, ◌≤◌, ℕ, List, Some, false, true, length, IsTrue, IfOk, OnOk, Err};
 ghost use Rattle.pam_outside.specs.Counts.{Rose, next_count};
-ghost use Rattle.pam_outside.specs.Files.{ReadsFile, TellsFolder, Replaces, TakesLock, counted, file_at, unlocked};
+ghost use Rattle.pam_outside.specs.Files.{ReadsFile, TellsDirectory, Replaces, TakesLock, counted, file_at, unlocked};
 ghost use Rattle.own_files.specs.Own.{IsOwn, IsShown, IsUnchanged, ReadsOther, ReadsOwn, ReadsShown, files_for};
 ghost use Rattle.own_files.specs.Entries.{has_entry};
 
@@ -183,7 +183,7 @@ impl<V: Vault> Vault for OwnFiles<V> {
         ensures tells { ⟦<OwnFiles<V> as Vault>⟧.vault_tells self.new ≡
             ⟦<OwnFiles<V> as Vault>⟧.vault_tells self.old }
         ensures told { IsTrue (⟦<OwnFiles<V> as Vault>⟧.vault_tells self.old) →
-            TellsFolder result path.now (⟦<OwnFiles<V> as Vault>⟧.vault_holds self.old) }
+            TellsDirectory result path.now (⟦<OwnFiles<V> as Vault>⟧.vault_holds self.old) }
         ensures counts { IsTrue (⟦<OwnFiles<V> as Vault>⟧.vault_tells self.old) →
             ⟦<OwnFiles<V> as Vault>⟧.vault_holds self.new ≡ counted
             (⟦<OwnFiles<V> as Vault>⟧.vault_holds self.old) }
@@ -198,7 +198,7 @@ impl<V: Vault> Vault for OwnFiles<V> {
         ensures user { self.new.user ≡ self.old.user }
         ensures begun { self.new.begun ≡ self.old.begun }
         ensures shows { IsTrue (V.vault_tells self.old.inner) →
-            TellsFolder result path.now (V.vault_holds self.old.inner) }
+            TellsDirectory result path.now (V.vault_holds self.old.inner) }
         ensures files { IsTrue (V.vault_tells self.old.inner) →
             (V.vault_holds self.new.inner).files ≡ (V.vault_holds self.old.inner).files }
     {

@@ -17,10 +17,10 @@ use Rattle.dispatch_core.specs.pam_room.specs.State.{PlainProcess, PlainRoom, Pl
 use Rattle.dispatch_core.specs.handler_chain.specs.Route.{KeptAnswers}
 use Rattle.pam_handle.specs.declared.wait.Wait.{Wait}
 use Rattle.pam_handle.specs.AnyWorld.{ClearsTokens, FailsAs, LeavesAuthenticated, LeavesOpened, LeavesOthers, LeavesPending, LeavesWait, RunsSoundly, authenticated_failed, opened_failed}
-use Rattle.pam_handle.specs.Call.{Called, CallsAs, WaitsBehind, begun_or_going_on, called, code_waited, items_after, items_before, items_begun, request_behind, tokens_cleared}
+use Rattle.pam_handle.specs.Call.{Called, CallsAs, WaitsAfter, begun_or_going_on, called, code_waited, items_after, items_before, items_begun, request_after, tokens_cleared}
 use Rattle.pam_handle.specs.Handle.{PlainHandle, in_room}
 use Rattle.pam_handle.specs.Items.{with_items}
-use Rattle.pam_handle.specs.StackCalls.{account, asking_by, authenticated, authentication, behind_check, change_goes_on, changed, check, closing, credentials, has_pass_flag, held_in, is_refused_for_flags, opening, stack_call, update}
+use Rattle.pam_handle.specs.StackCalls.{account, asking_by, authenticated, authentication, after_check, change_goes_on, changed, check, closing, credentials, has_pass_flag, held_in, is_refused_for_flags, opening, stack_call, update}
 use Rattle.pam_handle.specs.Stopping.{room_begun, room_failed}
 use Rattle.pam_handle.proofs.Tracing.{goes_after}
 use Rattle.pam_handle.proofs.Waiting.{authenticated_is, waits_for_none}
@@ -35,7 +35,7 @@ room_with items r = record r { transaction = record r.transaction { items = item
 -- after the last pass of a call: the tokens are cleared, if it clears them, and the requested delay is dropped, unless
 -- it is incomplete
 abbrev pub room_end : Func → Option (List Code) → PlainRoom → PlainRoom
-room_end func paused r = request_behind paused (room_with (items_after func paused r.transaction.items) r)
+room_end func paused r = request_after paused (room_with (items_after func paused r.transaction.items) r)
 
 pub room_start : (func : Func) (h : PlainHandle) (items : ItemTexts) → items ≡ items_before func h.pending h.room.transaction.items → room_with items h.room ≡ room_begun func h
 room_start Authenticate h items e = ap (λ (i : ItemTexts). room_with i h.room) e
@@ -50,7 +50,7 @@ room_start ChAuthTok h items e = ap (λ (i : ItemTexts). room_with i h.room) e
 abbrev finishes : (Code → ℕ → ℕ) → Func → Option (List Code) → Code → PlainHandle → PlainWorld → Called
 finishes number Authenticate paused code h w = authenticated number paused code h w
 finishes number ChAuthTok paused code h w = changed paused code h w
-finishes number func paused code h w = called code (in_room (request_behind paused h.room) h) w
+finishes number func paused code h w = called code (in_room (request_after paused h.room) h) w
 
 abbrev paused_in : Option Pending → Option (List Code)
 paused_in None = None
@@ -101,17 +101,17 @@ module _ (players : List Player) (number : Code → ℕ → ℕ) (flags : ℕ) w
       let p = calls.second_pass (asking_by players flags) h.stacks first past (state_of h.room w) in
       ap (λ (o : Option (List Code)). changed o p.code (record h { room = p.state.room; pending = pending_after ChAuthTok first p.paused }) p.state.world) (paused_is ChAuthTok first p.paused)
 
-  behind_check_ends : (code : Code) (paused : Option (List Code)) (kept : Option KeptAnswers) (h : PlainHandle) (s : State)
-      → behind_check players flags code paused kept (record h { room = s.room; pending = pending_after ChAuthTok None paused }) s.world
-      ≡ finishes_after number ChAuthTok (calls.behind_check (asking_by players flags) h.stacks code kept (held h.authenticated h.opened (pending_after ChAuthTok None paused)) s) h
-  behind_check_ends Success paused kept h s = update_ends kept [] (record h { room = s.room; pending = pending_after ChAuthTok None paused }) s.world
-  behind_check_ends code paused kept h s = ap (λ (o : Option (List Code)). changed o code (record h { room = s.room; pending = pending_after ChAuthTok None paused }) s.world) (paused_is ChAuthTok None paused)
+  after_check_ends : (code : Code) (paused : Option (List Code)) (kept : Option KeptAnswers) (h : PlainHandle) (s : State)
+      → after_check players flags code paused kept (record h { room = s.room; pending = pending_after ChAuthTok None paused }) s.world
+      ≡ finishes_after number ChAuthTok (calls.after_check (asking_by players flags) h.stacks code kept (held h.authenticated h.opened (pending_after ChAuthTok None paused)) s) h
+  after_check_ends Success paused kept h s = update_ends kept [] (record h { room = s.room; pending = pending_after ChAuthTok None paused }) s.world
+  after_check_ends code paused kept h s = ap (λ (o : Option (List Code)). changed o code (record h { room = s.room; pending = pending_after ChAuthTok None paused }) s.world) (paused_is ChAuthTok None paused)
 
   change_ends : (past : List Code) (first : Option KeptAnswers) (h : PlainHandle) (w : PlainWorld)
       → change_goes_on players flags past first h w ≡ finishes_after number ChAuthTok (calls.change (asking_by players flags) h.stacks past first (held_in h) (state_of h.room w)) h
   change_ends past None h w =
       let p = calls.first_pass (asking_by players flags) h.stacks ChAuthTok past (held_in h) (state_of h.room w) in
-      behind_check_ends p.code p.paused p.kept h p.state
+      after_check_ends p.code p.paused p.kept h p.state
   change_ends past (Some first) h w = update_ends (Some first) past h w
 
   authentication_ends : (past : List Code) (h : PlainHandle) (w : PlainWorld)
@@ -122,9 +122,9 @@ module _ (players : List Player) (number : Code → ℕ → ℕ) (flags : ℕ) w
 
   -- the four others: `with_kept` stores the codes that are cached after the pass
   ended_once : (func : Func) (p : calls.Passed State) (h : PlainHandle)
-      → called p.code (record h { room = request_behind p.paused p.state.room; pending = pending_after func None p.paused }) p.state.world
-      ≡ called p.code (record h { room = request_behind (paused_in (pending_after func None p.paused)) p.state.room; pending = pending_after func None p.paused }) p.state.world
-  ended_once func p h = ap (λ (o : Option (List Code)). called p.code (record h { room = request_behind o p.state.room; pending = pending_after func None p.paused }) p.state.world) (paused_is func None p.paused)
+      → called p.code (record h { room = request_after p.paused p.state.room; pending = pending_after func None p.paused }) p.state.world
+      ≡ called p.code (record h { room = request_after (paused_in (pending_after func None p.paused)) p.state.room; pending = pending_after func None p.paused }) p.state.world
+  ended_once func p h = ap (λ (o : Option (List Code)). called p.code (record h { room = request_after o p.state.room; pending = pending_after func None p.paused }) p.state.world) (paused_is func None p.paused)
 
   -- a call that is neither refused nor aborted
   pub call_ends : (func : Func) (h : PlainHandle) (w : PlainWorld) → is_refused_for_flags func flags ≡ false → is_other_pending h.pending func ≡ false
@@ -180,12 +180,12 @@ quiet func h room a o pending waited code mid last rests stays = record {
 
 finished : (number : Code → ℕ → ℕ) (func : Func) (h : PlainHandle) (room : PlainRoom) (later : Option KeptAnswers) (paused : Option (List Code)) (authenticated opened : Option KeptAnswers) (waited : Option Wait) (code : Code) (mid last : PlainWorld) (longest : ℕ) (ended : Option Code)
     → longest ≡ room.transaction.delay → ended ≡ code_waited func paused (Ok code)
-    → (func ≡ Authenticate → WaitsBehind number ended longest h.delay_on h.waited mid waited last) → IfNone ended (last ≡ mid) → IfNone ended (waited ≡ h.waited)
+    → (func ≡ Authenticate → WaitsAfter number ended longest h.delay_on h.waited mid waited last) → IfNone ended (last ≡ mid) → IfNone ended (waited ≡ h.waited)
     → CallsAs (finishes number func paused code (record h { room = room; authenticated = authenticated; opened = opened; pending = pending_after func later paused }) mid) code
     (record h { room = room_end func paused room; authenticated = authenticated; opened = opened; pending = pending_after func later paused; waited = waited }) last
 finished number Authenticate h room later paused a o waited code mid last longest ended l is waits rests stays =
     authenticated_is number paused code (record h { opened = o }) a (pending_after Authenticate later paused) room mid last longest waited l
-    (subst (λ (x : Option Code). WaitsBehind number x longest h.delay_on h.waited mid waited last) is (waits refl))
+    (subst (λ (x : Option Code). WaitsAfter number x longest h.delay_on h.waited mid waited last) is (waits refl))
 finished number ChAuthTok h room later None a o waited code mid last longest ended l is waits rests stays = quiet ChAuthTok h (room_end ChAuthTok None room) a o None waited code mid last (rw is at rests) (rw is at stays)
 finished number ChAuthTok h room later (Some past) a o waited code mid last longest ended l is waits rests stays = quiet ChAuthTok h (room_end ChAuthTok (Some past) room) a o (pending_after ChAuthTok later (Some past)) waited code mid last (rw is at rests) (rw is at stays)
 finished number SetCred h room later paused a o waited code mid last longest ended l is waits rests stays = quiet SetCred h (room_end SetCred paused room) a o (pending_after SetCred later paused) waited code mid last (rw is at rests) (rw is at stays)
@@ -197,7 +197,7 @@ pub told_as : (result : Result Code NoMemory) (players : List Player) (number : 
     (room : PlainRoom) (paused : Option (List Code)) (authenticated opened : Option KeptAnswers) (waited : Option Wait) (mid last : PlainWorld) (longest : ℕ) (ended : Option Code)
     → is_refused_for_flags func flags ≡ false → is_other_pending h.pending func ≡ false → given ≡ past_in h.pending → first ≡ first_in h.pending → items ≡ items_before func h.pending h.room.transaction.items
     → longest ≡ room.transaction.delay → ended ≡ code_waited func paused result
-    → (func ≡ Authenticate → WaitsBehind number ended longest h.delay_on h.waited mid waited last) → IfNone ended (last ≡ mid) → IfNone ended (waited ≡ h.waited)
+    → (func ≡ Authenticate → WaitsAfter number ended longest h.delay_on h.waited mid waited last) → IfNone ended (last ≡ mid) → IfNone ended (waited ≡ h.waited)
     → new ≡ record h { room = room_end func paused room; authenticated = authenticated; opened = opened; pending = pending_after func later paused; waited = waited }
     → IfOk result (λ code. calls.call_after (asking_by players flags) h.stacks func given first (held h.authenticated h.opened q) (state_of (room_with items h.room) w)
     ≡ went code (held authenticated opened (pending_after func later paused)) (state_of room mid))

@@ -7,7 +7,7 @@ use Rattle.pam_base.specs.declared.call.Func.TheVariants.{Authenticate, SetCred,
 use Rattle.frozen_chain.specs.Kept.{Answers}
 use Rattle.dispatch_core.specs.AnswersSoFar.{past_of}
 use Rattle.dispatch_core.specs.Calls as calls
-use Rattle.dispatch_core.specs.Calls.{Asking, Held, answers_held, held, held_behind, passed_by, went}
+use Rattle.dispatch_core.specs.Calls.{Asking, Held, answers_held, held, held_past, passed_by, went}
 use Rattle.dispatch_core.specs.Pending.{pending_after}
 use Rattle.dispatch_core.specs.service_load.specs.Stacks.{Stacks}
 use Rattle.dispatch_core.specs.handler_chain.specs.Pass.{pass_after}
@@ -20,11 +20,11 @@ false_true : false ≡ true → ⊥
 false_true e = (cc)
 
 same_went : {T : Type 0} (c d : Code) (f g : Held) (s t : T) → c ≡ d → f ≡ g → s ≡ t → went c f s ≡ went d g t
-same_went {T} c d f g s t code behind state = ap (λ (x : Code). went x f s) code ∙ ap (λ (x : Held). went d x s) behind ∙ ap (λ (x : T). went d g x) state
+same_went {T} c d f g s t code past_end state = ap (λ (x : Code). went x f s) code ∙ ap (λ (x : Held). went d x s) past_end ∙ ap (λ (x : T). went d g x) state
 
 -- what is held after the first pass of a call
 held_is : {T : Type 0} (func : Func) (p : calls.Passed T) (h : Held)
-    → held_behind func None p h ≡ held (authenticated_with func p.kept h.authenticated) (opened_with func p.kept h.opened) (pending_after func None p.paused)
+    → held_past func None p h ≡ held (authenticated_with func p.kept h.authenticated) (opened_with func p.kept h.opened) (pending_after func None p.paused)
 held_is Authenticate p h = refl
 held_is SetCred p h = refl
 held_is AcctMgmt p h = refl
@@ -33,9 +33,9 @@ held_is CloseSession p h = refl
 held_is ChAuthTok p h = refl
 
 went_first : {T : Type 0} (func : Func) (p : calls.Passed T) (h : Held) (code : Code) (kept : Option KeptAnswers) (paused : Option (List Code)) (t : T) → PassesTo p code kept paused t
-    → went p.code (held_behind func None p h) p.state ≡ went code (held (authenticated_with func kept h.authenticated) (opened_with func kept h.opened) (pending_after func None paused)) t
+    → went p.code (held_past func None p h) p.state ≡ went code (held (authenticated_with func kept h.authenticated) (opened_with func kept h.opened) (pending_after func None paused)) t
 went_first func p h code kept paused t e =
-    same_went p.code code (held_behind func None p h) (held (authenticated_with func kept h.authenticated) (opened_with func kept h.opened) (pending_after func None paused)) p.state t (sym e.code_is)
+    same_went p.code code (held_past func None p h) (held (authenticated_with func kept h.authenticated) (opened_with func kept h.opened) (pending_after func None paused)) p.state t (sym e.code_is)
     (held_is func p h
     ∙ ap (λ (k : Option KeptAnswers). held (authenticated_with func k h.authenticated) (opened_with func k h.opened) (pending_after func None p.paused)) (sym e.kept_is)
     ∙ ap (λ (o : Option (List Code)). held (authenticated_with func kept h.authenticated) (opened_with func kept h.opened) (pending_after func None o)) (sym e.paused_is))
@@ -76,17 +76,17 @@ module _ {State : Type 0} (asking : Asking State) (stacks : Stacks) where
 
   -- what follows the first pass of a change of token
   checked_as : (h : Held) (p : calls.Passed State) (code : Code) (kept : Option KeptAnswers) (paused : Option (List Code)) (s : State) → PassesTo p code kept paused s
-      → calls.behind_check asking stacks p.code p.kept (held_behind ChAuthTok None p h) p.state
-      ≡ calls.behind_check asking stacks code kept (held h.authenticated h.opened (pending_after ChAuthTok None paused)) s
+      → calls.after_check asking stacks p.code p.kept (held_past ChAuthTok None p h) p.state
+      ≡ calls.after_check asking stacks code kept (held h.authenticated h.opened (pending_after ChAuthTok None paused)) s
   checked_as h p code kept paused s e =
-      ap (λ (k : Code). calls.behind_check asking stacks k p.kept (held_behind ChAuthTok None p h) p.state) (sym e.code_is)
-      ∙ ap (λ (k : Option KeptAnswers). calls.behind_check asking stacks code k (held_behind ChAuthTok None p h) p.state) (sym e.kept_is)
-      ∙ ap (λ (o : Option (List Code)). calls.behind_check asking stacks code kept (held h.authenticated h.opened (pending_after ChAuthTok None o)) p.state) (sym e.paused_is)
-      ∙ ap (λ (t : State). calls.behind_check asking stacks code kept (held h.authenticated h.opened (pending_after ChAuthTok None paused)) t) (sym e.state_is)
+      ap (λ (k : Code). calls.after_check asking stacks k p.kept (held_past ChAuthTok None p h) p.state) (sym e.code_is)
+      ∙ ap (λ (k : Option KeptAnswers). calls.after_check asking stacks code k (held_past ChAuthTok None p h) p.state) (sym e.kept_is)
+      ∙ ap (λ (o : Option (List Code)). calls.after_check asking stacks code kept (held h.authenticated h.opened (pending_after ChAuthTok None o)) p.state) (sym e.paused_is)
+      ∙ ap (λ (t : State). calls.after_check asking stacks code kept (held h.authenticated h.opened (pending_after ChAuthTok None paused)) t) (sym e.state_is)
 
-  behind_other : (code : Code) (kept : Option KeptAnswers) (h : Held) (s : State) → is_followed ChAuthTok code ≡ false → calls.behind_check asking stacks code kept h s ≡ went code h s
-  behind_other Success kept h s other = absurd (false_true (sym other))
-  behind_other code kept h s other = refl
+  past_other : (code : Code) (kept : Option KeptAnswers) (h : Held) (s : State) → is_followed ChAuthTok code ≡ false → calls.after_check asking stacks code kept h s ≡ went code h s
+  past_other Success kept h s other = absurd (false_true (sym other))
+  past_other code kept h s other = refl
 
   -- the only pass of a call
   pub goes_once : (func : Func) (past : List Code) (first : Answers) (h : Held) (s t : State) (code : Code) (kept : Option KeptAnswers) (paused : Option (List Code))
@@ -101,7 +101,7 @@ module _ {State : Type 0} (asking : Asking State) (stacks : Stacks) where
   goes_once ChAuthTok past (Some cells) h s t code kept paused begins last e = absurd (false_true (sym begins))
   goes_once ChAuthTok past None h s t code kept paused begins last e =
       checked_as h (calls.first_pass asking stacks ChAuthTok past h s) code kept paused t e
-      ∙ behind_other code kept (held h.authenticated h.opened (pending_after ChAuthTok None paused)) t last
+      ∙ past_other code kept (held h.authenticated h.opened (pending_after ChAuthTok None paused)) t last
 
   went_second : (first : Option KeptAnswers) (past : List Code) (h : Held) (s t : State) (code : Code) (later : Option KeptAnswers) (paused : Option (List Code))
       → PassesTo (calls.second_pass asking stacks first past s) code later paused t
@@ -122,20 +122,20 @@ module _ {State : Type 0} (asking : Asking State) (stacks : Stacks) where
   goes_second func past first h s t code later paused is e = absurd (false_true is)
 
   -- a change of token with both passes
-  change_twice : (past : List Code) (h : Held) (s t u : State) (code last : Code) (kept later : Option KeptAnswers) (paused behind : Option (List Code))
+  change_twice : (past : List Code) (h : Held) (s t u : State) (code last : Code) (kept later : Option KeptAnswers) (paused past_end : Option (List Code))
       → code ≡ Success → paused ≡ None → PassesTo (calls.first_pass asking stacks ChAuthTok past h s) code kept paused t
-      → PassesTo (calls.second_pass asking stacks kept (past_of paused) t) last later behind u
-      → calls.check asking stacks past h s ≡ went last (held h.authenticated h.opened (pending_after ChAuthTok later behind)) u
-  change_twice past h s t u code last kept later paused behind success ended e f =
+      → PassesTo (calls.second_pass asking stacks kept (past_of paused) t) last later past_end u
+      → calls.check asking stacks past h s ≡ went last (held h.authenticated h.opened (pending_after ChAuthTok later past_end)) u
+  change_twice past h s t u code last kept later paused past_end success ended e f =
       checked_as h (calls.first_pass asking stacks ChAuthTok past h s) code kept paused t e
-      ∙ ap (λ (k : Code). calls.behind_check asking stacks k kept (held h.authenticated h.opened (pending_after ChAuthTok None paused)) t) success
-      ∙ went_second kept [] (held h.authenticated h.opened (pending_after ChAuthTok None paused)) t u last later behind
-      (subst (λ (o : Option (List Code)). PassesTo (calls.second_pass asking stacks kept (past_of o) t) last later behind u) ended f)
+      ∙ ap (λ (k : Code). calls.after_check asking stacks k kept (held h.authenticated h.opened (pending_after ChAuthTok None paused)) t) success
+      ∙ went_second kept [] (held h.authenticated h.opened (pending_after ChAuthTok None paused)) t u last later past_end
+      (subst (λ (o : Option (List Code)). PassesTo (calls.second_pass asking stacks kept (past_of o) t) last later past_end u) ended f)
 
-  pub goes_twice : (func : Func) (past : List Code) (first : Answers) (h : Held) (s t u : State) (code last : Code) (kept later : Option KeptAnswers) (paused behind : Option (List Code))
+  pub goes_twice : (func : Func) (past : List Code) (first : Answers) (h : Held) (s t u : State) (code last : Code) (kept later : Option KeptAnswers) (paused past_end : Option (List Code))
       → is_second func first ≡ false → is_followed func code ≡ true → paused ≡ None → PassesTo (calls.first_pass asking stacks func past h s) code kept paused t
-      → PassesTo (calls.second_pass asking stacks kept (past_of paused) t) last later behind u
-      → calls.call_after asking stacks func past (kept_answers first) h s ≡ went last (held h.authenticated h.opened (pending_after func later behind)) u
-  goes_twice ChAuthTok past (Some cells) h s t u code last kept later paused behind begins follows ended e f = absurd (false_true (sym begins))
-  goes_twice ChAuthTok past None h s t u code last kept later paused behind begins follows ended e f = change_twice past h s t u code last kept later paused behind (followed ChAuthTok code follows).1 ended e f
-  goes_twice func past first h s t u code last kept later paused behind begins follows ended e f = absurd (false_true follows)
+      → PassesTo (calls.second_pass asking stacks kept (past_of paused) t) last later past_end u
+      → calls.call_after asking stacks func past (kept_answers first) h s ≡ went last (held h.authenticated h.opened (pending_after func later past_end)) u
+  goes_twice ChAuthTok past (Some cells) h s t u code last kept later paused past_end begins follows ended e f = absurd (false_true (sym begins))
+  goes_twice ChAuthTok past None h s t u code last kept later paused past_end begins follows ended e f = change_twice past h s t u code last kept later paused past_end (followed ChAuthTok code follows).1 ended e f
+  goes_twice func past first h s t u code last kept later paused past_end begins follows ended e f = absurd (false_true follows)

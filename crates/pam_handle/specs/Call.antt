@@ -9,7 +9,7 @@ use Rattle.pam_base.specs.declared.fault.NoMemory.{NoMemory}
 use Rattle.item_store.specs.Items.{ItemTexts, without_tokens}
 use Rattle.dispatch_core.specs.fail_delay.specs.Delay.{asked_delay}
 use Rattle.dispatch_core.specs.fail_delay.specs.Wait.{wait_of}
-use Rattle.dispatch_core.specs.pam_outside.specs.Time.{NapState, drawn, rested}
+use Rattle.dispatch_core.specs.pam_outside.specs.Time.{NapState, random_taken, rested}
 use Rattle.dispatch_core.specs.pam_room.specs.State.{PlainRoom, PlainWorld}
 use Rattle.pam_handle.specs.declared.wait.Wait.{Wait}
 use Rattle.dispatch_core.specs.Pending.{Pending, same_func}
@@ -63,14 +63,14 @@ items_begun None items = without_tokens items
 items_begun (Some p) items = items
 
 -- the requested delay is dropped when a pass has ended, and kept if the pass is incomplete
-abbrev pub request_behind : Option (List Code) → PlainRoom → PlainRoom
-request_behind None r = without_request r
-request_behind (Some past) r = r
+abbrev pub request_after : Option (List Code) → PlainRoom → PlainRoom
+request_after None r = without_request r
+request_after (Some past) r = r
 
 -- the tokens after a pass: a call that clears them clears them when the pass has ended
-abbrev pub items_behind : Option (List Code) → ItemTexts → ItemTexts
-items_behind None items = without_tokens items
-items_behind (Some past) items = items
+abbrev pub items_past : Option (List Code) → ItemTexts → ItemTexts
+items_past None items = without_tokens items
+items_past (Some past) items = items
 
 -- only authenticate and chauthtok clear the tokens
 abbrev pub clears_tokens : Func → Bool
@@ -82,7 +82,7 @@ abbrev pub items_before : Func → Option Pending → ItemTexts → ItemTexts
 items_before func pending items = if clears_tokens func then items_begun pending items else items
 
 abbrev pub items_after : Func → Option (List Code) → ItemTexts → ItemTexts
-items_after func paused items = if clears_tokens func then items_behind paused items else items
+items_after func paused items = if clears_tokens func then items_past paused items else items
 
 -- the code with which a call has ended: none if it is incomplete or ran out of memory
 abbrev pub final_code : Option (List Code) → Result Code NoMemory → Option Code
@@ -102,8 +102,8 @@ waited_by code asked None before = before
 waited_by code asked (Some n) before = Some (record { code = code; asked = asked; wait = n })
 
 -- a random word is read only if a delay was requested
-abbrev pub drawn_by : ℕ → PlainWorld → PlainWorld
-drawn_by longest w = if longest == 0 then w else record w { clock = drawn w.clock }
+abbrev pub random_taken_for : ℕ → PlainWorld → PlainWorld
+random_taken_for longest w = if longest == 0 then w else record w { clock = random_taken w.clock }
 
 -- a wait of more than 0 is slept
 abbrev pub rested_by : Option ℕ → PlainWorld → PlainWorld
@@ -124,13 +124,13 @@ abbrev pub waits_after : (Code → ℕ → ℕ) → Code → PlainHandle → Pla
 waits_after number code h w =
     let asked = asked_delay h.room.transaction.delay w.clock.word in
     waits code asked (wait_of h.delay_on number code asked) h
-    (drawn_by h.room.transaction.delay w)
+    (random_taken_for h.room.transaction.delay w)
 
 -- the record of a wait and the world after a call that has ended with a code, or that hasn't ended
-abbrev pub WaitsBehind : (Code → ℕ → ℕ) → Option Code → ℕ → Bool → Option Wait → PlainWorld
+abbrev pub WaitsAfter : (Code → ℕ → ℕ) → Option Code → ℕ → Bool → Option Wait → PlainWorld
     → Option Wait → PlainWorld → Type 0
-WaitsBehind number None longest on before w after last = (after ≡ before) × (last ≡ w)
-WaitsBehind number (Some code) longest on before w after last =
+WaitsAfter number None longest on before w after last = (after ≡ before) × (last ≡ w)
+WaitsAfter number (Some code) longest on before w after last =
     let asked = asked_delay longest w.clock.word in
     (after ≡ waited_by code asked (wait_of on number code asked) before)
-    × (last ≡ rested_by (wait_of on number code asked) (drawn_by longest w))
+    × (last ≡ rested_by (wait_of on number code asked) (random_taken_for longest w))

@@ -12,10 +12,10 @@ use Rattle.dispatch_core.specs.pam_room.specs.Module.{Player}
 use Rattle.dispatch_core.specs.pam_room.specs.State.{PlainWorld, State, state_of}
 use Rattle.pam_handle.specs.Handle.{PlainHandle}
 use Rattle.dispatch_core.specs.Lines.{answers_by}
-use Rattle.dispatch_core.specs.Calls.{Asking, Held, held, held_behind, first_pass, second_pass}
+use Rattle.dispatch_core.specs.Calls.{Asking, Held, held, held_past, first_pass, second_pass}
 use Rattle.dispatch_core.specs.Pending.{pending_after}
 use Rattle.pam_handle.specs.Pass.{Passed}
-use Rattle.pam_handle.specs.Call.{Called, called, tokens_cleared, request_forgotten, begun_or_going_on, request_behind, waits_after}
+use Rattle.pam_handle.specs.Call.{Called, called, tokens_cleared, request_forgotten, begun_or_going_on, request_after, waits_after}
 
 -- PAM_UPDATE_AUTHTOK, the flag of the second pass of a change of token (pam_chauthtok(3))
 abbrev pub update_authtok : ℕ
@@ -50,9 +50,9 @@ abbrev pub held_in : PlainHandle → Held
 held_in h = held h.authenticated h.opened h.pending
 
 -- a transaction after a pass of a call
-abbrev pub behind_pass : Func → Option KeptAnswers → Passed → PlainHandle → PlainHandle
-behind_pass func first p h =
-    let k = held_behind func first p (held_in h) in
+abbrev pub past_pass : Func → Option KeptAnswers → Passed → PlainHandle → PlainHandle
+past_pass func first p h =
+    let k = held_past func first p (held_in h) in
     record h {
       room = p.state.room;
       authenticated = k.authenticated;
@@ -63,7 +63,7 @@ behind_pass func first p h =
 -- after the only pass of a call
 abbrev pub ended : Func → Passed → PlainHandle → Called
 ended func p h = called p.code (record h {
-  room = request_behind p.paused p.state.room;
+  room = request_after p.paused p.state.room;
   pending = pending_after func None p.paused;
 }) p.state.world
 
@@ -101,7 +101,7 @@ module _ (players : List Player) where
   abbrev pub authentication : (Code → ℕ → ℕ) → ℕ → List Code → PlainHandle → PlainWorld → Called
   authentication number flags past h w =
       let p = passes_first Authenticate flags past h w in
-      authenticated number p.paused p.code (behind_pass Authenticate None p h) p.state.world
+      authenticated number p.paused p.code (past_pass Authenticate None p h) p.state.world
 
   abbrev pub authenticate : (Code → ℕ → ℕ) → ℕ → PlainHandle → PlainWorld → Called
   authenticate number flags h w = begun_or_going_on h.pending Authenticate (called codes.Abort h w)
@@ -113,7 +113,7 @@ module _ (players : List Player) where
   abbrev pub credentials : ℕ → List Code → PlainHandle → PlainWorld → Called
   credentials flags past h w =
       let p = passes_first SetCred flags past h w in
-      ended SetCred p (behind_pass SetCred None p h)
+      ended SetCred p (past_pass SetCred None p h)
 
   abbrev pub setcred : ℕ → PlainHandle → PlainWorld → Called
   setcred flags h w = begun_or_going_on h.pending SetCred (called codes.Abort h w)
@@ -134,7 +134,7 @@ module _ (players : List Player) where
   abbrev pub opening : ℕ → List Code → PlainHandle → PlainWorld → Called
   opening flags past h w =
       let p = passes_first OpenSession flags past h w in
-      ended OpenSession p (behind_pass OpenSession None p h)
+      ended OpenSession p (past_pass OpenSession None p h)
 
   abbrev pub open_session : ℕ → PlainHandle → PlainWorld → Called
   open_session flags h w =
@@ -144,7 +144,7 @@ module _ (players : List Player) where
   abbrev pub closing : ℕ → List Code → PlainHandle → PlainWorld → Called
   closing flags past h w =
       let p = passes_first CloseSession flags past h w in
-      ended CloseSession p (behind_pass CloseSession None p h)
+      ended CloseSession p (past_pass CloseSession None p h)
 
   abbrev pub close_session : ℕ → PlainHandle → PlainWorld → Called
   close_session flags h w =
@@ -156,17 +156,17 @@ module _ (players : List Player) where
   abbrev pub update : ℕ → Option KeptAnswers → List Code → PlainHandle → PlainWorld → Called
   update flags first past h w =
       let p = passes_second flags first past h w in
-      changed p.paused p.code (behind_pass ChAuthTok first p h) p.state.world
+      changed p.paused p.code (past_pass ChAuthTok first p h) p.state.world
 
-  abbrev pub behind_check : ℕ → Code → Option (List Code) → Option KeptAnswers → PlainHandle
+  abbrev pub after_check : ℕ → Code → Option (List Code) → Option KeptAnswers → PlainHandle
       → PlainWorld → Called
-  behind_check flags codes.Success paused kept h w = update flags kept [] h w
-  behind_check flags code paused kept h w = changed paused code h w
+  after_check flags codes.Success paused kept h w = update flags kept [] h w
+  after_check flags code paused kept h w = changed paused code h w
 
   abbrev pub check : ℕ → List Code → PlainHandle → PlainWorld → Called
   check flags past h w =
       let p = passes_first ChAuthTok flags past h w in
-      behind_check flags p.code p.paused p.kept (behind_pass ChAuthTok None p h) p.state.world
+      after_check flags p.code p.paused p.kept (past_pass ChAuthTok None p h) p.state.world
 
   abbrev pub change_goes_on : ℕ → List Code → Option KeptAnswers → PlainHandle → PlainWorld → Called
   change_goes_on flags past None h w = check flags past h w

@@ -7,7 +7,7 @@ use Rattle.dispatch_core.specs.conv_port.specs.Conv.{ConvState}
 use Rattle.dispatch_core.specs.pam_outside.specs.Files.{VaultState}
 use Rattle.dispatch_core.specs.service_load.specs.declared.load_fault.LoadFault.{LoadFault}
 use Rattle.dispatch_core.specs.service_load.specs.FirstFault.{Counts, Stop}
-use Rattle.dispatch_core.specs.service_load.specs.Load.{loaded, has_folder}
+use Rattle.dispatch_core.specs.service_load.specs.Load.{loaded, directory_exists}
 use Rattle.dispatch_core.specs.service_load.specs.Loading.{texts_of, CountsFaults}
 use Rattle.dispatch_core.specs.service_load.specs.Tree.{tree}
 use Rattle.item_store.specs.Items.{ItemTexts, no_texts}
@@ -63,7 +63,7 @@ started_by opened (Err stop) stacks w =
 -- the stacks that a service has under the root
 abbrev pub stacks_under : VaultState → List ℕ → List ℕ → Stacks
 stacks_under vault root service =
-    stacks_of (tree (texts_of root vault) (has_folder vault root) service)
+    stacks_of (tree (texts_of root vault) (directory_exists vault root) service)
 
 abbrev pub started : ℕ → List ℕ → Option (List ℕ) → ConvState → List (List ℕ) → PlainWorld → Started
 started number service user conv names w =

@@ -13,8 +13,8 @@ as_traced func second = replaying
 -- What a call gives, and what is held after it, by the lines that it added to the trace: the same as its passes, in
 -- which each line returns what the trace has for it. These run these lines and no others, in their order.
 pub record CallsByTrail (runs : Telling → Went Telling) (before after : List Visit) (code : Code)
-    (behind : Held) : Type 0 where
+    (past_end : Held) : Type 0 where
   pub more : List Visit
   pub trail : after ≡ before ++ more
   pub leads : (rest : List Seen)
-      → runs (telling (seen_in more ++ rest)) ≡ went code behind (telling rest)
+      → runs (telling (seen_in more ++ rest)) ≡ went code past_end (telling rest)

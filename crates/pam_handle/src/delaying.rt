@@ -3,7 +3,7 @@ ghost use Rattle.dispatch_core.specs.fail_delay.specs.Delay.{asked_delay};
 ghost use Rattle.dispatch_core.specs.fail_delay.specs.Wait.{wait_of};
 ghost use Rattle.pam_base.specs.declared.code.Code.{Code};
 ghost use Rattle.pam_handle.specs.AnyWorld.{AreUnset, WaitsFor, WaitsOnlyAtEnd};
-ghost use Rattle.pam_handle.specs.Call.{WaitsBehind, drawn_by, nap_after, rested_by, waited_by};
+ghost use Rattle.pam_handle.specs.Call.{WaitsAfter, random_taken_for, nap_after, rested_by, waited_by};
 ghost use Rattle.pam_handle.specs.Plain.{Keeps, in_box};
 
 use crate::ended::Ended;
@@ -37,7 +37,7 @@ fn wait(
         (wait_of delay_on number ended.entry.code asked) waited.old)
         × (⟦<World as WorldTold>⟧.plain world.new
         ≡ rested_by (wait_of delay_on number ended.entry.code asked)
-        (drawn_by longest (⟦<World as WorldTold>⟧.plain world.old)))) }
+        (random_taken_for longest (⟦<World as WorldTold>⟧.plain world.old)))) }
     ensures sound { WaitsFor ended.entry.code delay_on waited.old waited.new
         (nap_tells (in_box world.old.nap)) (nap_holds (in_box world.old.nap))
         (nap_holds (in_box world.new.nap)) }
@@ -68,7 +68,7 @@ pub(crate) fn sleep_after(
     ensures told { (number : Code → ℕ → ℕ) →
         ⟦<DelayFn as DelayTold>⟧.delay_is gear.now.delay number →
         IsTrue (⟦<World as WorldTold>⟧.tells world.old) →
-        WaitsBehind number code longest delay_on waited.old
+        WaitsAfter number code longest delay_on waited.old
         (⟦<World as WorldTold>⟧.plain world.old) waited.new
         (⟦<World as WorldTold>⟧.plain world.new) }
     ensures sound { WaitsOnlyAtEnd code delay_on waited.old waited.new
@@ -95,9 +95,9 @@ fn asked_of(longest: u32, world: &mut World) -> u32
     ensures tells { Keeps ⟦<World as WorldTold>⟧.tells world.old world.new }
     ensures told { IsTrue (⟦<World as WorldTold>⟧.tells world.old) →
         result ≡ asked_delay longest (⟦<World as WorldTold>⟧.plain world.old).clock.word }
-    ensures drawn { IsTrue (⟦<World as WorldTold>⟧.tells world.old) →
+    ensures random_taken { IsTrue (⟦<World as WorldTold>⟧.tells world.old) →
         ⟦<World as WorldTold>⟧.plain world.new
-        ≡ drawn_by longest (⟦<World as WorldTold>⟧.plain world.old) }
+        ≡ random_taken_for longest (⟦<World as WorldTold>⟧.plain world.old) }
     ensures bound { result ≤ LONGEST_ASKED }
     ensures nap { world.new.nap ≡ world.old.nap }
     ensures process { world.new.process ≡ world.old.process }

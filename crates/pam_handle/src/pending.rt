@@ -2,7 +2,7 @@ ghost use Rattle.std.specs.Prelude.{◌≡◌, false, None, is_some};
 ghost use Rattle.std.specs.Option.{option_map};
 ghost use Rattle.dispatch_core.specs.AnswersSoFar.{past_of};
 ghost use Rattle.dispatch_core.specs.Pending.{first_in, is_other_pending, past_in, pending_after, pending_func, same_func};
-ghost use Rattle.pam_handle.specs.Call.{clears_tokens, code_waited, items_after, items_before, request_behind};
+ghost use Rattle.pam_handle.specs.Call.{clears_tokens, code_waited, items_after, items_before, request_after};
 ghost use Rattle.pam_handle.specs.Pass.{kept_answers};
 ghost use Rattle.pam_handle.specs.Plain.{Keeps, pending_of, plain_handle, room_in};
 
@@ -43,7 +43,7 @@ impl Handle {
         ensures tells { Keeps ⟦<Room as RoomTold>⟧.tells (room_in self.old) (room_in self.new) }
         ensures plain { plain_handle ⟦<Room as RoomTold>⟧.plain self.new
             ≡ record (plain_handle ⟦<Room as RoomTold>⟧.plain self.old) {
-              room = request_behind paused (plain_handle ⟦<Room as RoomTold>⟧.plain self.old).room;
+              room = request_after paused (plain_handle ⟦<Room as RoomTold>⟧.plain self.old).room;
               pending = pending_after func (kept_answers first) paused;
             } }
     {

@@ -28,16 +28,16 @@ module _ {State : Type 0} (R : State → State → Type 0) where
   ServesTwins serve = (rule : Rule) (at : ℕ) (s t : State) → R s t → ServedTwins (serve rule at s) (serve rule at t)
 
   -- what follows a line, by its result, and what follows a substack
-  abbrev behind_line : PassKind → Serving State → Rule → Stack → ℕ → Opinion → Opinion → Served State → Walked State
-  behind_line kind serve rule rest at entry opinion served =
+  abbrev past_line : PassKind → Serving State → Rule → Stack → ℕ → Opinion → Opinion → Served State → Walked State
+  past_line kind serve rule rest at entry opinion served =
       let action = action_at rule.control served.deciding in
       let new = acted kind action served.answer served.deciding entry opinion in
       let last = new_or_overrun action (count rest) new in
       if served.stopped then halted opinion served.state
       else onward (next_of action (count rest) new) (λ n. walk kind serve n rest (at + 1) entry last served.state) (walked last served.state)
 
-  abbrev behind_sub : PassKind → Serving State → Stack → ℕ → Opinion → Walked State → Walked State
-  behind_sub kind serve rest at entry inside = if inside.stopped then inside else walk kind serve zero rest at entry inside.opinion inside.state
+  abbrev past_sub : PassKind → Serving State → Stack → ℕ → Opinion → Walked State → Walked State
+  past_sub kind serve rest at entry inside = if inside.stopped then inside else walk kind serve zero rest at entry inside.opinion inside.state
 
   module _ (kind : PassKind) (serve : Serving State) (serves : ServesTwins serve) where
     onward_twins : (next : Next) (rest : Stack) (at : ℕ) (entry last : Opinion) (s t : State) → R s t →
@@ -48,7 +48,7 @@ module _ {State : Type 0} (R : State → State → Type 0) where
 
     line_twins : (rule : Rule) (rest : Stack) (at : ℕ) (entry opinion : Opinion) (a : Served State) (t : State) → R a.state t →
         ((n : ℕ) (last : Opinion) → WalkedTwins (walk kind serve n rest (at + 1) entry last a.state) (walk kind serve n rest (at + 1) entry last t)) →
-        WalkedTwins (behind_line kind serve rule rest at entry opinion a) (behind_line kind serve rule rest at entry opinion (record a { state = t }))
+        WalkedTwins (past_line kind serve rule rest at entry opinion a) (past_line kind serve rule rest at entry opinion (record a { state = t }))
     line_twins rule rest at entry opinion a t r more =
         let action : Action = action_at rule.control a.deciding in
         let new : Opinion = acted kind action a.answer a.deciding entry opinion in
@@ -62,7 +62,7 @@ module _ {State : Type 0} (R : State → State → Type 0) where
 
     sub_twins : (rest : Stack) (at : ℕ) (entry : Opinion) (a : Walked State) (t : State) → R a.state t →
         WalkedTwins (walk kind serve zero rest at entry a.opinion a.state) (walk kind serve zero rest at entry a.opinion t) →
-        WalkedTwins (behind_sub kind serve rest at entry a) (behind_sub kind serve rest at entry (record a { state = t }))
+        WalkedTwins (past_sub kind serve rest at entry a) (past_sub kind serve rest at entry (record a { state = t }))
     sub_twins rest at entry a t r more = elim a.stopped as (λ (x : Bool). WalkedTwins
         (if x then a else walk kind serve zero rest at entry a.opinion a.state)
         (if x then record a { state = t } else walk kind serve zero rest at entry a.opinion t)) [
@@ -79,14 +79,14 @@ module _ {State : Type 0} (R : State → State → Type 0) where
         let a : Served State = serve rule at s in
         let b : Served State = serve rule at t in
         let twins : ServedTwins a b = serves rule at s t r in
-        subst (λ (x : Served State). WalkedTwins (behind_line kind serve rule rest at entry opinion a) (behind_line kind serve rule rest at entry opinion x)) twins.rest
+        subst (λ (x : Served State). WalkedTwins (past_line kind serve rule rest at entry opinion a) (past_line kind serve rule rest at entry opinion x)) twins.rest
         (line_twins rule rest at entry opinion a b.state twins.state (λ n last. walk_twins n rest (at + 1) entry last a.state b.state twins.state))
     walk_twins zero (sub inner rest) at entry opinion s t r =
         let a : Walked State = walk kind serve zero inner at opinion opinion s in
         let b : Walked State = walk kind serve zero inner at opinion opinion t in
         let twins : WalkedTwins a b = walk_twins zero inner at opinion opinion s t r in
         let on : ℕ = at + lines_in inner in
-        subst (λ (x : Walked State). WalkedTwins (behind_sub kind serve rest on entry a) (behind_sub kind serve rest on entry x)) twins.rest
+        subst (λ (x : Walked State). WalkedTwins (past_sub kind serve rest on entry a) (past_sub kind serve rest on entry x)) twins.rest
         (sub_twins rest on entry a b.state twins.state (walk_twins zero rest on entry a.opinion a.state b.state twins.state))
 
 -- ---- a pass

@@ -12,7 +12,7 @@ use Rattle.pam_base.specs.declared.fault.NoMemory.{NoMemory}
 use Rattle.data_cleanup.specs.DataList.{PlainDataList}
 use Rattle.data_cleanup.specs.Ledger.{AreNumbered, PlainLedger}
 use Rattle.data_cleanup.specs.Cleanup.{AwaitCleanup, Notes}
-use Rattle.data_cleanup.specs.Stands.{Lists}
+use Rattle.data_cleanup.specs.Modelled.{Lists}
 use Rattle.data_cleanup.specs.Kept.{AreHeld}
 use Rattle.data_cleanup.specs.Moves.{Moves}
 use Rattle.pam_handle.specs.dispatch_core.specs.Lines.{names_of}

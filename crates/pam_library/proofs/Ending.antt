@@ -8,7 +8,7 @@ use Rattle.data_cleanup.specs.DataList.{PlainDataList}
 use Rattle.data_cleanup.specs.Ledger.{AreNumbered}
 use Rattle.data_cleanup.specs.Cleanup.{Notes}
 use Rattle.data_cleanup.specs.Due.{ends}
-use Rattle.data_cleanup.specs.Stands.{clean_list}
+use Rattle.data_cleanup.specs.Modelled.{clean_list}
 use Rattle.data_cleanup.specs.Moves.{Moves}
 use Rattle.pam_handle.specs.pam_room.specs.State.{PlainWorld}
 use Rattle.pam_handle.specs.End.{world_after_end}

@@ -32,7 +32,7 @@ use Rattle.pam_handle.specs.pam_room.specs.declared.visits.Visit.{Visit}
 use Rattle.pam_handle.specs.pam_room.specs.State.{PlainRoom, PlainWorld, State, state_of}
 use Rattle.pam_handle.specs.service_load.specs.FirstFault.{Counts, Stop}
 use Rattle.pam_handle.specs.service_load.specs.declared.load_fault.LoadFault.{LoadFault}
-use Rattle.pam_outside.specs.Time.{drawn, rested}
+use Rattle.pam_outside.specs.Time.{random_taken, rested}
 use Rattle.fail_delay.specs.Delay.{asked_delay}
 use Rattle.fail_delay.specs.Wait.{wait_of}
 use Rattle.pam_handle.specs.service_load.specs.Stacks.{Stacks}
@@ -41,13 +41,13 @@ use Rattle.pam_handle.specs.Handle.{PlainHandle}
 use Rattle.pam_handle.specs.dispatch_core.specs.Calls.{answers_held, following}
 use Rattle.pam_handle.specs.Items.{all_told}
 use Rattle.pam_handle.specs.Pass.{Passed, passed}
-use Rattle.pam_handle.specs.Call.{Called, begun_or_going_on, called, drawn_by, items_begun, request_behind, rested_by, tokens_cleared}
-use Rattle.pam_handle.specs.StackCalls.{account, authenticated, authentication, behind_check, change_goes_on, changed, check, closing, credentials, flags_seen, has_pass_flag, opening, stack_call, update}
+use Rattle.pam_handle.specs.Call.{Called, begun_or_going_on, called, random_taken_for, items_begun, request_after, rested_by, tokens_cleared}
+use Rattle.pam_handle.specs.StackCalls.{account, authenticated, authentication, after_check, change_goes_on, changed, check, closing, credentials, flags_seen, has_pass_flag, opening, stack_call, update}
 use Rattle.pam_handle.specs.Start.{started, started_by}
 use Rattle.pam_handle.specs.Stopping.{first_stack, room_begun}
 use Rattle.pam_library.specs.declared.outcome.Answer.{Answer}
 use Rattle.pam_library.specs.declared.outcome.Answer.TheVariants as answers
-use Rattle.pam_library.specs.Plays.{AskedLine, IsLineOf, LineLeads, LineRun, LinesLead, RunOn, RunsBy, RunsLines, RunsNothing, StackCall, StandsAt, StepAsks, asked_along, asked_by, module_of_path, player_numbered, run_in, stack_call_of, visit_of, visits_of}
+use Rattle.pam_library.specs.Plays.{AskedLine, IsLineOf, LineLeads, LineRun, LinesLead, RunOn, RunsBy, RunsLines, RunsNothing, StackCall, IsRuleAt, StepAsks, asked_along, asked_by, module_of_path, player_numbered, run_in, stack_call_of, visit_of, visits_of}
 use Rattle.pam_library.specs.SlotStep.{SlotStepped, answered, closed_step, filed_in, is_refused_for_flags, open_step, opened_by, other_pending, slot_step, stack_step, told_by, unless_pending}
 use Rattle.pam_library.specs.Slots.{PlainSlot, closed, opened, slot_at}
 use Rattle.pam_library.specs.Step.{stepped, stepped_at}
@@ -63,9 +63,9 @@ module _ {State : Type 0} (K : State → Type 0) where
   onward_keeps (after n) rest here k l = k n
   onward_keeps stop rest here k l = l
 
-  module _ (whole : Stack) (kind : PassKind) (serve : Serving State) (serves : (rule : Rule) (at : ℕ) (s : State) → StandsAt rule at whole 1 → K s → K (serve rule at s).state) where
+  module _ (whole : Stack) (kind : PassKind) (serve : Serving State) (serves : (rule : Rule) (at : ℕ) (s : State) → IsRuleAt rule at whole 1 → K s → K (serve rule at s).state) where
     -- a walk over a part of the stack, whose lines belong to it
-    pub walk_keeps : (skip : ℕ) (stack : Stack) (at : ℕ) (entry opinion : Opinion) (s : State) → ((rule : Rule) (place : ℕ) → StandsAt rule place stack at → StandsAt rule place whole 1)
+    pub walk_keeps : (skip : ℕ) (stack : Stack) (at : ℕ) (entry opinion : Opinion) (s : State) → ((rule : Rule) (place : ℕ) → IsRuleAt rule place stack at → IsRuleAt rule place whole 1)
         → K s → K (walk kind serve skip stack at entry opinion s).state
     walk_keeps skip none at entry opinion s within k = k
     walk_keeps (suc skip) (line rule rest) at entry opinion s within k =
@@ -82,8 +82,8 @@ module _ {State : Type 0} (K : State → Type 0) where
         either inside.stopped _ _ here (walk_keeps zero rest (at + lines_in inner) entry inside.opinion inside.state (λ r p stands. within r p (inr stands)) here)
 
   module _ (whole : Stack) (kind : PassKind) (kept : KeptAnswers) (answering : Answering State)
-      (asks : (rule : Rule) (at : ℕ) (s : State) → StandsAt rule at whole 1 → K s → K (answering rule at s).state) where
-    by_past : (rule : Rule) (at : ℕ) (past : List Code) (visits : List Passing) (s : State) → StandsAt rule at whole 1 → K s
+      (asks : (rule : Rule) (at : ℕ) (s : State) → IsRuleAt rule at whole 1 → K s → K (answering rule at s).state) where
+    by_past : (rule : Rule) (at : ℕ) (past : List Code) (visits : List Passing) (s : State) → IsRuleAt rule at whole 1 → K s
         → K (served_past kind kept answering rule at past visits s).state.state
     by_past rule at [] visits s stands k = asks rule at s stands k
     by_past rule at (p ∷ past) visits s stands k = k
@@ -123,7 +123,7 @@ module _ (players : List Player) (call : StackCall) (stacks : Stacks) (first : S
     pub recorded : map (λ (l : LineRun). l.visit) lines ≡ s.room.transaction.trail
     pub ran : RunOn players lines first s
 
-  asks : (second : Bool) (rule : Rule) (at : ℕ) (s : State) → StandsAt rule at (first_stack call.func stacks) 1 → Comes s
+  asks : (second : Bool) (rule : Rule) (at : ℕ) (s : State) → IsRuleAt rule at (first_stack call.func stacks) 1 → Comes s
       → Comes (answers_by players call.func (flags_seen call.func second call.flags) rule at s).state
   asks second rule at s stands k =
       let flags = flags_seen call.func second call.flags in
@@ -157,8 +157,8 @@ module _ (players : List Player) (call : StackCall) (stacks : Stacks) (first : S
   rested_files None w = refl
   rested_files (Some n) w = elim (n == 0) as (λ (x : Bool). (if x then w else record w { nap = rested w.nap n }).vault.files ≡ w.vault.files) [ true ↦ refl | false ↦ refl ]
 
-  drawn_files : (longest : ℕ) (w : PlainWorld) → (drawn_by longest w).vault.files ≡ w.vault.files
-  drawn_files longest w = elim (longest == 0) as (λ (x : Bool). (if x then w else record w { clock = drawn w.clock }).vault.files ≡ w.vault.files) [ true ↦ refl | false ↦ refl ]
+  drawn_files : (longest : ℕ) (w : PlainWorld) → (random_taken_for longest w).vault.files ≡ w.vault.files
+  drawn_files longest w = elim (longest == 0) as (λ (x : Bool). (if x then w else record w { clock = random_taken w.clock }).vault.files ≡ w.vault.files) [ true ↦ refl | false ↦ refl ]
 
   as_it_is : (code : Code) (h : PlainHandle) (w : PlainWorld) → Comes (state_of h.room w) → Ends (called code h w)
   as_it_is code h w k = record { state = state_of h.room w; comes = k; files = refl; trail = refl }
@@ -169,7 +169,7 @@ module _ (players : List Player) (call : StackCall) (stacks : Stacks) (first : S
   authenticated_ends number None code h w k = record {
     state = state_of h.room w;
     comes = k;
-    files = rested_files (wait_of h.delay_on number code (asked_delay h.room.transaction.delay w.clock.word)) (drawn_by h.room.transaction.delay w)
+    files = rested_files (wait_of h.delay_on number code (asked_delay h.room.transaction.delay w.clock.word)) (random_taken_for h.room.transaction.delay w)
         ∙ drawn_files h.room.transaction.delay w;
     trail = refl;
   }
@@ -178,14 +178,14 @@ module _ (players : List Player) (call : StackCall) (stacks : Stacks) (first : S
   changed_ends (Some past) code h w k = as_it_is code h w k
   changed_ends None code h w k = record { state = state_of h.room w; comes = k; files = refl; trail = refl }
 
-  behind_trail : (paused : Option (List Code)) (r : PlainRoom) → (request_behind paused r).transaction.trail ≡ r.transaction.trail
-  behind_trail None r = refl
-  behind_trail (Some past) r = refl
+  after_trail : (paused : Option (List Code)) (r : PlainRoom) → (request_after paused r).transaction.trail ≡ r.transaction.trail
+  after_trail None r = refl
+  after_trail (Some past) r = refl
 
   -- the only pass of a call
-  only_ends : (code : Code) (g : PlainHandle) (p : Passed) → g.room.transaction.trail ≡ (request_behind p.paused p.state.room).transaction.trail → Comes p.state
+  only_ends : (code : Code) (g : PlainHandle) (p : Passed) → g.room.transaction.trail ≡ (request_after p.paused p.state.room).transaction.trail → Comes p.state
       → Ends (called code g p.state.world)
-  only_ends code g p e k = record { state = p.state; comes = k; files = refl; trail = e ∙ behind_trail p.paused p.state.room }
+  only_ends code g p e k = record { state = p.state; comes = k; files = refl; trail = e ∙ after_trail p.paused p.state.room }
 
   pub begun : (pending : Option Pending) (func : Func) (a b : Called) (f : Pending → Called) → Ends a → Ends b → ((p : Pending) → Ends (f p))
       → Ends (begun_or_going_on pending func a b f)
@@ -218,17 +218,17 @@ module _ (players : List Player) (number : Code → ℕ → ℕ) where
       (record h { room = p.state.room; pending = pending_after funcs.ChAuthTok kept p.paused }) p.state.world
       (pass_comes players (call_in funcs.ChAuthTok flags) h.stacks first true kinds.Follow kept past (state_of h.room w) k)
 
-  behind_check_ends : (flags : ℕ) (code : Code) (paused : Option (List Code)) (kept : Option KeptAnswers) (h : PlainHandle) (w : PlainWorld) (first : State)
+  after_check_ends : (flags : ℕ) (code : Code) (paused : Option (List Code)) (kept : Option KeptAnswers) (h : PlainHandle) (w : PlainWorld) (first : State)
       → Comes players (call_in funcs.ChAuthTok flags) h.stacks first (state_of h.room w)
-      → Ends players (call_in funcs.ChAuthTok flags) h.stacks first (behind_check players flags code paused kept h w)
-  behind_check_ends flags codes.Success paused kept h w first k = update_ends flags kept [] h w first k
-  behind_check_ends flags other paused kept h w first k = changed_ends players (call_in funcs.ChAuthTok flags) h.stacks first paused other h w k
+      → Ends players (call_in funcs.ChAuthTok flags) h.stacks first (after_check players flags code paused kept h w)
+  after_check_ends flags codes.Success paused kept h w first k = update_ends flags kept [] h w first k
+  after_check_ends flags other paused kept h w first k = changed_ends players (call_in funcs.ChAuthTok flags) h.stacks first paused other h w k
 
   check_ends : (flags : ℕ) (past : List Code) (h : PlainHandle) (w : PlainWorld) (first : State) → Comes players (call_in funcs.ChAuthTok flags) h.stacks first (state_of h.room w)
       → Ends players (call_in funcs.ChAuthTok flags) h.stacks first (check players flags past h w)
   check_ends flags past h w first k =
       let p = passed players funcs.ChAuthTok (flags_seen funcs.ChAuthTok false flags) kinds.Keep None h.stacks.password past (state_of h.room w) in
-      behind_check_ends flags p.code p.paused p.kept (record h { room = p.state.room; pending = pending_after funcs.ChAuthTok None p.paused }) p.state.world first
+      after_check_ends flags p.code p.paused p.kept (record h { room = p.state.room; pending = pending_after funcs.ChAuthTok None p.paused }) p.state.world first
       (pass_comes players (call_in funcs.ChAuthTok flags) h.stacks first false kinds.Keep None past (state_of h.room w) k)
 
   change_ends : (flags : ℕ) (past : List Code) (kept : Option KeptAnswers) (h : PlainHandle) (w : PlainWorld) (first : State)
@@ -273,7 +273,7 @@ module _ (players : List Player) (number : Code → ℕ → ℕ) where
     -- the passes of the other calls
     one_ends : (func : Func) (flags : ℕ) (kind : PassKind) (kept : Option KeptAnswers) (past : List Code) (g : PlainHandle)
         → let p = passed players func (flags_seen func false flags) kind kept (first_stack func h.stacks) past (state_of h.room w) in
-        g.room.transaction.trail ≡ (request_behind p.paused p.state.room).transaction.trail → Ends players (call_in func flags) h.stacks (state_of h.room w) (called p.code g p.state.world)
+        g.room.transaction.trail ≡ (request_after p.paused p.state.room).transaction.trail → Ends players (call_in func flags) h.stacks (state_of h.room w) (called p.code g p.state.world)
     one_ends func flags kind kept past g e =
         let call = call_in func flags in
         let p = passed players func (flags_seen func false flags) kind kept (first_stack func h.stacks) past (state_of h.room w) in

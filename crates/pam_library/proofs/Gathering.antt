@@ -6,7 +6,7 @@ use Rattle.data_cleanup.specs.Cleanup.{Notes}
 use Rattle.data_cleanup.specs.Due.{Event}
 use Rattle.data_cleanup.specs.Ledger.{PlainLedger}
 use Rattle.data_cleanup.specs.Moves.{Moves}
-use Rattle.data_cleanup.specs.Stands.{Lists}
+use Rattle.data_cleanup.specs.Modelled.{Lists}
 use Rattle.pam_handle.specs.pam_room.specs.Module.{Player, notes_of}
 use Rattle.pam_handle.specs.pam_room.specs.State.{PlainWorld}
 use Rattle.pam_library.specs.declared.outcome.Answer.{Answer}

@@ -11,7 +11,7 @@ use Rattle.data_cleanup.specs.Ledger.{PlainLedger}
 use Rattle.data_cleanup.specs.declared.datum.Birth.{Birth}
 use Rattle.pam_handle.specs.pam_room.specs.Module.{Player}
 use Rattle.pam_handle.specs.pam_room.specs.State.{PlainWorld}
-use Rattle.pam_library.specs.Alike.{AreAlike, AreInOrder, Cleaned, ComeToSame, IsRecordedAt, Shown, births_on, cleaned_as, cleaned_behind, receipts_on, shown_to, slot_without_ids, told_in}
+use Rattle.pam_library.specs.Alike.{AreAlike, AreInOrder, Cleaned, ComeToSame, IsRecordedAt, Shown, births_on, cleaned_as, cleaned_after, receipts_on, shown_to, slot_without_ids, told_in}
 use Rattle.pam_library.specs.Slots.{PlainSlot, closed, opened, slot_at, with_slot}
 use Rattle.pam_library.specs.SlotStep.{SlotStepped, filed_in, slot_step}
 use Rattle.pam_library.specs.Step.{Stepped, stepped, stepped_at}
@@ -59,7 +59,7 @@ nothing_left : (fs : List Filed) → drop (length fs) fs ≡ []
 nothing_left [] = refl
 nothing_left (f ∷ fs) = nothing_left fs
 
-none_cleaned : (ledger : PlainLedger) → cleaned_behind (length ledger.filed) ledger ≡ []
+none_cleaned : (ledger : PlainLedger) → cleaned_after (length ledger.filed) ledger ≡ []
 none_cleaned ledger = ap (flat_map (cleaned_as ledger.births)) (nothing_left ledger.filed)
 
 kept_first : (n number : ℕ) (slots : List PlainSlot) (w : PlainWorld) → AreInOrder slots w.process.ledger
@@ -100,18 +100,18 @@ module _ (players : List Player) (number_of : Code → ℕ → ℕ) where
       } in
       let t : PlaceTwins number number w v x y =
       place_twins number number w v players number_of a b w v call same worlds (h.first_order.each number a there_a) (h.second_order.each number b there_b) in
-      let cleaned_first : receipts_on number x.world.process.ledger ≡ receipts_on number w.process.ledger ++ cleaned_behind (filed_in w) x.world.process.ledger =
+      let cleaned_first : receipts_on number x.world.process.ledger ≡ receipts_on number w.process.ledger ++ cleaned_after (filed_in w) x.world.process.ledger =
       cleaned_then number w.process.ledger x.world.process.ledger t.first_kept.added t.first_kept.more t.first_kept.births t.first_kept.filed_is h.first_order.filed t.first_kept.more_own in
-      let cleaned_second : receipts_on number y.world.process.ledger ≡ receipts_on number v.process.ledger ++ cleaned_behind (filed_in v) y.world.process.ledger =
+      let cleaned_second : receipts_on number y.world.process.ledger ≡ receipts_on number v.process.ledger ++ cleaned_after (filed_in v) y.world.process.ledger =
       cleaned_then number v.process.ledger y.world.process.ledger t.second_kept.added t.second_kept.more t.second_kept.births t.second_kept.filed_is h.second_order.filed t.second_kept.more_own in
       let after : receipts_on number x.world.process.ledger ≡ receipts_on number y.world.process.ledger = λ i. (t.shown i).receipts in
       let before : receipts_on number w.process.ledger ≡ receipts_on number v.process.ledger = λ i. (h.shown i).receipts in
-      let cleaned : cleaned_behind (filed_in w) x.world.process.ledger ≡ cleaned_behind (filed_in v) y.world.process.ledger =
-      append_cancel_left (receipts_on number w.process.ledger) (cleaned_behind (filed_in w) x.world.process.ledger) (cleaned_behind (filed_in v) y.world.process.ledger)
-      (sym cleaned_first ∙ after ∙ cleaned_second ∙ ap (λ (l : List Cleaned). l ++ cleaned_behind (filed_in v) y.world.process.ledger) (sym before)) in
+      let cleaned : cleaned_after (filed_in w) x.world.process.ledger ≡ cleaned_after (filed_in v) y.world.process.ledger =
+      append_cancel_left (receipts_on number w.process.ledger) (cleaned_after (filed_in w) x.world.process.ledger) (cleaned_after (filed_in v) y.world.process.ledger)
+      (sym cleaned_first ∙ after ∙ cleaned_second ∙ ap (λ (l : List Cleaned). l ++ cleaned_after (filed_in v) y.world.process.ledger) (sym before)) in
       record {
         told = t.told;
-        cleaned = ap (λ (from : ℕ). cleaned_behind from x.world.process.ledger) (filed_from_is players number_of number a w call) ∙ cleaned ∙ ap (λ (from : ℕ). cleaned_behind from y.world.process.ledger) (sym (filed_from_is players number_of number b v call));
+        cleaned = ap (λ (from : ℕ). cleaned_after from x.world.process.ledger) (filed_from_is players number_of number a w call) ∙ cleaned ∙ ap (λ (from : ℕ). cleaned_after from y.world.process.ledger) (sym (filed_from_is players number_of number b v call));
         alike = record {
           place = ap (option_map slot_without_ids) (slot_at-with_slot_same slots number a x.slot there_a) ∙ ap Some t.slot ∙ sym (ap (option_map slot_without_ids) (slot_at-with_slot_same others number b y.slot there_b));
           shown = t.shown;

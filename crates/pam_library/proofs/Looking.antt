@@ -5,10 +5,10 @@ use Rattle.std.specs.Prelude.{nat_lt, nat_le}
 use Rattle.pam_base.specs.declared.fault.FaultKind.TheVariants.{TooDeep, TooManyLines, TooManyFiles, ReadFailed}
 use Rattle.pam_outside.specs.Counts.{next_count, fails_next}
 use Rattle.pam_outside.specs.Files.{File, VaultState, is_failing, no_locks}
-use Rattle.pam_handle.specs.service_load.specs.Entry.{entry_of, folder_name}
-use Rattle.pam_handle.specs.service_load.specs.Files.{Held, absent, faulty, holds, held, is_in_folder}
-use Rattle.pam_handle.specs.service_load.specs.FirstFault.{Counts, Stop, absent_file, asked, behind, checked_rule, fault_at, going_on, held_file, look, refused_opening, stop}
-use Rattle.pam_handle.specs.service_load.specs.Load.{has_folder, loaded, loaded_from}
+use Rattle.pam_handle.specs.service_load.specs.Entry.{entry_of, directory_name}
+use Rattle.pam_handle.specs.service_load.specs.Files.{Held, absent, faulty, holds, held, is_in_directory}
+use Rattle.pam_handle.specs.service_load.specs.FirstFault.{Counts, Stop, absent_file, asked, past_end, checked_rule, fault_at, going_on, held_file, look, refused_opening, stop}
+use Rattle.pam_handle.specs.service_load.specs.Load.{directory_exists, loaded, loaded_from}
 use Rattle.pam_handle.specs.service_load.specs.Loading.{texts_of}
 use Rattle.pam_handle.specs.service_load.specs.Order.{Opener, as_service, as_other, as_last, by_rule, Item, begin, opening, checked, made, order}
 use Rattle.pam_library.specs.Alike.{NoCallFails}
@@ -54,10 +54,10 @@ module _ (some others : List ℕ) where
     held_twins file opener (holds rules) = record { rest = refl; first = first; second = second }
 
   module _ (texts : List ℕ → Option (List ℕ)) where
-    behind_twins : (c : Counts) (k : ℕ) → QuietAt some c.calls → QuietAt others k → (i : Item)
-        → LookTwins (behind texts some c i) (behind texts others (record c { calls = k }) i)
-    behind_twins c k first second begin = record { rest = refl; first = first; second = second }
-    behind_twins c k first second (opening file level opener) =
+    after_twins : (c : Counts) (k : ℕ) → QuietAt some c.calls → QuietAt others k → (i : Item)
+        → LookTwins (past_end texts some c i) (past_end texts others (record c { calls = k }) i)
+    after_twins c k first second begin = record { rest = refl; first = first; second = second }
+    after_twins c k first second (opening file level opener) =
         let d : Counts = record c { calls = k } in
         let fault : Result Counts Stop = stop (asked c) file.name 0 ReadFailed in
         let other_fault : Result Counts Stop = stop (asked d) file.name 0 ReadFailed in
@@ -78,12 +78,12 @@ module _ (some others : List ℕ) where
                 | false ↦ answered
               ]
         ]
-    behind_twins c k first second (checked file rule) =
-        elim (entry_of (is_in_folder file) rule) as (λ e. LookTwins (checked_rule c file.name rule.line e) (checked_rule (record c { calls = k }) file.name rule.line e)) [
+    after_twins c k first second (checked file rule) =
+        elim (entry_of (is_in_directory file) rule) as (λ e. LookTwins (checked_rule c file.name rule.line e) (checked_rule (record c { calls = k }) file.name rule.line e)) [
           | Ok entry ↦ record { rest = refl; first = first; second = second }
           | Err kind ↦ record { rest = refl; first = first; second = second }
         ]
-    behind_twins c k first second (made name line) = elim (nat_le 4096 c.lines) as (λ (x : Bool). LookTwins
+    after_twins c k first second (made name line) = elim (nat_le 4096 c.lines) as (λ (x : Bool). LookTwins
         (if x then stop c name line TooManyLines else Ok (record c { lines = c.lines + 1 }))
         (if x then stop (record c { calls = k }) name line TooManyLines else Ok (record c { calls = k; lines = c.lines + 1 }))) [
           | true ↦ record { rest = refl; first = first; second = second }
@@ -101,8 +101,8 @@ module _ (some others : List ℕ) where
     unfolding look
     looks [] c d t = t
     looks (i ∷ is) c d t =
-        going_twins (behind texts some c i) (behind texts others d i) (λ x. look texts some x is) (λ x. look texts others x is)
-        (subst (λ (x : Counts). LookTwins (behind texts some c i) (behind texts others x i)) t.rest (behind_twins c d.calls t.first t.second i))
+        going_twins (past_end texts some c i) (past_end texts others d i) (λ x. look texts some x is) (λ x. look texts others x is)
+        (subst (λ (x : Counts). LookTwins (past_end texts some c i) (past_end texts others x i)) t.rest (after_twins c d.calls t.first t.second i))
         (λ x y u. looks is x y u)
 
 -- ---- the load of a service
@@ -114,16 +114,16 @@ same_files : (v w : VaultState) (root service : List ℕ) → NoCallFails v → 
     → LookTwins v.fails w.fails (loaded v root service) (loaded (record w { files = v.files }) root service)
 same_files v w root service first second =
     let w' : VaultState = record w { files = v.files } in
-    let from : LookTwins v.fails w.fails (loaded_from (has_folder v root) v root service (next_count v.calls)) (loaded_from (has_folder v root) w' root service (next_count w.calls)) =
-    looks v.fails w.fails (texts_of root v) (order (texts_of root v) (has_folder v root) service) (record { calls = next_count v.calls; openings = 0; lines = 0 }) (record { calls = next_count w.calls; openings = 0; lines = 0 })
+    let from : LookTwins v.fails w.fails (loaded_from (directory_exists v root) v root service (next_count v.calls)) (loaded_from (directory_exists v root) w' root service (next_count w.calls)) =
+    looks v.fails w.fails (texts_of root v) (order (texts_of root v) (directory_exists v root) service) (record { calls = next_count v.calls; openings = 0; lines = 0 }) (record { calls = next_count w.calls; openings = 0; lines = 0 })
     (record { rest = refl; first = one_more v.fails v.calls (quiet_at v first); second = one_more w.fails w.calls (quiet_at w second) }) in
-    let failed : (u : VaultState) → Result Counts Stop = λ u. Err (record { fault = fault_at folder_name 0 ReadFailed; calls = next_count u.calls }) in
+    let failed : (u : VaultState) → Result Counts Stop = λ u. Err (record { fault = fault_at directory_name 0 ReadFailed; calls = next_count u.calls }) in
     subst (λ (b : Bool). LookTwins v.fails w.fails
-    (if b then failed v else loaded_from (has_folder v root) v root service (next_count v.calls))
-    (if is_failing w' then failed w' else loaded_from (has_folder v root) w' root service (next_count w.calls))) (sym (quiet_now v first))
+    (if b then failed v else loaded_from (directory_exists v root) v root service (next_count v.calls))
+    (if is_failing w' then failed w' else loaded_from (directory_exists v root) w' root service (next_count w.calls))) (sym (quiet_now v first))
     (subst (λ (b : Bool). LookTwins v.fails w.fails
-    (loaded_from (has_folder v root) v root service (next_count v.calls))
-    (if b then failed w' else loaded_from (has_folder v root) w' root service (next_count w.calls))) (sym (quiet_now w second)) from)
+    (loaded_from (directory_exists v root) v root service (next_count v.calls))
+    (if b then failed w' else loaded_from (directory_exists v root) w' root service (next_count w.calls))) (sym (quiet_now w second)) from)
 
 pub loaded_twins : (v w : VaultState) (root root' service : List ℕ) → v.files ≡ w.files → root ≡ root' → NoCallFails v → NoCallFails w
     → LookTwins v.fails w.fails (loaded v root service) (loaded w root' service)

@@ -12,7 +12,7 @@ use Rattle.data_cleanup.specs.Cleanup.{Notes, receipts_for}
 use Rattle.data_cleanup.specs.declared.datum.Birth.{Birth}
 use Rattle.data_cleanup.specs.declared.receipt.Filed.{Filed}
 use Rattle.pam_handle.specs.pam_room.specs.Module.{NamedData, births_of}
-use Rattle.pam_library.specs.Alike.{Cleaned, IsOfBirth, IsRecorded, birth_without_id, cleaned_as, cleaned_behind, cleaned_by, datum_without_id, own_filed, own_receipt, receipts_on}
+use Rattle.pam_library.specs.Alike.{Cleaned, IsOfBirth, IsRecorded, birth_without_id, cleaned_as, cleaned_after, cleaned_by, datum_without_id, own_filed, own_receipt, receipts_on}
 
 -- ---- lists
 
@@ -37,9 +37,9 @@ look_further [] more i b is = cc
 look_further (x ∷ births) more zero b is = is
 look_further (x ∷ births) more (suc i) b is = look_further births more i b is
 
-look_behind : (births more : List Birth) (b : Birth) → slice_get (births ++ b ∷ more) (length births) ≡ Some b
-look_behind [] more b = refl
-look_behind (x ∷ births) more b = look_behind births more b
+look_after : (births more : List Birth) (b : Birth) → slice_get (births ++ b ∷ more) (length births) ≡ Some b
+look_after [] more b = refl
+look_after (x ∷ births) more b = look_after births more b
 
 -- ---- sets that are added
 
@@ -64,17 +64,17 @@ receipts_stay n births more (f ∷ fs) a =
 abbrev Stands : ℕ → List Birth → Birth → Type 0
 Stands number births b = slice_get births b.id ≡ Some (birth_of b.id number b.owner b.name b.payload)
 
-all_stand : (number handle owner : ℕ) (before : List Birth) (ds : List NamedData) (id : ℕ) → id ≡ length before → handle ≡ number →
+all_may_precede : (number handle owner : ℕ) (before : List Birth) (ds : List NamedData) (id : ℕ) → id ≡ length before → handle ≡ number →
     AllByRecursion (Stands number (before ++ births_of id handle owner ds)) (births_of id handle owner ds)
-all_stand number handle owner before [] id at same = tt
-all_stand number handle owner before (d ∷ ds) id at same =
+all_may_precede number handle owner before [] id at same = tt
+all_may_precede number handle owner before (d ∷ ds) id at same =
     let b : Birth = birth_of id handle owner d.name d.payload in
     let rest : List Birth = births_of (id + 1) handle owner ds in
-    let here : slice_get (before ++ b ∷ rest) id ≡ Some b = ap (slice_get (before ++ b ∷ rest)) at ∙ look_behind before rest b in
+    let here : slice_get (before ++ b ∷ rest) id ≡ Some b = ap (slice_get (before ++ b ∷ rest)) at ∙ look_after before rest b in
     let later : id + 1 ≡ length (before ++ b ∷ []) = omega (arith, length_with before b, at) in
     let joined : (before ++ b ∷ []) ++ rest ≡ before ++ b ∷ rest = append_assoc before (b ∷ []) rest in (
       here ∙ ap (λ (n : ℕ). Some (birth_of id n owner d.name d.payload)) same,
-      subst (λ (all : List Birth). AllByRecursion (Stands number all) rest) joined (all_stand number handle owner (before ++ b ∷ []) ds (id + 1) later same),
+      subst (λ (all : List Birth). AllByRecursion (Stands number all) rest) joined (all_may_precede number handle owner (before ++ b ∷ []) ds (id + 1) later same),
     )
   where
     length_with : (bs : List Birth) (b : Birth) → length (bs ++ b ∷ []) ≡ length bs + 1
@@ -112,7 +112,7 @@ pub set_recorded : (number handle owner : ℕ) (births : List Birth) (l : PlainD
 set_recorded number handle owner births l ds same live gone =
     let added : List Birth = births_of (length births) handle owner ds in
     all_held (IsRecorded number (births ++ added)) l added (still_recorded number births added l.live live) (still_recorded number births added l.gone gone)
-    (all_stand number handle owner births ds (length births) refl same)
+    (all_may_precede number handle owner births ds (length births) refl same)
 
 -- ---- data that are cleaned up
 
@@ -197,15 +197,15 @@ left_over (x ∷ xs) ys = left_over xs ys
 pub cleaned_then : (n : ℕ) (before after : PlainLedger) (added : List Birth) (more : List Filed) → after.births ≡ before.births ++ added
     → after.filed ≡ before.filed ++ more →
     AllByRecursion (IsOfBirth before.births) before.filed → AllByRecursion (IsOwnFiled n after.births) more →
-    receipts_on n after ≡ receipts_on n before ++ cleaned_behind (length before.filed) after
+    receipts_on n after ≡ receipts_on n before ++ cleaned_after (length before.filed) after
 cleaned_then n before after added more births filed old own =
-    let behind : drop (length before.filed) after.filed ≡ more = ap (drop (length before.filed)) filed ∙ left_over before.filed more in
+    let past_end : drop (length before.filed) after.filed ≡ more = ap (drop (length before.filed)) filed ∙ left_over before.filed more in
     let front : flat_map (own_filed n after.births) before.filed ≡ receipts_on n before =
     ap (λ (bs : List Birth). flat_map (own_filed n bs) before.filed) births ∙ receipts_stay n before.births added before.filed old in
     ap (flat_map (own_filed n after.births)) filed
     ∙ flat_map-append (own_filed n after.births) before.filed more
     ∙ (λ i. front i ++ own_as_cleaned n after.births more own i)
-    ∙ ap (λ (fs : List Filed). receipts_on n before ++ flat_map (cleaned_as after.births) fs) (sym behind)
+    ∙ ap (λ (fs : List Filed). receipts_on n before ++ flat_map (cleaned_as after.births) fs) (sym past_end)
 
 -- the same in the other order
 pub turned_recorded : (number : ℕ) (births : List Birth) (ds : List PlainDatum) → AllByRecursion (IsRecorded number births) ds

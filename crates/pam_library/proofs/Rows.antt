@@ -16,7 +16,7 @@ use Rattle.pam_handle.specs.control_words.specs.Stack.{Stack, none, line}
 use Rattle.pam_handle.specs.pam_room.specs.Module.{Player, SeenRoom, NamedData, Sight, length_note, never_breaks, notes_of, same_locks}
 use Rattle.pam_handle.specs.pam_room.specs.Call.{PlainCall}
 use Rattle.pam_handle.specs.pam_room.specs.State.{PlainWorld}
-use Rattle.pam_handle.specs.conf_lex.specs.Reading.{first_piece, pieces_behind}
+use Rattle.pam_handle.specs.conf_lex.specs.Reading.{first_piece, pieces_after}
 use Rattle.pam_handle.specs.conf_lex.specs.Lexing.{answer_at}
 use Rattle.pam_handle.specs.conf_lex.specs.Answer.{answer_to}
 use Rattle.pam_handle.specs.service_load.specs.Entry.{entry_of}
@@ -154,16 +154,16 @@ started_second : Stepped
 started_second = of_step (first_open (codes "p")) 2 (calls.Start (codes "T") (Some (codes "joe")))
 
 start_answer : started_second.outcome ≡ answers_only 0 (answers.Code codes.Success)
-unfolding stepped started_second look items answer_to answer_at pieces_behind first_piece entry_of nodes path_of
+unfolding stepped started_second look items answer_to answer_at pieces_after first_piece entry_of nodes path_of
 start_answer = refl
 
 start_opens : is_open_at (slot_at started_second.slots 2) ≡ true
-unfolding stepped started_second look items answer_to answer_at pieces_behind first_piece entry_of nodes path_of
+unfolding stepped started_second look items answer_to answer_at pieces_after first_piece entry_of nodes path_of
 start_opens = refl
 
 -- a missing module is reported
 missing_told : (stepped (is_put_off ∷ []) number_of all_closed at_first (step 1 (calls.Start (codes "t") None))).outcome.missing ≡ codes "p" ∷ []
-unfolding stepped look items answer_to answer_at pieces_behind first_piece entry_of nodes path_of
+unfolding stepped look items answer_to answer_at pieces_after first_piece entry_of nodes path_of
 missing_told = refl
 
 -- ---- module data are set, and cleaned up at the end; the other transaction stays

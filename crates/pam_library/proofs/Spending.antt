@@ -11,7 +11,7 @@ use Rattle.data_cleanup.specs.Cleanup.{Notes, ledger_after}
 use Rattle.data_cleanup.specs.Grows.{Grows, IsOf}
 use Rattle.data_cleanup.specs.Due.{birth, ends}
 use Rattle.data_cleanup.specs.declared.datum.Birth.{Birth}
-use Rattle.data_cleanup.specs.Stands.{Lists, StandFor, clean_list}
+use Rattle.data_cleanup.specs.Modelled.{Lists, ModelsEvents, clean_list}
 use Rattle.data_cleanup.specs.Kept.{AreHeld}
 use Rattle.data_cleanup.specs.Moves.{Moves}
 use Rattle.pam_handle.specs.Handle.{PlainHandle}
@@ -246,9 +246,9 @@ none_left : (added : List Birth) → [] ≡ [] ++ added → added ≡ []
 none_left [] e = refl
 none_left (b ∷ added) e = absurd (cc)
 
-pub closed_stand_for_none : NothingMoves
-    → ((note : Notes) (limit : ℕ) → StandFor note limit (record { births = []; filed = [] }) (λ (h : ℕ). clean_list h []) [])
-    → (note : Notes) (convs : List ConvState) → StandFor note 17 (record { births = []; filed = [] }) (lists_of (map closed convs)) []
-closed_stand_for_none nothing at_first note convs =
+pub closed_have_no_events : NothingMoves
+    → ((note : Notes) (limit : ℕ) → ModelsEvents note limit (record { births = []; filed = [] }) (λ (h : ℕ). clean_list h []) [])
+    → (note : Notes) (convs : List ConvState) → ModelsEvents note 17 (record { births = []; filed = [] }) (lists_of (map closed convs)) []
+closed_have_no_events nothing at_first note convs =
     let m = nothing note 17 empty_ledger empty_ledger no_lists (lists_of (map closed convs)) refl (no_data convs) in
-    subst (λ (added : List Birth). StandFor note 17 empty_ledger (lists_of (map closed convs)) ([] ++ (map birth added ++ []))) (none_left m.added m.births) (m.stand [] (at_first note 17))
+    subst (λ (added : List Birth). ModelsEvents note 17 empty_ledger (lists_of (map closed convs)) ([] ++ (map birth added ++ []))) (none_left m.added m.births) (m.stand [] (at_first note 17))

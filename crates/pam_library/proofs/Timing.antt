@@ -5,7 +5,7 @@ use Rattle.pam_base.specs.declared.call.Step.{Step}
 use Rattle.pam_handle.specs.dispatch_core.specs.Lines.{call_of, names_of}
 use Rattle.pam_handle.specs.handler_chain.specs.FlatLines.{module_of}
 use Rattle.pam_outside.specs.Files.{File}
-use Rattle.pam_outside.specs.Time.{ClockState, Time, after_draws, drawn, time_of}
+use Rattle.pam_outside.specs.Time.{ClockState, Time, after_draws, random_taken, time_of}
 use Rattle.pam_handle.specs.pam_room.specs.Call.{PlainCall}
 use Rattle.pam_handle.specs.pam_room.specs.Module.{Player, played_in}
 use Rattle.pam_handle.specs.pam_room.specs.Serve.{at_work, serve_line, served_by}
@@ -19,7 +19,7 @@ use Rattle.pam_library.specs.Slots.{PlainSlot, closed, opened, slot_at}
 -- reading random words leaves the time
 pub draws_pass : (n : ℕ) (s : ClockState) → time_of (after_draws n s) ≡ time_of s
 draws_pass zero s = refl
-draws_pass (suc n) s = draws_pass n (drawn s)
+draws_pass (suc n) s = draws_pass n (random_taken s)
 
 module _ (players : List Player) where
   -- a line that is run leaves the time

@@ -9,7 +9,7 @@ use Rattle.pam_handle.specs.control_words.specs.Stack.{Stack}
 use Rattle.pam_handle.specs.dispatch_core.specs.Lines.{answers_by}
 use Rattle.fail_delay.specs.Delay.{asked_delay}
 use Rattle.fail_delay.specs.Wait.{wait_of}
-use Rattle.pam_outside.specs.Time.{drawn, rested}
+use Rattle.pam_outside.specs.Time.{random_taken, rested}
 use Rattle.pam_handle.specs.pam_room.specs.Call.{prelim_check}
 use Rattle.pam_handle.specs.pam_room.specs.Module.{Player}
 use Rattle.pam_handle.specs.pam_room.specs.State.{PlainRoom, PlainWorld, State, state_of}
@@ -22,8 +22,8 @@ use Rattle.pam_handle.specs.dispatch_core.specs.Pending.{Pending, pending_after,
 use Rattle.pam_handle.specs.Handle.{PlainHandle, in_room}
 use Rattle.pam_handle.specs.dispatch_core.specs.Calls.{answers_held, following, passed_by}
 use Rattle.pam_handle.specs.Pass.{Passed, passed}
-use Rattle.pam_handle.specs.Call.{Called, begun_or_going_on, called, drawn_by, request_behind, request_forgotten, rested_by, tokens_cleared, waits, without_its_tokens, without_request}
-use Rattle.pam_handle.specs.StackCalls.{account, authenticated, authentication, behind_check, change_goes_on, changed, chauthtok, check, closing, credential_flags, credentials, ended, has_pass_flag, opening, stack_call, update, update_authtok}
+use Rattle.pam_handle.specs.Call.{Called, begun_or_going_on, called, random_taken_for, request_after, request_forgotten, rested_by, tokens_cleared, waits, without_its_tokens, without_request}
+use Rattle.pam_handle.specs.StackCalls.{account, authenticated, authentication, after_check, change_goes_on, changed, chauthtok, check, closing, credential_flags, credentials, ended, has_pass_flag, opening, stack_call, update, update_authtok}
 use Rattle.pam_library.proofs.Alongside.{PassTwins, WalkedTwins, pass_twins}
 use Rattle.pam_library.proofs.Twins.{KeptIn, Twins, asked_twins, touched}
 
@@ -40,7 +40,7 @@ module _ (n number : ℕ) (first second : PlainWorld) where
   no_request a b t = touched n number without_request (record { same = λ r. refl; datums = λ r. refl; handle = λ r. refl }) first second a b t
 
   request_twins : (paused : Option (List Code)) (a b : State) → Both a b
-      → Both (state_of (request_behind paused a.room) a.world) (state_of (request_behind paused b.room) b.world)
+      → Both (state_of (request_after paused a.room) a.world) (state_of (request_after paused b.room) b.world)
   request_twins None a b t = no_request a b t
   request_twins (Some past) a b t = t
 
@@ -62,8 +62,8 @@ module _ (n number : ℕ) (first second : PlainWorld) where
         }
       ]
 
-  kept_drawn : (start : PlainWorld) (w : PlainWorld) → KeptIn n number start w → KeptIn n number start (record w { clock = drawn w.clock })
-  kept_drawn start w k = record {
+  kept_random_taken : (start : PlainWorld) (w : PlainWorld) → KeptIn n number start w → KeptIn n number start (record w { clock = random_taken w.clock })
+  kept_random_taken start w k = record {
     quiet = k.quiet;
     clock_is = k.clock_is;
     root_is = k.root_is;
@@ -79,16 +79,16 @@ module _ (n number : ℕ) (first second : PlainWorld) where
   }
 
   -- a random word is read
-  drawn_twins : (longest : ℕ) (a b : State) → Both a b → Both (record a { world = drawn_by longest a.world }) (record b { world = drawn_by longest b.world })
-  drawn_twins longest a b t = elim (longest == 0) as (λ (x : Bool). Both
-      (record a { world = if x then a.world else record a.world { clock = drawn a.world.clock } })
-      (record b { world = if x then b.world else record b.world { clock = drawn b.world.clock } })) [
+  random_taken_twins : (longest : ℕ) (a b : State) → Both a b → Both (record a { world = random_taken_for longest a.world }) (record b { world = random_taken_for longest b.world })
+  random_taken_twins longest a b t = elim (longest == 0) as (λ (x : Bool). Both
+      (record a { world = if x then a.world else record a.world { clock = random_taken a.world.clock } })
+      (record b { world = if x then b.world else record b.world { clock = random_taken b.world.clock } })) [
         | true ↦ t
         | false ↦ record {
           room = t.room;
           world = t.world;
-          first_kept = kept_drawn first a.world t.first_kept;
-          second_kept = kept_drawn second b.world t.second_kept;
+          first_kept = kept_random_taken first a.world t.first_kept;
+          second_kept = kept_random_taken second b.world t.second_kept;
           first_data = t.first_data;
           second_data = t.second_data;
         }
@@ -121,9 +121,9 @@ module _ (n number : ℕ) (first second : PlainWorld) where
     pub rest : called c.code (in_room d.handle.room c.handle) d.world ≡ d
     pub state : Both (state_of c.handle.room c.world) (state_of d.handle.room d.world)
 
-  behind_pass : (f g : Passed → Called) (p q : Passed) → PassedTwins p q
+  past_pass : (f g : Passed → Called) (p q : Passed) → PassedTwins p q
       → ((t : State) → Both p.state t → CalledTwins (f p) (g (record p { state = t }))) → CalledTwins (f p) (g q)
-  behind_pass f g p q t main = subst (λ (x : Passed). CalledTwins (f p) (g x)) t.rest (main q.state t.state)
+  past_pass f g p q t main = subst (λ (x : Passed). CalledTwins (f p) (g x)) t.rest (main q.state t.state)
 
   ended_twins : (func : Func) (p : Passed) (t : State) (x : PlainHandle) (r : PlainRoom) → Both p.state t
       → CalledTwins (ended func p x) (ended func (record p { state = t }) (in_room r x))
@@ -145,8 +145,8 @@ module _ (n number : ℕ) (first second : PlainWorld) where
 
   module _ (delay : Code → ℕ → ℕ) where
     -- an authentication that waits for the requested time
-    abbrev behind_wait : Code → PlainHandle → PlainWorld → ℕ → Called
-    behind_wait code h w asked = let c = waits code asked (wait_of h.delay_on delay code asked) (tokens_cleared h) w in called code (request_forgotten c.handle) c.world
+    abbrev after_wait : Code → PlainHandle → PlainWorld → ℕ → Called
+    after_wait code h w asked = let c = waits code asked (wait_of h.delay_on delay code asked) (tokens_cleared h) w in called code (request_forgotten c.handle) c.world
 
     authenticated_twins : (paused : Option (List Code)) (code : Code) (x : PlainHandle) (r : PlainRoom) (v w : PlainWorld)
         → Both (state_of x.room v) (state_of r w)
@@ -158,17 +158,17 @@ module _ (n number : ℕ) (first second : PlainWorld) where
         let wait : Option ℕ = wait_of x.delay_on delay code asked in
         let longest : ℕ = x.room.transaction.delay in
         let same_longest : longest ≡ r.transaction.delay = λ i. (t.room i).transaction.delay in
-        let va : PlainWorld = drawn_by longest v in
-        let wa : PlainWorld = drawn_by longest w in
+        let va : PlainWorld = random_taken_for longest v in
+        let wa : PlainWorld = random_taken_for longest w in
         let rested : Both (state_of x.room (rested_by wait va)) (state_of r (rested_by wait wa)) =
-        rested_twins wait (state_of x.room va) (state_of r wa) (drawn_twins longest (state_of x.room v) (state_of r w) t) in
-        let main : CalledTwins (behind_wait code x va asked) (behind_wait code (in_room r x) wa asked) = record {
+        rested_twins wait (state_of x.room va) (state_of r wa) (random_taken_twins longest (state_of x.room v) (state_of r w) t) in
+        let main : CalledTwins (after_wait code x va asked) (after_wait code (in_room r x) wa asked) = record {
           rest = refl;
           state = no_request (state_of (without_its_tokens x.room) (rested_by wait va)) (state_of (without_its_tokens r) (rested_by wait wa)) (no_tokens (state_of x.room (rested_by wait va)) (state_of r (rested_by wait wa)) rested);
         } in
-        let drawn_main : CalledTwins (behind_wait code x va asked) (behind_wait code (in_room r x) (drawn_by r.transaction.delay w) asked) =
-        subst (λ (l : ℕ). CalledTwins (behind_wait code x va asked) (behind_wait code (in_room r x) (drawn_by l w) asked)) same_longest main in
-        subst (λ (m : ℕ). CalledTwins (behind_wait code x va asked) (behind_wait code (in_room r x) (drawn_by r.transaction.delay w) m)) same drawn_main
+        let drawn_main : CalledTwins (after_wait code x va asked) (after_wait code (in_room r x) (random_taken_for r.transaction.delay w) asked) =
+        subst (λ (l : ℕ). CalledTwins (after_wait code x va asked) (after_wait code (in_room r x) (random_taken_for l w) asked)) same_longest main in
+        subst (λ (m : ℕ). CalledTwins (after_wait code x va asked) (after_wait code (in_room r x) (random_taken_for r.transaction.delay w) m)) same drawn_main
 
   -- ---- the six calls, on a transaction in two rooms
 
@@ -191,7 +191,7 @@ module _ (n number : ℕ) (first second : PlainWorld) where
 
     authentication_goes : (flags : ℕ) (past : List Code) → Goes (authentication players delay flags past)
     authentication_goes flags past x r v w t =
-        behind_pass
+        past_pass
         (λ p. authenticated delay p.paused p.code (record x { room = p.state.room; authenticated = p.kept; pending = pending_after Authenticate None p.paused }) p.state.world)
         (λ p. authenticated delay p.paused p.code (record x { room = p.state.room; authenticated = p.kept; pending = pending_after Authenticate None p.paused }) p.state.world)
         (passed players Authenticate flags kinds.Keep x.authenticated x.stacks.auth past (state_of x.room v))
@@ -203,7 +203,7 @@ module _ (n number : ℕ) (first second : PlainWorld) where
 
     credentials_goes : (flags : ℕ) (past : List Code) → Goes (credentials players flags past)
     credentials_goes flags past x r v w t =
-        behind_pass
+        past_pass
         (λ p. ended SetCred p (record x { authenticated = p.kept })) (λ p. ended SetCred p (record (in_room r x) { authenticated = p.kept }))
         (passed players SetCred (credential_flags flags) (following x.authenticated) x.authenticated x.stacks.auth past (state_of x.room v))
         (passed players SetCred (credential_flags flags) (following x.authenticated) x.authenticated x.stacks.auth past (state_of r w))
@@ -214,7 +214,7 @@ module _ (n number : ℕ) (first second : PlainWorld) where
 
     account_goes : (flags : ℕ) (past : List Code) → Goes (account players flags past)
     account_goes flags past x r v w t =
-        behind_pass (λ p. ended AcctMgmt p x) (λ p. ended AcctMgmt p (in_room r x))
+        past_pass (λ p. ended AcctMgmt p x) (λ p. ended AcctMgmt p (in_room r x))
         (passed players AcctMgmt flags kinds.Keep None x.stacks.account past (state_of x.room v))
         (passed players AcctMgmt flags kinds.Keep None x.stacks.account past (state_of r w))
         (passed_twins players AcctMgmt flags kinds.Keep None x.stacks.account past (state_of x.room v) (state_of r w) t)
@@ -222,7 +222,7 @@ module _ (n number : ℕ) (first second : PlainWorld) where
 
     opening_goes : (flags : ℕ) (past : List Code) → Goes (opening players flags past)
     opening_goes flags past x r v w t =
-        behind_pass
+        past_pass
         (λ p. ended OpenSession p (record x { opened = p.kept })) (λ p. ended OpenSession p (record (in_room r x) { opened = p.kept }))
         (passed players OpenSession flags kinds.Keep x.opened x.stacks.session past (state_of x.room v))
         (passed players OpenSession flags kinds.Keep x.opened x.stacks.session past (state_of r w))
@@ -233,7 +233,7 @@ module _ (n number : ℕ) (first second : PlainWorld) where
 
     closing_goes : (flags : ℕ) (past : List Code) → Goes (closing players flags past)
     closing_goes flags past x r v w t =
-        behind_pass
+        past_pass
         (λ p. ended CloseSession p (record x { opened = p.kept })) (λ p. ended CloseSession p (record (in_room r x) { opened = p.kept }))
         (passed players CloseSession flags (following x.opened) x.opened x.stacks.session past (state_of x.room v))
         (passed players CloseSession flags (following x.opened) x.opened x.stacks.session past (state_of r w))
@@ -244,7 +244,7 @@ module _ (n number : ℕ) (first second : PlainWorld) where
 
     update_goes : (flags : ℕ) (kept : Option KeptAnswers) (past : List Code) → Goes (update players flags kept past)
     update_goes flags kept past x r v w t =
-        behind_pass
+        past_pass
         (λ p. changed p.paused p.code (record x { room = p.state.room; pending = pending_after ChAuthTok kept p.paused }) p.state.world)
         (λ p. changed p.paused p.code (record x { room = p.state.room; pending = pending_after ChAuthTok kept p.paused }) p.state.world)
         (passed players ChAuthTok (bit_or flags update_authtok) kinds.Follow kept x.stacks.password past (state_of x.room v))
@@ -254,21 +254,21 @@ module _ (n number : ℕ) (first second : PlainWorld) where
         let p : Passed = passed players ChAuthTok (bit_or flags update_authtok) kinds.Follow kept x.stacks.password past (state_of x.room v) in
         changed_twins p.paused p.code (record x { room = p.state.room; pending = pending_after ChAuthTok kept p.paused }) s.room p.state.world s.world both)
 
-    behind_check_goes : (flags : ℕ) (code : Code) (paused : Option (List Code)) (kept : Option KeptAnswers) → Goes (behind_check players flags code paused kept)
-    behind_check_goes flags codes.Success paused kept x r v w t = update_goes flags kept [] x r v w t
-    behind_check_goes flags code paused kept x r v w t = changed_twins paused code x r v w t
+    after_check_goes : (flags : ℕ) (code : Code) (paused : Option (List Code)) (kept : Option KeptAnswers) → Goes (after_check players flags code paused kept)
+    after_check_goes flags codes.Success paused kept x r v w t = update_goes flags kept [] x r v w t
+    after_check_goes flags code paused kept x r v w t = changed_twins paused code x r v w t
 
     check_goes : (flags : ℕ) (past : List Code) → Goes (check players flags past)
     check_goes flags past x r v w t =
-        behind_pass
-        (λ p. behind_check players flags p.code p.paused p.kept (record x { room = p.state.room; pending = pending_after ChAuthTok None p.paused }) p.state.world)
-        (λ p. behind_check players flags p.code p.paused p.kept (record x { room = p.state.room; pending = pending_after ChAuthTok None p.paused }) p.state.world)
+        past_pass
+        (λ p. after_check players flags p.code p.paused p.kept (record x { room = p.state.room; pending = pending_after ChAuthTok None p.paused }) p.state.world)
+        (λ p. after_check players flags p.code p.paused p.kept (record x { room = p.state.room; pending = pending_after ChAuthTok None p.paused }) p.state.world)
         (passed players ChAuthTok (bit_or flags prelim_check) kinds.Keep None x.stacks.password past (state_of x.room v))
         (passed players ChAuthTok (bit_or flags prelim_check) kinds.Keep None x.stacks.password past (state_of r w))
         (passed_twins players ChAuthTok (bit_or flags prelim_check) kinds.Keep None x.stacks.password past (state_of x.room v) (state_of r w) t)
         (λ s both.
         let p : Passed = passed players ChAuthTok (bit_or flags prelim_check) kinds.Keep None x.stacks.password past (state_of x.room v) in
-        behind_check_goes flags p.code p.paused p.kept (record x { room = p.state.room; pending = pending_after ChAuthTok None p.paused }) s.room p.state.world s.world both)
+        after_check_goes flags p.code p.paused p.kept (record x { room = p.state.room; pending = pending_after ChAuthTok None p.paused }) s.room p.state.world s.world both)
 
     change_goes : (flags : ℕ) (past : List Code) (kept : Option KeptAnswers) → Goes (change_goes_on players flags past kept)
     change_goes flags past None x r v w t = check_goes flags past x r v w t

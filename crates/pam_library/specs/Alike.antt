@@ -91,8 +91,8 @@ abbrev pub cleaned_as : List Birth → Filed → List Cleaned
 cleaned_as births f = cleaned_by (slice_get births f.receipt.id) f.receipt
 
 -- the cleanup records after the first n, in their order and without ids and positions
-abbrev pub cleaned_behind : ℕ → PlainLedger → List Cleaned
-cleaned_behind filed_from ledger =
+abbrev pub cleaned_after : ℕ → PlainLedger → List Cleaned
+cleaned_after filed_from ledger =
     flat_map (cleaned_as ledger.births) (drop filed_from ledger.filed)
 
 -- ---- what a transaction sees of a world, and what the cleanup log has of it
@@ -164,6 +164,6 @@ pub record AreAlike (number : ℕ) (slots : List PlainSlot) (w : PlainWorld) (ot
 -- up, and what it left are alike
 pub record ComeToSame (number : ℕ) (a b : Stepped) : Type 0 where
   pub told : told_in a.outcome ≡ told_in b.outcome
-  pub cleaned : cleaned_behind a.outcome.filed_from a.world.process.ledger
-      ≡ cleaned_behind b.outcome.filed_from b.world.process.ledger
+  pub cleaned : cleaned_after a.outcome.filed_from a.world.process.ledger
+      ≡ cleaned_after b.outcome.filed_from b.world.process.ledger
   pub alike : AreAlike number a.slots a.world b.slots b.world

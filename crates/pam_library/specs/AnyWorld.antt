@@ -17,7 +17,7 @@ use Rattle.data_cleanup.specs.Ledger.{PlainLedger}
 use Rattle.data_cleanup.specs.Cleanup.{Notes, ledger_after}
 use Rattle.data_cleanup.specs.Grows.{Grows}
 use Rattle.data_cleanup.specs.Due.{Event, ends}
-use Rattle.data_cleanup.specs.Stands.{clean_list}
+use Rattle.data_cleanup.specs.Modelled.{clean_list}
 use Rattle.pam_handle.specs.dispatch_core.specs.Pending.{Pending}
 use Rattle.pam_handle.specs.Items.{all_told, with_conversation}
 use Rattle.pam_handle.specs.AnyWorld.{FailsAs}

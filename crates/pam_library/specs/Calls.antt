@@ -4,7 +4,7 @@ use Rattle.data_cleanup.specs.Ledger.{PlainLedger}
 use Rattle.data_cleanup.specs.Cleanup.{Notes}
 use Rattle.data_cleanup.specs.Due.{Event, birth}
 use Rattle.data_cleanup.specs.declared.datum.Birth.{Birth}
-use Rattle.data_cleanup.specs.Stands.{Lists}
+use Rattle.data_cleanup.specs.Modelled.{Lists}
 use Rattle.data_cleanup.specs.Moves.{Moves}
 
 -- a call: the end that it made, if it made one, and the cleanup log and data lists after it

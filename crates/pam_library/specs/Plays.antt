@@ -106,12 +106,12 @@ module _ (players : List Player) where
 -- ---- a step
 
 -- a rule is the line with this rule number of a stack whose first line has the number `at`
-abbrev pub StandsAt : Rule → ℕ → Stack → ℕ → Type 0
-StandsAt rule place none at = ⊥
-StandsAt rule place (line r rest) at = ((rule ≡ r) × (place ≡ at))
-    ⊎ StandsAt rule place rest (at + 1)
-StandsAt rule place (sub inner rest) at = StandsAt rule place inner at
-    ⊎ StandsAt rule place rest (at + lines_in inner)
+abbrev pub IsRuleAt : Rule → ℕ → Stack → ℕ → Type 0
+IsRuleAt rule place none at = ⊥
+IsRuleAt rule place (line r rest) at = ((rule ≡ r) × (place ≡ at))
+    ⊎ IsRuleAt rule place rest (at + 1)
+IsRuleAt rule place (sub inner rest) at = IsRuleAt rule place inner at
+    ⊎ IsRuleAt rule place rest (at + lines_in inner)
 
 -- a stack call and its flags
 pub record StackCall : Type 0 where
@@ -135,7 +135,7 @@ pub record IsLineOf (call : StackCall) (stacks : Stacks) (l : LineRun) : Type 0 
   pub func_is : l.func ≡ call.func
   pub second : Bool
   pub flags_are : l.flags ≡ flags_seen call.func second call.flags
-  pub stands : StandsAt l.rule l.visit.place (first_stack call.func stacks) 1
+  pub stands : IsRuleAt l.rule l.visit.place (first_stack call.func stacks) 1
 
 -- A stack call in a transaction ran these lines, one after another, beginning in the state in which
 -- it found the transaction and the world; the files after the call are those that the last line

@@ -3,7 +3,7 @@ use Rattle.std.specs.Prelude.{◌≡◌, ℕ, zero, suc, Bool, true, false, List
 use Rattle.std.specs.List.{AllByRecursion}
 use Rattle.conv_port.specs.Conv.{ConvState}
 use Rattle.data_cleanup.specs.DataList.{PlainDataList}
-use Rattle.data_cleanup.specs.Stands.{Lists, clean_list}
+use Rattle.data_cleanup.specs.Modelled.{Lists, clean_list}
 use Rattle.pam_handle.specs.Handle.{PlainHandle}
 
 -- a slot is closed, with a conversation, or has an open transaction

@@ -11,7 +11,7 @@ ghost use Rattle.conv_port.specs.Conv.{ConvState};
 ghost use Rattle.data_cleanup.specs.Ledger.{AreNumbered, IsSound as LedgerIsSound, PlainLedger};
 ghost use Rattle.data_cleanup.specs.Cleanup.{Notes};
 ghost use Rattle.data_cleanup.specs.Due.{Event};
-ghost use Rattle.data_cleanup.specs.Stands.{Lists, StandFor};
+ghost use Rattle.data_cleanup.specs.Modelled.{Lists, ModelsEvents};
 ghost use Rattle.data_cleanup.specs.Moves.{Moves};
 ghost use Rattle.pam_handle.specs.pam_room.specs.Module.{Player};
 ghost use Rattle.pam_library.specs.Slots.{PlainSlot, closed, data_in, handle_limit, lists_of, slot_at, with_slot};
@@ -51,34 +51,34 @@ pub fn one_place_moves()
 }
 
 /// Sixteen closed slots and a cleanup log without sets are sound, and mean no events.
-pub fn closed_places_stand_for_none()
+pub fn closed_places_have_no_events()
     ensures sound { (names : List (List ℕ)) (modules : ℕ) (convs : List ConvState) →
         length convs ≡ 16 →
         IsSound names modules (map closed convs) (record { births = []; filed = [] }) }
     ensures stand { (note : Notes) (convs : List ConvState) →
-        StandFor note handle_limit (record { births = []; filed = [] })
+        ModelsEvents note handle_limit (record { births = []; filed = [] })
         (lists_of (map closed convs)) [] }
 {
     data_cleanup::laws::nothing_grows();
     data_cleanup::due_laws::growth_holds();
     data_cleanup::due_laws::nothing_is_held();
     data_cleanup::due_laws::nothing_moves();
-    data_cleanup::due_laws::nothing_stands_for_none();
+    data_cleanup::due_laws::nothing_has_no_events();
 }
 
 /// After a list of calls, each of which continued from the one before, the events are those before it and then the sets
 /// and the end of each call, in order.
-pub fn calls_stand_for_their_events()
+pub fn calls_add_their_events()
     ensures { (note : Notes) (limit : ℕ) (calls : List Moved) (ledger : PlainLedger) (lists : Lists)
         (events : List Event) →
-        StandFor note limit ledger lists events → MoveOn note limit ledger lists calls →
-        StandFor note limit (last_ledger ledger calls) (last_lists lists calls)
+        ModelsEvents note limit ledger lists events → MoveOn note limit ledger lists calls →
+        ModelsEvents note limit (last_ledger ledger calls) (last_lists lists calls)
         (events ++ events_of ledger calls) }
 {}
 
 /// Whatever steps a run has: the content of one slot after them, and the outcomes of the steps in
 /// that slot, are the results of these steps alone, each from the world as it was before it.
-pub fn places_stand_side_by_side()
+pub fn places_go_alone()
     ensures slot { (players : List Player) (number_of : Code → ℕ → ℕ) (number : ℕ)
         (steps : List Met) (slots : List PlainSlot) (slot : PlainSlot) →
         slot_at slots number ≡ Some slot →

@@ -25,11 +25,11 @@ module _ (path bytes : List ℕ) where
       let first : is_it f ≡ false = before 0 (omega arith) in
       rw first (ap (λ (x : List File). f ∷ x) (over fs n (omega arith) here (λ k le. before (suc k) (omega arith))))
 
-  behind : (files : List File) → ((k : ℕ) → k < length files → is_it (get_or files k it) ≡ false) → file_put path bytes files ≡ files ++ it ∷ []
-  behind [] none = refl
-  behind (f ∷ fs) none =
+  past_end : (files : List File) → ((k : ℕ) → k < length files → is_it (get_or files k it) ≡ false) → file_put path bytes files ≡ files ++ it ∷ []
+  past_end [] none = refl
+  past_end (f ∷ fs) none =
       let first : is_it f ≡ false = none 0 (omega arith) in
-      rw first (ap (λ (x : List File). f ∷ x) (behind fs (λ k lt. none (suc k) (omega arith))))
+      rw first (ap (λ (x : List File). f ∷ x) (past_end fs (λ k lt. none (suc k) (omega arith))))
 
   not_some : (b : Bool) (i : ℕ) → cond b (Some i) None ≡ None → b ≡ false
   not_some true i e = absurd cc
@@ -41,10 +41,10 @@ module _ (path bytes : List ℕ) where
   pub put_over : (files : List File) (n : ℕ) → position is_it files ≡ Some n → file_put path bytes files ≡ set files n it
   put_over files n e = let at = position-Some is_it files n it e in over files n at.0 at.1 at.2
 
-  pub put_behind : (files : List File) → position is_it files ≡ None → file_put path bytes files ≡ files ++ it ∷ []
-  put_behind files e =
+  pub put_after : (files : List File) → position is_it files ≡ None → file_put path bytes files ≡ files ++ it ∷ []
+  put_after files e =
       let past = ltb-false (position_or_len is_it files) (length files) (not_some _ _ e) in
-      behind files (λ k lt. fails_before_first is_it files k it (omega (arith, past)))
+      past_end files (λ k lt. fails_before_first is_it files k it (omega (arith, past)))
 
 -- ---- what is found after a file was set
 

@@ -84,8 +84,8 @@ abbrev pub is_below : List ℕ → List ℕ → Bool
 is_below folder path = starts_with nat_eq path (folder ++ codes "/")
 
 -- whether a file lies below this path
-abbrev pub is_folder : List ℕ → List File → Bool
-is_folder path files = list_any (λ f. is_below path f.path) files
+abbrev pub is_directory : List ℕ → List File → Bool
+is_directory path files = list_any (λ f. is_below path f.path) files
 
 -- the result of reading a file: a call planned to fail returns Failed and nothing else; any other may run out of memory
 abbrev pub ReadsFile : Result (List ℕ) VaultFault → List ℕ → ℕ → VaultState → Type 0
@@ -99,10 +99,10 @@ ReadsFile (Err read_faults.Failed) path limit s = is_failing s ≡ true
 ReadsFile (Err read_faults.NoMemory) path limit s = is_failing s ≡ false
 
 -- the result of asking whether a path is a directory
-abbrev pub TellsFolder : Result Bool ReplaceFault → List ℕ → VaultState → Type 0
-TellsFolder (Ok found) path s = (is_failing s ≡ false) × (found ≡ is_folder path s.files)
-TellsFolder (Err replace_faults.Failed) path s = is_failing s ≡ true
-TellsFolder (Err replace_faults.NoMemory) path s = is_failing s ≡ false
+abbrev pub TellsDirectory : Result Bool ReplaceFault → List ℕ → VaultState → Type 0
+TellsDirectory (Ok found) path s = (is_failing s ≡ false) × (found ≡ is_directory path s.files)
+TellsDirectory (Err replace_faults.Failed) path s = is_failing s ≡ true
+TellsDirectory (Err replace_faults.NoMemory) path s = is_failing s ≡ false
 
 -- the result of taking a lock, and the store after it: a call planned to fail returns Failed and nothing else
 abbrev pub TakesLock : {T : Type 0} → Result T ReplaceFault → List ℕ → LockKind → VaultState

@@ -30,7 +30,7 @@ pub use paths::{joined, path_of};
 pub use sink::Sink;
 pub use source::Source;
 pub use vault::{
-    MAX_FILE, ReplaceFault, Vault, VaultFault, hold_file, is_folder, let_go, read_file,
+    MAX_FILE, ReplaceFault, Vault, VaultFault, hold_file, is_directory, let_go, read_file,
     replace_file,
 };
 pub use whole::write_all;

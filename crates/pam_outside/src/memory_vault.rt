@@ -1,7 +1,7 @@
 ghost use Rattle.std.specs.Prelude.{◌≡◌, ◌≢◌, ℕ, List, [], Some, OnOk, OnErr, option_map};
 ghost use Rattle.std.specs.List.{position};
 ghost use Rattle.std.specs.Str.{bytes_eq};
-ghost use Rattle.pam_outside.specs.Files.{file_at, file_put, is_below, is_folder, no_locks, with_lock};
+ghost use Rattle.pam_outside.specs.Files.{file_at, file_put, is_below, is_directory, no_locks, with_lock};
 
 use crate::calls::Calls;
 use crate::held::{Held, LockKind};
@@ -139,7 +139,7 @@ fn bytes_at<'a>(path: &[u8], files: &'a [StoredFile]) -> Option<&'a [u8]>
 
 // Whether a file lies below this path.
 fn has_file_below(folder: &[u8], files: &[StoredFile]) -> bool
-    ensures { result ≡ is_folder folder.now files.now }
+    ensures { result ≡ is_directory folder.now files.now }
 {
     files.iter().any(|file| is_below(folder, file.path.bytes()))
 }

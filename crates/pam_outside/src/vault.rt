@@ -1,6 +1,6 @@
 ghost use Rattle.std.specs.Prelude.{◌≡◌, ◌≢◌, ◌≤◌, ℕ, List, Some, Bool, true, length, IsTrue, IfOk, OnOk, Err};
 ghost use Rattle.pam_outside.specs.Counts.{Rose};
-ghost use Rattle.pam_outside.specs.Files.{VaultState, ReadsFile, TellsFolder, Replaces, TakesLock, counted, file_at, unlocked};
+ghost use Rattle.pam_outside.specs.Files.{VaultState, ReadsFile, TellsDirectory, Replaces, TakesLock, counted, file_at, unlocked};
 
 use crate::held::{Held, LockKind};
 use pam_base::Text;
@@ -65,7 +65,7 @@ pub trait Vault: Drop {
     fn folder(&mut self, alloc: Global, path: &[u8]) -> Result<bool, ReplaceFault>
         ensures tells { vault_tells self.new ≡ vault_tells self.old }
         ensures told { IsTrue (vault_tells self.old) →
-            TellsFolder result path.now (vault_holds self.old) }
+            TellsDirectory result path.now (vault_holds self.old) }
         ensures counts { IsTrue (vault_tells self.old) →
             vault_holds self.new ≡ counted (vault_holds self.old) }
         ensures faults { vault_faults self.old ≤ vault_faults self.new }
@@ -136,10 +136,10 @@ pub fn read_file(
 }
 
 /// `Vault::folder` of a borrowed store.
-pub fn is_folder(vault: &mut dyn Vault, alloc: Global, path: &[u8]) -> Result<bool, ReplaceFault>
+pub fn is_directory(vault: &mut dyn Vault, alloc: Global, path: &[u8]) -> Result<bool, ReplaceFault>
     ensures tells { vault_tells vault.new ≡ vault_tells vault.old }
     ensures told { IsTrue (vault_tells vault.old) →
-        TellsFolder result path.now (vault_holds vault.old) }
+        TellsDirectory result path.now (vault_holds vault.old) }
     ensures counts { IsTrue (vault_tells vault.old) →
         vault_holds vault.new ≡ counted (vault_holds vault.old) }
     ensures faults { vault_faults vault.old ≤ vault_faults vault.new }

@@ -63,15 +63,15 @@ one_step = λ one other bytes f g.
 same_front : (one other : Step) (more left : List ℕ) → has_frame one ≡ true → has_frame other ≡ true → frame_of one ++ more ≡ frame_of other ++ left → one ≡ other
 same_front one other more left e f same = same_step one other _ _ (sym (frame-read one more e) ∙ ap next_of same ∙ frame-read other left f)
 
-same_behind : (step : Step) (more left : List ℕ) → frame_of step ++ more ≡ frame_of step ++ left → more ≡ left
-same_behind step more left same =
+same_after : (step : Step) (more left : List ℕ) → frame_of step ++ more ≡ frame_of step ++ left → more ≡ left
+same_after step more left same =
     sym (drop-append_seam (frame_of step) more) ∙ ap (drop (length (frame_of step))) same ∙ drop-append_seam (frame_of step) left
 
 pub begins_no_other : BeginsNoOther
 begins_no_other = λ one other bytes more f g.
     let same : frame_of one ++ more ≡ frame_of other ++ [] = ap (λ (z : List ℕ). z ++ more) (sym f.bytes_are) ∙ g.bytes_are ∙ sym (append-nil (frame_of other)) in
     let is = same_front one other more [] f.within g.within same in
-    same_behind one more [] (same ∙ ap (λ (s : Step). frame_of s ++ []) (sym is))
+    same_after one more [] (same ∙ ap (λ (s : Step). frame_of s ++ []) (sym is))
 
 -- ---- bytes have one reading
 
@@ -88,8 +88,8 @@ both_readings (s ∷ ss) [] bytes rest left f none g clear = absurd (clear s (fr
 both_readings (s ∷ ss) (t ∷ ts) bytes rest left f none g clear =
     let same : frame_of s ++ (frames_of ss ++ rest) ≡ frame_of t ++ (frames_of ts ++ left) = sym (append_assoc (frame_of s) (frames_of ss) rest) ∙ sym f.parts ∙ g.parts ∙ append_assoc (frame_of t) (frames_of ts) left in
     let first = same_front s t _ _ f.framed.0 g.framed.0 same in
-    let behind : frames_of ss ++ rest ≡ frames_of ts ++ left = same_behind s _ _ (same ∙ ap (λ (z : Step). frame_of z ++ (frames_of ts ++ left)) (sym first)) in
-    let others = both_readings ss ts (frames_of ss ++ rest) rest left (record { framed = f.framed.1; parts = refl }) none (record { framed = g.framed.1; parts = behind }) clear in
+    let past_end : frames_of ss ++ rest ≡ frames_of ts ++ left = same_after s _ _ (same ∙ ap (λ (z : Step). frame_of z ++ (frames_of ts ++ left)) (sym first)) in
+    let others = both_readings ss ts (frames_of ss ++ rest) rest left (record { framed = f.framed.1; parts = refl }) none (record { framed = g.framed.1; parts = past_end }) clear in
     (rw (first, others.0) refl, others.1)
 
 pub one_reading : HasOneReading

@@ -5,7 +5,7 @@ use Rattle.pam_base.specs.declared.call.Func.{Func}
 use Rattle.pam_base.specs.declared.call.Func.TheVariants.{Authenticate, SetCred, AcctMgmt, OpenSession, CloseSession, ChAuthTok}
 use Rattle.dispatch_core.specs.service_load.specs.Stacks.{Stacks}
 use Rattle.handler_chain.specs.Route.{KeptAnswers}
-use Rattle.dispatch_core.specs.Calls.{Asking, Held, Passed, Went, first_pass, held_behind, one_pass, passes, went}
+use Rattle.dispatch_core.specs.Calls.{Asking, Held, Passed, Went, first_pass, held_past, one_pass, passes, went}
 use Rattle.pass_replay.specs.Retold.{cached_for, kind_of, stack_for}
 
 module _ {State : Type 0} (asking : Asking State) (stacks : Stacks) where
@@ -20,9 +20,9 @@ module _ {State : Type 0} (asking : Asking State) (stacks : Stacks) where
   first_by ChAuthTok past h s = refl
 
   pub called : (func : Func) (past : List Code) (h left : Held) (s : State) (kept : Option KeptAnswers) (p : Passed State) (w : Went State)
-      → kept ≡ cached_for func h → held_behind func None p left ≡ held_behind func None p h
-      → p ≡ passes asking stacks func false (kind_of func kept) kept (stack_for func stacks) past s → w ≡ went p.code (held_behind func None p left) p.state
+      → kept ≡ cached_for func h → held_past func None p left ≡ held_past func None p h
+      → p ≡ passes asking stacks func false (kind_of func kept) kept (stack_for func stacks) past s → w ≡ went p.code (held_past func None p left) p.state
       → w ≡ one_pass asking stacks func past h s
   called func past h left s kept p w k r e f =
       let first : p ≡ first_pass asking stacks func past h s = e ∙ rw k (first_by func past h s) in
-      f ∙ ap (λ (x : Held). went p.code x p.state) r ∙ ap (λ (q : Passed State). went q.code (held_behind func None q h) q.state) first
+      f ∙ ap (λ (x : Held). went p.code x p.state) r ∙ ap (λ (q : Passed State). went q.code (held_past func None q h) q.state) first

@@ -1,7 +1,7 @@
 ghost use Rattle.std.specs.Prelude.{◌≡◌, ◌≤◌, ◌-◌, IfOk, List, None, Option, drop, false, length};
 ghost use Rattle.control_words.specs.Stack.{lines_in, stack_of};
 ghost use Rattle.dispatch_core.specs.Calls as calls;
-ghost use Rattle.dispatch_core.specs.Calls.{change, check, following, goes, held_behind, one_pass, passes, update, went};
+ghost use Rattle.dispatch_core.specs.Calls.{change, check, following, goes, held_past, one_pass, passes, update, went};
 ghost use Rattle.dispatch_core.specs.Pending.{first_in, past_in, pending_after};
 ghost use Rattle.dispatch_core.specs.service_load.specs.Load.{AreBounded};
 ghost use Rattle.handler_chain.specs.Retell.{Telling, telling};
@@ -145,7 +145,7 @@ fn stack_for(func: Func, trees: &Trees) -> &Nodes
 fn take_cached(func: Func, held: &mut Held) -> Option<Answers>
     ensures taken { kept_answers result ≡ cached_for func (held_of held.old) }
     ensures rest { (p : calls.Passed Telling) →
-        held_behind func None p (held_of held.new) ≡ held_behind func None p (held_of held.old) }
+        held_past func None p (held_of held.new) ≡ held_past func None p (held_of held.old) }
 {
     match func {
         Func::Authenticate | Func::SetCred => held.authenticated.take(),
@@ -185,7 +185,7 @@ fn first_pass(
 // The result of a call of one pass: the codes that the call caches are stored.
 fn retold_call(func: Func, passed: Passed, held: Held) -> Retold
     ensures { (told : List (Option Seen)) → went_of told result ≡ went passed.code
-        (held_behind func None (passed_of told passed) (held_of held))
+        (held_past func None (passed_of told passed) (held_of held))
         (telling_from told passed.next passed.astray) }
 {
     let pending = pending_after(func, None, passed.paused);

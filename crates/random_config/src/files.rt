@@ -58,9 +58,9 @@ fn random_file(
         × (generator.new.state ≡ state_after seed (3 * min (32 * number) lines))) }
 {
     let before = LINES_OF_FILE * (number - 1);
-    let behind = lines.min(LINES_OF_FILE * number);
+    let past_end = lines.min(LINES_OF_FILE * number);
     let mut text = String::new(alloc);
-    push_lines(&mut text, generator, behind - before)?;
+    push_lines(&mut text, generator, past_end - before)?;
     let leads_on = is_odd(number) && number < file_count(lines);
     push_substack(&mut text, leads_on, number + 1)?;
     Ok(RandomFile {

@@ -28,13 +28,13 @@ when_digits : (b : Bool) (x y : Option Says) → b ≡ true → (if b then x els
 when_digits true x y is = refl
 when_digits false x y is = absurd (cc)
 
-pub numbered : (line before same : List ℕ) (n : ℕ) (behind word words : List ℕ) → before ≡ before_space line → list_all is_ascii_digit before ≡ true
-    → same ≡ before_space line → n ≡ guessed_number same → behind ≡ after_space line → word ≡ before_space behind → words ≡ after_space behind
+pub numbered : (line before same : List ℕ) (n : ℕ) (past_end word words : List ℕ) → before ≡ before_space line → list_all is_ascii_digit before ≡ true
+    → same ≡ before_space line → n ≡ guessed_number same → past_end ≡ after_space line → word ≡ before_space past_end → words ≡ after_space past_end
     → read_line line ≡ read_numbered line n word words
-numbered line before same n behind word words is digits same_is n_is behind_is word_is words_is =
+numbered line before same n past_end word words is digits same_is n_is past_is word_is words_is =
     let number : guessed_number (before_space line) ≡ n = ap guessed_number (sym same_is) ∙ sym n_is in
-    let one : before_space (after_space line) ≡ word = ap before_space (sym behind_is) ∙ sym word_is in
-    let two : after_space (after_space line) ≡ words = ap after_space (sym behind_is) ∙ sym words_is in
+    let one : before_space (after_space line) ≡ word = ap before_space (sym past_is) ∙ sym word_is in
+    let two : after_space (after_space line) ≡ words = ap after_space (sym past_is) ∙ sym words_is in
     when_digits (list_all is_ascii_digit (before_space line)) _ (if_printed line (lasts (guessed_last line))) (ap (list_all is_ascii_digit) (sym is) ∙ digits)
     ∙ ap (λ (m : ℕ). read_numbered line m (before_space (after_space line)) (after_space (after_space line))) number
     ∙ ap (λ (w : List ℕ). read_numbered line n w (after_space (after_space line))) one

@@ -29,13 +29,13 @@ guessed_seen words =
 -- ID STATUS NOTE MODULE DATA; if a name has spaces, any of them may separate the two
 abbrev pub guessed_cleanup : List ℕ → Cleanup
 guessed_cleanup words =
-    let behind_id = after_space words in
-    let behind_status = after_space behind_id in
-    let names = unquoted (after_space behind_status) in
+    let after_id = after_space words in
+    let after_status = after_space after_id in
+    let names = unquoted (after_space after_status) in
     record {
       id = guessed_number (before_space words);
-      status = guessed_status (before_space behind_id);
-      note = guessed_number (before_space behind_status);
+      status = guessed_status (before_space after_id);
+      note = guessed_number (before_space after_status);
       owner = before_space names;
       datum = after_space names;
     }
@@ -43,9 +43,9 @@ guessed_cleanup words =
 -- NAME NUMBER ASKED WAIT
 abbrev pub guessed_wait : List ℕ → Told
 guessed_wait words =
-    let behind_code = after_space (after_space words) in
-    told_wait (guessed_code (before_space words)) (guessed_number (before_space behind_code))
-    (guessed_number (after_space behind_code))
+    let past_code = after_space (after_space words) in
+    told_wait (guessed_code (before_space words)) (guessed_number (before_space past_code))
+    (guessed_number (after_space past_code))
 
 -- by the line's word; None if it is the word of a result
 abbrev pub guessed_told : List ℕ → List ℕ → Option Told
@@ -70,9 +70,9 @@ guessed_refusal words =
 
 -- NAME NUMBER, or ABORT 26 pending NAME
 abbrev pub answer_by : List ℕ → List ℕ → Shown
-answer_by words behind_code =
-    if bytes_eq (before_space behind_code) (codes "pending")
-    then shows_pending (guessed_func (after_space behind_code))
+answer_by words past_code =
+    if bytes_eq (before_space past_code) (codes "pending")
+    then shows_pending (guessed_func (after_space past_code))
     else shows_code (guessed_code (before_space words))
 
 abbrev pub guessed_answer : List ℕ → Shown
@@ -132,8 +132,8 @@ read_numbered line number word words =
 
 abbrev pub read_line : List ℕ → Option Says
 read_line line =
-    let behind_number = after_space line in
+    let after_number = after_space line in
     if list_all is_ascii_digit (before_space line)
-    then read_numbered line (guessed_number (before_space line)) (before_space behind_number)
-    (after_space behind_number)
+    then read_numbered line (guessed_number (before_space line)) (before_space after_number)
+    (after_space after_number)
     else if_printed line (lasts (guessed_last line))

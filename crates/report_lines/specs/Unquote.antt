@@ -11,14 +11,14 @@ state_of readings.Escaped = escaped
 state_of readings.Coded = coded
 state_of (readings.HalfCoded high) = half_coded high
 
-abbrev pub state_behind : Unquoting → ℕ → Unquoting
-state_behind between b = if nat_eq b 92 then escaped else between
-state_behind escaped b = if nat_eq b 120 then coded else between
-state_behind coded b = half_coded (digit_value b)
-state_behind (half_coded high) b = between
+abbrev pub state_past : Unquoting → ℕ → Unquoting
+state_past between b = if nat_eq b 92 then escaped else between
+state_past escaped b = if nat_eq b 120 then coded else between
+state_past coded b = half_coded (digit_value b)
+state_past (half_coded high) b = between
 
-abbrev pub bytes_behind : Unquoting → ℕ → List ℕ
-bytes_behind between b = if nat_eq b 92 then [] else (b % 256) ∷ []
-bytes_behind escaped b = if nat_eq b 120 then [] else (b % 256) ∷ []
-bytes_behind coded b = []
-bytes_behind (half_coded high) b = ((16 * high + digit_value b) % 256) ∷ []
+abbrev pub bytes_after : Unquoting → ℕ → List ℕ
+bytes_after between b = if nat_eq b 92 then [] else (b % 256) ∷ []
+bytes_after escaped b = if nat_eq b 120 then [] else (b % 256) ∷ []
+bytes_after coded b = []
+bytes_after (half_coded high) b = ((16 * high + digit_value b) % 256) ∷ []

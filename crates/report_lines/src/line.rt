@@ -19,13 +19,13 @@ pub fn read_line(alloc: Global, line: &[u8]) -> Result<Option<Form>, NoMemory>
         return read_last(alloc, line);
     }
     let number = number_of(before_space(line));
-    let behind_number = after_space(line);
+    let after_number = after_space(line);
     read_numbered(
         alloc,
         line,
         number,
-        before_space(behind_number),
-        after_space(behind_number),
+        before_space(after_number),
+        after_space(after_number),
     )
 }
 

@@ -1,6 +1,6 @@
 ghost use Rattle.std.specs.Prelude.{◌≡◌, ◌+◌, ◌*◌, ◌%◌, ◌++◌, IfOk, OnOk};
 ghost use Rattle.report_lines.specs.Words.{unquoted};
-ghost use Rattle.report_lines.specs.Unquote.{state_of, state_behind, bytes_behind};
+ghost use Rattle.report_lines.specs.Unquote.{state_of, state_past, bytes_after};
 
 use crate::words::digit_value;
 use pam_base::{NoMemory, Text};
@@ -29,9 +29,9 @@ pub fn unquoted(alloc: Global, text: &[u8]) -> Result<Text, NoMemory>
 }
 
 fn read_byte(reading: Reading, byte: u8, bytes: &mut Vec<u8>) -> Result<Reading, NoMemory>
-    ensures state { IfOk result (λ next. state_of next ≡ state_behind (state_of reading) byte) }
+    ensures state { IfOk result (λ next. state_of next ≡ state_past (state_of reading) byte) }
     ensures bytes { OnOk result (bytes.new.items
-        ≡ bytes.old.items ++ bytes_behind (state_of reading) byte) }
+        ≡ bytes.old.items ++ bytes_after (state_of reading) byte) }
 {
     match reading {
         Reading::Between if byte == b'\\' => Ok(Reading::Escaped),

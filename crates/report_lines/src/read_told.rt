@@ -89,13 +89,13 @@ fn guess_visit(alloc: Global, words: &[u8]) -> Result<Option<ToldGuess>, NoMemor
 fn guess_cleanup(alloc: Global, words: &[u8]) -> Result<Option<ToldGuess>, NoMemory>
     ensures { IsToldGuess result (Some (told_cleanup (guessed_cleanup words.now))) }
 {
-    let behind_id = after_space(words);
-    let behind_status = after_space(behind_id);
+    let after_id = after_space(words);
+    let after_status = after_space(after_id);
     Ok(Some(ToldGuess::Cleanup {
         id: number_of(before_space(words)),
-        status: status_of(before_space(behind_id)),
-        note: number_of(before_space(behind_status)),
-        names: unquoted(alloc, after_space(behind_status))?,
+        status: status_of(before_space(after_id)),
+        note: number_of(before_space(after_status)),
+        names: unquoted(alloc, after_space(after_status))?,
     }))
 }
 
@@ -103,11 +103,11 @@ fn guess_cleanup(alloc: Global, words: &[u8]) -> Result<Option<ToldGuess>, NoMem
 fn guess_wait(words: &[u8]) -> ToldGuess
     ensures { told_in result ≡ guessed_wait words.now }
 {
-    let behind_code = after_space(after_space(words));
+    let past_code = after_space(after_space(words));
     ToldGuess::Wait {
         code: code_in(before_space(words)),
-        asked: number_of(before_space(behind_code)),
-        wait: number_of(after_space(behind_code)),
+        asked: number_of(before_space(past_code)),
+        wait: number_of(after_space(past_code)),
     }
 }
 

@@ -88,9 +88,9 @@ fn guess_set(alloc: Global, words: &[u8]) -> Result<ShownGuess, NoMemory>
 fn guess_answer(words: &[u8]) -> ShownGuess
     ensures { shown_in result ≡ guessed_answer words.now }
 {
-    let behind_code = after_space(after_space(words));
-    if before_space(behind_code) == b"pending".as_slice() {
-        ShownGuess::Pending(func_in(after_space(behind_code)))
+    let past_code = after_space(after_space(words));
+    if before_space(past_code) == b"pending".as_slice() {
+        ShownGuess::Pending(func_in(after_space(past_code)))
     } else {
         ShownGuess::Code(code_in(before_space(words)))
     }

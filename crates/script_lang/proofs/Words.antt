@@ -4,7 +4,7 @@ use Rattle.std.proofs.lemmas.Bool.{lt-ltb, le-ltb, lt-leb, le-leb, cases_lt}
 use Rattle.std.specs.Option.{is_some, unwrap_or}
 use Rattle.script_lang.specs.declared.place.Position.{Position}
 use Rattle.script_lang.specs.Place.{is_text}
-use Rattle.script_lang.specs.Cut.{first_word, word_at, wanted_of, most_of, has_its_words, IsBehind}
+use Rattle.script_lang.specs.Cut.{first_word, word_at, wanted_of, most_of, has_its_words, IsPast}
 use Rattle.std.proofs.lemmas.List.{take_all, drop-drop}
 use Rattle.std.proofs.lemmas.List.Elements.{All-from_get_or}
 use Rattle.std.proofs.lemmas.List.Splits.{slice_split_at, slice_split_none, length-slice_split, join_with_byte-slice_split}
@@ -49,28 +49,28 @@ pub words_of-first : (line : List ℕ) (n : ℕ) → IsFirstPlace (Some n) 32 li
 words_of-first line n at = ap words_of at.2 ∙ words_of-word (take n line) (drop (n + 1) line) at.1
 
 -- what follows the first word
-pub behind_first : (line : List ℕ) (n : ℕ) → IsFirstPlace (Some n) 32 line
+pub past_first : (line : List ℕ) (n : ℕ) → IsFirstPlace (Some n) 32 line
     → words_of (take (length line - (n + 1)) (drop (n + 1) line)) ≡ drop 1 (words_of line)
-behind_first line n at =
+past_first line n at =
     let whole : take (length line - (n + 1)) (drop (n + 1) line) ≡ drop (n + 1) line = take_all (length line - (n + 1)) (drop (n + 1) line) (omega (arith, length-drop (n + 1) line)) in
     rw (whole, words_of-first line n at) refl
 
 -- nothing follows the only word
-pub behind_alone : (line : List ℕ) → IsFirstPlace None 32 line → length (words_of line) ≤ 1
-behind_alone line none = rw (words_of-alone line none) (omega arith)
+pub after_alone : (line : List ℕ) → IsFirstPlace None 32 line → length (words_of line) ≤ 1
+after_alone line none = rw (words_of-alone line none) (omega arith)
 
 -- the words after one more word
-pub behind_next : (words left more : List (List ℕ)) (k : ℕ) → left ≡ drop k words → more ≡ drop 1 left → more ≡ drop (k + 1) words
-behind_next words left more k is next = rw (next, is, drop-drop 1 k words) refl
+pub after_next : (words left more : List (List ℕ)) (k : ℕ) → left ≡ drop k words → more ≡ drop 1 left → more ≡ drop (k + 1) words
+after_next words left more k is next = rw (next, is, drop-drop 1 k words) refl
 
 -- no word follows the last one
-pub none_behind : (words left : List (List ℕ)) (k n : ℕ) → left ≡ drop k words → length left ≤ 1 → k < n → length words ≤ n
-none_behind words left k n is last lt = omega (arith, last, ap length is, length-drop k words)
+pub none_past : (words left : List (List ℕ)) (k n : ℕ) → left ≡ drop k words → length left ≤ 1 → k < n → length words ≤ n
+none_past words left k n is last lt = omega (arith, last, ap length is, length-drop k words)
 
 -- whether something is left after n words
-pub is_behind : (rest : Option (List ℕ)) (line : List ℕ) (n : ℕ) → IsBehind rest n (words_of line) → is_some rest ≡ nat_lt n (length (words_of line))
-is_behind None line n is = sym (le-ltb n (length (words_of line)) is)
-is_behind (Some rest) line n is =
+pub is_after : (rest : Option (List ℕ)) (line : List ℕ) (n : ℕ) → IsPast rest n (words_of line) → is_some rest ≡ nat_lt n (length (words_of line))
+is_after None line n is = sym (le-ltb n (length (words_of line)) is)
+is_after (Some rest) line n is =
     sym (lt-ltb n (length (words_of line)) (omega (arith, has_word rest, ap length is, length-drop n (words_of line))))
 
 pub is_some-map : {A B : Type 0} (f : A → B) (o : Option A) → is_some o ≡ is_some (option_map f o)
@@ -107,9 +107,9 @@ module _ (place : Position) (before : ℕ) (line rest : List ℕ) (is : words_of
 
 -- whether a line has its words, by what follows the required words and by what follows the last
 -- allowed one
-module _ (places : List Position) (line : List ℕ) (wanted : ℕ) (least : Option (List ℕ)) (is_wanted : wanted ≡ wanted_of places) (behind : IsBehind least wanted (words_of line)) where
+module _ (places : List Position) (line : List ℕ) (wanted : ℕ) (least : Option (List ℕ)) (is_wanted : wanted ≡ wanted_of places) (past_end : IsPast least wanted (words_of line)) where
   enough : is_some least ≡ nat_lt (wanted_of places) (length (words_of line))
-  enough = is_behind least line wanted behind ∙ ap (λ (n : ℕ). nat_lt n (length (words_of line))) is_wanted
+  enough = is_after least line wanted past_end ∙ ap (λ (n : ℕ). nat_lt n (length (words_of line))) is_wanted
 
   pub too_few : is_some least ≡ false → false ≡ has_its_words places (words_of line)
   too_few e = let no = sym enough ∙ e in rw no refl
@@ -118,8 +118,8 @@ module _ (places : List Position) (line : List ℕ) (wanted : ℕ) (least : Opti
   text_fits e t = let yes = sym enough ∙ e in rw (yes, t) refl
 
   pub words_fit : (most : Option (List ℕ)) (n : ℕ) → n ≡ most_of places → is_some least ≡ true → list_any is_text places ≡ false
-      → IsBehind most (n + 1) (words_of line) → not (is_some most) ≡ has_its_words places (words_of line)
+      → IsPast most (n + 1) (words_of line) → not (is_some most) ≡ has_its_words places (words_of line)
   words_fit most n m e t b =
       let yes = sym enough ∙ e in
-      let few = ap not (is_behind most line (n + 1) b) ∙ not_lt (n + 1) (length (words_of line)) in
+      let few = ap not (is_after most line (n + 1) b) ∙ not_lt (n + 1) (length (words_of line)) in
       rw (yes, t, few, m) refl

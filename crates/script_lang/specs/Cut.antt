@@ -32,6 +32,6 @@ has_its_words places words =
     && (list_any is_text places || nat_le (length words) (most_of places + 1))
 
 -- what is left after n words, if more words follow
-abbrev pub IsBehind : Option (List ℕ) → ℕ → List (List ℕ) → Type 0
-IsBehind (Some rest) count words = words_of rest ≡ drop count words
-IsBehind None count words = length words ≤ count
+abbrev pub IsPast : Option (List ℕ) → ℕ → List (List ℕ) → Type 0
+IsPast (Some rest) count words = words_of rest ≡ drop count words
+IsPast None count words = length words ≤ count

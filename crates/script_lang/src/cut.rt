@@ -2,7 +2,7 @@ ghost use Rattle.std.specs.Prelude.{◌≡◌, option_map};
 ghost use Rattle.std.specs.List.{list_any};
 ghost use Rattle.pam_base.specs.Words.{words_of};
 ghost use Rattle.script_lang.specs.Place.{is_text};
-ghost use Rattle.script_lang.specs.Cut.{first_word, word_at, wanted_of, most_of, has_its_words, IsBehind};
+ghost use Rattle.script_lang.specs.Cut.{first_word, word_at, wanted_of, most_of, has_its_words, IsPast};
 
 use crate::place::Position;
 use pam_base::first_place;
@@ -39,7 +39,7 @@ pub(crate) fn has_its_words(places: [Position; 3], line: &[u8]) -> bool
 
 // What follows n words and the space after each; None if and only if the line has no more words.
 fn after_words(count: usize, line: &[u8]) -> Option<&[u8]>
-    ensures { IsBehind (option_map (λ rest. rest.now) result) count (words_of line.now) }
+    ensures { IsPast (option_map (λ rest. rest.now) result) count (words_of line.now) }
 {
     let mut rest = line;
     for _ in 0..count {
@@ -49,7 +49,7 @@ fn after_words(count: usize, line: &[u8]) -> Option<&[u8]>
 }
 
 fn after_word(line: &[u8]) -> Option<&[u8]>
-    ensures { IsBehind (option_map (λ rest. rest.now) result) 1 (words_of line.now) }
+    ensures { IsPast (option_map (λ rest. rest.now) result) 1 (words_of line.now) }
 {
     let end = first_place(b' ', line)?;
     Some(&line[end + 1..])

@@ -5,8 +5,8 @@ use Rattle.pam_outside.specs.Counts.{fails_next}
 use Rattle.service_load.specs.declared.entry.ConfigEntry.{ConfigEntry}
 use Rattle.service_load.specs.declared.rule_file.RuleFile.{RuleFile}
 use Rattle.service_load.specs.Entry.{entry_of}
-use Rattle.service_load.specs.Files.{Held, absent, faulty, holds, held, is_in_folder}
-use Rattle.service_load.specs.FirstFault.{Counts, Stop, asked, absent_file, held_file, opened, behind, checked_rule, going_on, look}
+use Rattle.service_load.specs.Files.{Held, absent, faulty, holds, held, is_in_directory}
+use Rattle.service_load.specs.FirstFault.{Counts, Stop, asked, absent_file, held_file, opened, past_end, checked_rule, going_on, look}
 use Rattle.service_load.specs.Order.{Item, begin, opening, checked, made, Opener, as_service, as_other, as_last, by_rule, openings_in}
 
 passed : (a b : Counts) → ◌≡◌ {A = Result Counts Stop} (Ok a) (Ok b) → a ≡ b
@@ -39,12 +39,12 @@ module _ (texts : List ℕ → Option (List ℕ)) (fails : List ℕ) where
   checked_passes counts c name line (Err kind) e = absurd cc
 
   -- what one item counts
-  one_counts : (counts c : Counts) (i : Item) → counts.calls ≤ 2 ^ 64 - 1 → behind texts fails counts i ≡ Ok c
+  one_counts : (counts c : Counts) (i : Item) → counts.calls ≤ 2 ^ 64 - 1 → past_end texts fails counts i ≡ Ok c
       → (c.calls ≤ 2 ^ 64 - 1) × (c.openings ≡ counts.openings + openings_in (i ∷ [])) × (c.calls ≡ min (counts.calls + openings_in (i ∷ [])) (2 ^ 64 - 1))
   one_counts counts c begin small e = let same = passed _ c e in rw (← same) (small, omega arith, omega (arith, small))
   one_counts counts c (opening file level opener) small e = rw (opened_passes counts c file level opener e) (omega arith, refl, omega arith)
   one_counts counts c (checked file rule) small e =
-      rw (checked_passes counts c file.name rule.line (entry_of (is_in_folder file) rule) e) (small, omega arith, omega (arith, small))
+      rw (checked_passes counts c file.name rule.line (entry_of (is_in_directory file) rule) e) (small, omega arith, omega (arith, small))
   one_counts counts c (made name line) small e =
       let same = passed _ c (otherwise (leb 4096 counts.lines) _ _ c e) in rw (← same) (small, omega arith, omega (arith, small))
 
@@ -63,7 +63,7 @@ module _ (texts : List ℕ → Option (List ℕ)) (fails : List ℕ) where
   unfolding look
   look_counts before after [] small e = let same = passed before after e in rw (← same) (omega arith, omega (arith, small))
   look_counts before after (i ∷ is) small e =
-      let step = stepped (behind texts fails before i) (λ c. look texts fails c is) after e in
+      let step = stepped (past_end texts fails before i) (λ c. look texts fails c is) after e in
       let one = one_counts before step.0 i small step.1 in
       let rest = look_counts step.0 after is one.0 step.2 in
       (omega (arith, one.1, rest.0, openings_on i is), omega (arith, one.2, rest.1, openings_on i is))

@@ -22,7 +22,7 @@ use Rattle.service_load.specs.declared.rule_type.RuleType.{RuleType}
 use Rattle.service_load.specs.Answers.{Answers, IsRefusal, result_map}
 use Rattle.service_load.specs.Checking.{with_entry, checked_entries, entries_held, entries_of_type}
 use Rattle.service_load.specs.Entry.{entry_of}
-use Rattle.service_load.specs.Files.{plain_file, Held, absent, faulty, holds, held, held_text, rules_held, is_in_folder, entries_of, all_fine}
+use Rattle.service_load.specs.Files.{plain_file, Held, absent, faulty, holds, held, held_text, rules_held, is_in_directory, entries_of, all_fine}
 use Rattle.service_load.specs.FirstFault.{Counts, Stop, fault_at, opening_fault, asked, absent_file, checked_rule, held_file, going_on, look}
 use Rattle.service_load.specs.Loading.{counts_of, opener_of, Opens, IfCalled, opened_answer, items_at, nodes_at, entries_items, entries_nodes}
 use Rattle.service_load.specs.Order.{Item, opening, checked, Opener, file_items, items}
@@ -35,11 +35,11 @@ unfolding answer_to
 held_long service (Some text) long = rw (lt-ltb 65536 (length text) long) refl
 held_long service None long = absurd long
 
-pub long_answers : (type : RuleType) (b in_folder : Bool) (name : List ℕ) (service text : Option (List ℕ)) (r : Refuse LoadFault) → b ≡ false
+pub long_answers : (type : RuleType) (b in_directory : Bool) (name : List ℕ) (service text : Option (List ℕ)) (r : Refuse LoadFault) → b ≡ false
     → IsSomeAnd text (λ bytes. 65536 < length bytes) → IsRefusal r (fault_at name 0 FileTooLong)
-    → Answers {A = Option (List ConfigEntry)} (Err r) (opened_answer b name (result_map (option_map (entries_of_type type)) (entries_held in_folder (held_text service text))))
-long_answers type b in_folder name service text (refusals.Named f) fine long refused = rw (fine, held_long service text long, refused) refl
-long_answers type b in_folder name service text refusals.NoMemory fine long refused = tt
+    → Answers {A = Option (List ConfigEntry)} (Err r) (opened_answer b name (result_map (option_map (entries_of_type type)) (entries_held in_directory (held_text service text))))
+long_answers type b in_directory name service text (refusals.Named f) fine long refused = rw (fine, held_long service text long, refused) refl
+long_answers type b in_directory name service text refusals.NoMemory fine long refused = tt
 
 -- a service's file, and that of `other` if the service exists, need not exist
 pub needs_nothing : (because : Because) (counts : Counts) → (because ≡ openers.Service) ⊎ (because ≡ openers.Other)
@@ -75,27 +75,27 @@ module _ (texts : List ℕ → Option (List ℕ)) (fails : List ℕ) (file : Rul
   fine_on line (Err kind) more es is = absurd cc
 
   -- rules without a fault are passed
-  look_fine : (counts : Counts) (rules : List RawRule) (es : List ConfigEntry) (more : List Item) → checked_entries (is_in_folder file) rules ≡ Ok es
+  look_fine : (counts : Counts) (rules : List RawRule) (es : List ConfigEntry) (more : List Item) → checked_entries (is_in_directory file) rules ≡ Ok es
       → look texts fails counts (map (checked file) rules ++ more) ≡ look texts fails counts more
   unfolding look
   look_fine counts [] es more is = refl
   look_fine counts (r ∷ rs) es more is =
-      let first = fine_on r.line (entry_of (is_in_folder file) r) (checked_entries (is_in_folder file) rs) es is in
+      let first = fine_on r.line (entry_of (is_in_directory file) r) (checked_entries (is_in_directory file) rs) es is in
       rw first.2 (look_fine counts rs first.1 more first.3)
 
-  all_are_fine : (rules : List RawRule) (es : List ConfigEntry) → checked_entries (is_in_folder file) rules ≡ Ok es → all_fine (is_in_folder file) rules ≡ true
+  all_are_fine : (rules : List RawRule) (es : List ConfigEntry) → checked_entries (is_in_directory file) rules ≡ Ok es → all_fine (is_in_directory file) rules ≡ true
   all_are_fine [] es is = refl
   all_are_fine (r ∷ rs) es is =
-      let first = fine_on r.line (entry_of (is_in_folder file) r) (checked_entries (is_in_folder file) rs) es is in
+      let first = fine_on r.line (entry_of (is_in_directory file) r) (checked_entries (is_in_directory file) rs) es is in
       rw first.2 (all_are_fine rs first.1 first.3)
 
   nil_is : (es : List ConfigEntry) → ◌≡◌ {A = Result (List ConfigEntry) LexFault} (Ok []) (Ok es) → [] ≡ es
   nil_is es is = cc
 
-  entries_are : (rules : List RawRule) (es : List ConfigEntry) → checked_entries (is_in_folder file) rules ≡ Ok es → entries_of (is_in_folder file) rules ≡ es
+  entries_are : (rules : List RawRule) (es : List ConfigEntry) → checked_entries (is_in_directory file) rules ≡ Ok es → entries_of (is_in_directory file) rules ≡ es
   entries_are [] es is = nil_is es is
   entries_are (r ∷ rs) es is =
-      let first = fine_on r.line (entry_of (is_in_folder file) r) (checked_entries (is_in_folder file) rs) es is in
+      let first = fine_on r.line (entry_of (is_in_directory file) r) (checked_entries (is_in_directory file) rs) es is in
       rw first.2 (ap (λ (l : List ConfigEntry). first.0 ∷ l) (entries_are rs first.1 first.3) ∙ sym first.4)
 
   -- the first rule with a fault stops the check
@@ -110,12 +110,12 @@ module _ (texts : List ℕ → Option (List ℕ)) (fails : List ℕ) (file : Rul
   fault_on counts line (Ok e) (Err g) f rest is more = more is
   fault_on counts line (Err kind) more f rest is on = rw (same_fault f (record { line = line; kind = kind }) is) refl
 
-  look_fault : (counts : Counts) (rules : List RawRule) (f : LexFault) (more : List Item) → checked_entries (is_in_folder file) rules ≡ Err f
+  look_fault : (counts : Counts) (rules : List RawRule) (f : LexFault) (more : List Item) → checked_entries (is_in_directory file) rules ≡ Err f
       → look texts fails counts (map (checked file) rules ++ more) ≡ Err (record { fault = fault_at file.name f.line f.kind; calls = counts.calls })
   unfolding look
   look_fault counts [] f more is = absurd cc
   look_fault counts (r ∷ rs) f more is =
-      fault_on counts r.line (entry_of (is_in_folder file) r) (checked_entries (is_in_folder file) rs) f (λ (c : Counts). look texts fails c (map (checked file) rs ++ more)) is (look_fault counts rs f more)
+      fault_on counts r.line (entry_of (is_in_directory file) r) (checked_entries (is_in_directory file) rs) f (λ (c : Counts). look texts fails c (map (checked file) rs ++ more)) is (look_fault counts rs f more)
 
   -- ---- a file that is opened
 
@@ -134,12 +134,12 @@ module _ (texts : List ℕ → Option (List ℕ)) (fails : List ℕ) (file : Rul
         ∙ ap (λ (n : ℕ). opening file level opener ∷ file_items (items texts n type) type file rules) deeper
 
     -- and its nodes
-    nodes_are : level ≤ 16 → nodes_at texts level type file ≡ entries_nodes texts level type (entries_of (is_in_folder file) (rules_held (held texts file)))
+    nodes_are : level ≤ 16 → nodes_at texts level type file ≡ entries_nodes texts level type (entries_of (is_in_directory file) (rules_held (held texts file)))
     unfolding nodes
     nodes_are low =
         let left : 17 - level ≡ suc (16 - level) = omega arith in
         let deeper : 16 - level ≡ 17 - (level + 1) = omega arith in
-        let entries = entries_of (is_in_folder file) (rules_held (held texts file)) in
+        let entries = entries_of (is_in_directory file) (rules_held (held texts file)) in
         ap (λ (n : ℕ). nodes texts n type file) left
         ∙ ap (λ (n : ℕ). nodes_of (λ name. nodes texts n type (plain_file name)) type entries) deeper
 
@@ -186,15 +186,15 @@ module _ (texts : List ℕ → Option (List ℕ)) (fails : List ℕ) (file : Rul
       look_absent low few fine in_it = look_asked absent low few fine in_it ∙ going_nowhere texts fails (absent_file (asked was) opener)
 
       look_rules : (rules : List RawRule) (es : List ConfigEntry) → level ≤ 16 → was.openings < 256 → fails_next was.calls fails ≡ false
-          → held texts file ≡ holds rules → checked_entries (is_in_folder file) rules ≡ Ok es
+          → held texts file ≡ holds rules → checked_entries (is_in_directory file) rules ≡ Ok es
           → look texts fails was (items_at texts level type opener file) ≡ look texts fails (asked was) (entries_items texts level type file.name es)
       look_rules rules es low few fine in_it checks =
           look_asked (holds rules) low few fine in_it
           ∙ rw (all_are_fine rules es checks, entries_are rules es checks) (look_fine (asked was) rules es (entries_items texts level type file.name es) checks)
 
       -- the result of a read is the file's entries
-      rules_some : (es : List ConfigEntry) (rules : List RawRule) (x : Result (List ConfigEntry) LexFault) → checked_entries (is_in_folder file) rules ≡ x
-          → ◌≡◌ {A = Result (Option (List ConfigEntry)) LexFault} (result_map Some x) (Ok (Some es)) → checked_entries (is_in_folder file) rules ≡ Ok es
+      rules_some : (es : List ConfigEntry) (rules : List RawRule) (x : Result (List ConfigEntry) LexFault) → checked_entries (is_in_directory file) rules ≡ x
+          → ◌≡◌ {A = Result (Option (List ConfigEntry)) LexFault} (result_map Some x) (Ok (Some es)) → checked_entries (is_in_directory file) rules ≡ Ok es
       rules_some es rules (Ok fs) checks e = checks ∙ (let same : fs ≡ es = cc in ap Ok same)
       rules_some es rules (Err f) checks e = absurd cc
 
@@ -203,20 +203,20 @@ module _ (texts : List ℕ → Option (List ℕ)) (fails : List ℕ) (file : Rul
       as_lex (Err f) x e = absurd cc
 
       some_by : (b : Bool) (h : Held) (es : List ConfigEntry) → level ≤ 16 → was.openings < 256 → is ≡ asked was → fails_next was.calls fails ≡ b
-          → held texts file ≡ h → opened_answer b file.name (entries_held (is_in_folder file) h) ≡ Ok (Some es)
+          → held texts file ≡ h → opened_answer b file.name (entries_held (is_in_directory file) h) ≡ Ok (Some es)
           → Opens texts (Ok (Some es)) fails was is level type opener file
       some_by true h es low few same failing in_it e = absurd cc
       some_by false absent es low few same failing in_it e = absurd cc
       some_by false (faulty f) es low few same failing in_it e = absurd cc
       some_by false (holds rules) es low few same failing in_it e =
-          let checks = rules_some es rules (checked_entries (is_in_folder file) rules) refl (as_lex (entries_held (is_in_folder file) (holds rules)) (Some es) e) in (
+          let checks = rules_some es rules (checked_entries (is_in_directory file) rules) refl (as_lex (entries_held (is_in_directory file) (holds rules)) (Some es) e) in (
             look_rules rules es low few failing in_it checks ∙ ap (λ (c : Counts). look texts fails c (entries_items texts level type file.name es)) (sym same),
             nodes_are low ∙ rw (in_it, entries_are rules es checks) refl,
             rw in_it refl,
           )
 
       pub opens_some : (es : List ConfigEntry) → level ≤ 16 → was.openings < 256 → is ≡ asked was
-          → opened_answer (fails_next was.calls fails) file.name (entries_held (is_in_folder file) (held texts file)) ≡ Ok (Some es)
+          → opened_answer (fails_next was.calls fails) file.name (entries_held (is_in_directory file) (held texts file)) ≡ Ok (Some es)
           → Opens texts (Ok (Some es)) fails was is level type opener file
       opens_some es low few same e = some_by (fails_next was.calls fails) (held texts file) es low few same refl refl e
 
@@ -226,37 +226,37 @@ module _ (texts : List ℕ → Option (List ℕ)) (fails : List ℕ) (file : Rul
       none_map (Err f) e = cc
 
       none_by : (b : Bool) (h : Held) → fails_next was.calls fails ≡ b → held texts file ≡ h
-          → opened_answer b file.name (entries_held (is_in_folder file) h) ≡ Ok None
+          → opened_answer b file.name (entries_held (is_in_directory file) h) ≡ Ok None
           → (fails_next was.calls fails ≡ false) × (held texts file ≡ absent)
       none_by true h failing in_it e = absurd cc
       none_by false absent failing in_it e = (failing, in_it)
       none_by false (faulty f) failing in_it e = absurd cc
-      none_by false (holds rules) failing in_it e = absurd (none_map (checked_entries (is_in_folder file) rules) (as_lex (entries_held (is_in_folder file) (holds rules)) None e))
+      none_by false (holds rules) failing in_it e = absurd (none_map (checked_entries (is_in_directory file) rules) (as_lex (entries_held (is_in_directory file) (holds rules)) None e))
 
-      pub is_not_there : opened_answer (fails_next was.calls fails) file.name (entries_held (is_in_folder file) (held texts file)) ≡ Ok None
+      pub is_not_there : opened_answer (fails_next was.calls fails) file.name (entries_held (is_in_directory file) (held texts file)) ≡ Ok None
           → (fails_next was.calls fails ≡ false) × (held texts file ≡ absent)
       is_not_there e = none_by (fails_next was.calls fails) (held texts file) refl refl e
 
       looked_absent : level ≤ 16 → was.openings < 256
-          → opened_answer (fails_next was.calls fails) file.name (entries_held (is_in_folder file) (held texts file)) ≡ Ok None
+          → opened_answer (fails_next was.calls fails) file.name (entries_held (is_in_directory file) (held texts file)) ≡ Ok None
           → look texts fails was (items_at texts level type opener file) ≡ absent_file (asked was) opener
       looked_absent low few e = look_absent low few (is_not_there e).0 (is_not_there e).1
 
       pub opens_none : level ≤ 16 → was.openings < 256 → is ≡ asked was
-          → opened_answer (fails_next was.calls fails) file.name (entries_held (is_in_folder file) (held texts file)) ≡ Ok None
+          → opened_answer (fails_next was.calls fails) file.name (entries_held (is_in_directory file) (held texts file)) ≡ Ok None
           → absent_file (asked was) opener ≡ Ok (asked was) → Opens texts (Ok None) fails was is level type opener file
       unfolding look
       opens_none low few same e passes = (looked_absent low few e ∙ passes ∙ ap Ok (sym same), nodes_are low ∙ rw (is_not_there e).1 refl, rw (is_not_there e).1 refl)
 
       pub opens_absent : (r : Refuse LoadFault) (f : LoadFault) → level ≤ 16 → was.openings < 256 → is ≡ asked was
-          → opened_answer (fails_next was.calls fails) file.name (entries_held (is_in_folder file) (held texts file)) ≡ Ok None
+          → opened_answer (fails_next was.calls fails) file.name (entries_held (is_in_directory file) (held texts file)) ≡ Ok None
           → absent_file (asked was) opener ≡ Err (record { fault = f; calls = (asked was).calls }) → IsRefusal r f
           → Opens texts (Err r) fails was is level type opener file
       opens_absent r f low few same e stops refused = stopped r f refused (looked_absent low few e ∙ stops ∙ rw same refl)
 
       -- the file couldn't be read, or has a fault
-      rules_err : (f : LexFault) (rules : List RawRule) (x : Result (List ConfigEntry) LexFault) → checked_entries (is_in_folder file) rules ≡ x
-          → ◌≡◌ {A = Result (Option (List ConfigEntry)) LexFault} (result_map Some x) (Err f) → checked_entries (is_in_folder file) rules ≡ Err f
+      rules_err : (f : LexFault) (rules : List RawRule) (x : Result (List ConfigEntry) LexFault) → checked_entries (is_in_directory file) rules ≡ x
+          → ◌≡◌ {A = Result (Option (List ConfigEntry)) LexFault} (result_map Some x) (Err f) → checked_entries (is_in_directory file) rules ≡ Err f
       rules_err f rules (Ok fs) checks e = absurd cc
       rules_err f rules (Err g) checks e = checks ∙ (let same : g ≡ f = cc in ap Err same)
 
@@ -266,23 +266,23 @@ module _ (texts : List ℕ → Option (List ℕ)) (fails : List ℕ) (file : Rul
       lex_err (Err g) f e = (g, refl, sym cc)
 
       err_held : (h : Held) (g : LexFault) → level ≤ 16 → was.openings < 256 → fails_next was.calls fails ≡ false → held texts file ≡ h
-          → entries_held (is_in_folder file) h ≡ Err g
+          → entries_held (is_in_directory file) h ≡ Err g
           → look texts fails was (items_at texts level type opener file) ≡ Err (record { fault = fault_at file.name g.line g.kind; calls = (asked was).calls })
       err_held absent g low few fine in_it e = absurd cc
       err_held (faulty f) g low few fine in_it e = let same : f ≡ g = cc in look_asked (faulty f) low few fine in_it ∙ rw same refl
       err_held (holds rules) g low few fine in_it e =
-          look_asked (holds rules) low few fine in_it ∙ look_fault (asked was) rules g _ (rules_err g rules (checked_entries (is_in_folder file) rules) refl e)
+          look_asked (holds rules) low few fine in_it ∙ look_fault (asked was) rules g _ (rules_err g rules (checked_entries (is_in_directory file) rules) refl e)
 
       err_by : (b : Bool) (f : LoadFault) → level ≤ 16 → was.openings < 256 → fails_next was.calls fails ≡ b
-          → opened_answer b file.name (entries_held (is_in_folder file) (held texts file)) ≡ Err f
+          → opened_answer b file.name (entries_held (is_in_directory file) (held texts file)) ≡ Err f
           → look texts fails was (items_at texts level type opener file) ≡ Err (record { fault = f; calls = (asked was).calls })
       err_by true f low few failing e = let same : fault_at file.name 0 ReadFailed ≡ f = cc in look_failing low few failing ∙ rw same refl
       err_by false f low few fine e =
-          let read = lex_err (entries_held (is_in_folder file) (held texts file)) f e in
+          let read = lex_err (entries_held (is_in_directory file) (held texts file)) f e in
           err_held (held texts file) read.0 low few fine refl read.1 ∙ ap (λ (fault : LoadFault). Err (record { fault = fault; calls = (asked was).calls })) (sym read.2)
 
       pub opens_err : (r : Refuse LoadFault) → level ≤ 16 → was.openings < 256 → IfCalled {A = Option (List ConfigEntry)} (Err r) (is ≡ asked was)
-          → Answers {A = Option (List ConfigEntry)} (Err r) (opened_answer (fails_next was.calls fails) file.name (entries_held (is_in_folder file) (held texts file)))
+          → Answers {A = Option (List ConfigEntry)} (Err r) (opened_answer (fails_next was.calls fails) file.name (entries_held (is_in_directory file) (held texts file)))
           → Opens texts (Err r) fails was is level type opener file
       opens_err refusals.NoMemory low few same e = tt
       opens_err (refusals.Named f) low few same e = err_by (fails_next was.calls fails) f low few refl e ∙ rw same refl
@@ -338,8 +338,8 @@ module _ (texts : List ℕ → Option (List ℕ)) (level : ℕ) (type : RuleType
   nodes_served (e ∷ es) = nodes_by (serves type e.rule_type) e (entries_of_type type es) es refl (nodes_served es)
 
   pub opens_served : (fails : List ℕ) (was is : Counts) (opener : Opener) (file : RuleFile) (es : List ConfigEntry) → level ≤ 16 → was.openings < 256 → is ≡ asked was
-      → opened_answer (fails_next was.calls fails) file.name (result_map (option_map (entries_of_type type)) (entries_held (is_in_folder file) (held texts file))) ≡ Ok (Some es)
+      → opened_answer (fails_next was.calls fails) file.name (result_map (option_map (entries_of_type type)) (entries_held (is_in_directory file) (held texts file))) ≡ Ok (Some es)
       → Opens texts (Ok (Some es)) fails was is level type opener file
   opens_served fails was is opener file es low few same e =
-      let found = some_served type file.name (fails_next was.calls fails) (entries_held (is_in_folder file) (held texts file)) es e in
+      let found = some_served type file.name (fails_next was.calls fails) (entries_held (is_in_directory file) (held texts file)) es e in
       rw (found.2, items_served file.name found.0, nodes_served found.0) (opens_some texts fails file type opener level was is found.0 low few same found.1)

@@ -5,7 +5,7 @@ use Rattle.std.proofs.lemmas.Bool.{eqb-true}
 use Rattle.pam_base.specs.declared.fault.Refuse.{Refuse}
 use Rattle.pam_base.specs.declared.fault.Refuse.TheVariants as refusals
 use Rattle.pam_outside.specs.Counts.{next_count}
-use Rattle.pam_outside.specs.Files.{VaultState, counted, is_failing, is_folder}
+use Rattle.pam_outside.specs.Files.{VaultState, counted, is_failing, is_directory}
 use Rattle.control_words.specs.declared.nodes.Nodes.{Nodes}
 use Rattle.control_words.specs.Stack.{Stack, none, line, sub, joined, count, stack_of}
 use Rattle.service_load.specs.declared.load_fault.LoadFault.{LoadFault}
@@ -14,8 +14,8 @@ use Rattle.service_load.specs.declared.rule_file.RuleFile.{RuleFile}
 use Rattle.service_load.specs.declared.rule_type.RuleType.{RuleType}
 use Rattle.service_load.specs.Files.{held, is_absent}
 use Rattle.service_load.specs.FirstFault.{Counts, look}
-use Rattle.service_load.specs.Entry.{folder_name}
-use Rattle.service_load.specs.Load.{AreBounded, LoadsBy, LoadsFrom, Loads, loaded_from, has_folder}
+use Rattle.service_load.specs.Entry.{directory_name}
+use Rattle.service_load.specs.Load.{AreBounded, LoadsBy, LoadsFrom, Loads, loaded_from, directory_exists}
 use Rattle.pam_outside.specs.Paths.{path_of}
 use Rattle.service_load.specs.Loading.{texts_of, counts_of, Looks, OnlyCalls, Brings, Grows, IsBounded, Makes, items_at, nodes_at}
 use Rattle.std.specs.List.{flat_map}
@@ -233,11 +233,11 @@ bounded_next trees after type given put were is = rw put (bounded_put trees type
 -- ---- the whole load
 
 pub loads_all : (result : Result Trees (Refuse LoadFault)) (first mid new : VaultState) (root service path : List ℕ) (found : Bool)
-    → is_failing first ≡ false → found ≡ is_folder path first.files → path ≡ path_of root folder_name → mid ≡ counted first
+    → is_failing first ≡ false → found ≡ is_directory path first.files → path ≡ path_of root directory_name → mid ≡ counted first
     → LoadsFrom result found mid new root service → Loads result first new root service
 loads_all result first mid new root service path found fine found_is path_is called loads =
     let P : VaultState → Type 0 = λ v. LoadsFrom result found v new root service in
     let Q : Bool → Type 0 = λ b. LoadsBy result (loaded_from b first root service (next_count first.calls)) new (tree (texts_of root first) b service) in
     let at_first : Q found = subst P called loads in
-    let folder : found ≡ has_folder first root = found_is ∙ ap (λ (p : List ℕ). is_folder p first.files) path_is in
+    let folder : found ≡ directory_exists first root = found_is ∙ ap (λ (p : List ℕ). is_directory p first.files) path_is in
     rw fine (subst Q folder at_first)

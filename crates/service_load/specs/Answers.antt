@@ -15,14 +15,14 @@ result_map f (Ok x) = Ok (f x)
 result_map f (Err e) = Err e
 
 -- the elements that were there come before those that another call adds
-abbrev pub with_front : {A F : Type 0} → List A → Result (List A) F → Result (List A) F
-with_front front (Ok more) = Ok (front ++ more)
-with_front front (Err f) = Err f
+abbrev pub with_rules_first : {A F : Type 0} → List A → Result (List A) F → Result (List A) F
+with_rules_first front (Ok more) = Ok (front ++ more)
+with_rules_first front (Err f) = Err f
 
 -- unless memory ran out, these were added to a list, or there is this fault
 abbrev pub AddsTo : {T A F : Type 0} → Result T (Refuse F) → List A → List A → Result (List A) F
     → Type 0
-AddsTo (Ok x) old new more = with_front old more ≡ Ok new
+AddsTo (Ok x) old new more = with_rules_first old more ≡ Ok new
 AddsTo (Err (Named f)) old new more = more ≡ Err f
 AddsTo (Err NoMemory) old new more = Unit {0}
 

@@ -20,15 +20,15 @@ with_entry line (Err kind) more = Err (record { line = line; kind = kind })
 
 -- what some rules say, or the fault of the first that has one
 abbrev pub checked_entries : Bool → List RawRule → Result (List ConfigEntry) LexFault
-checked_entries in_folder [] = Ok []
-checked_entries in_folder (r ∷ rs) =
-    with_entry r.line (entry_of in_folder r) (checked_entries in_folder rs)
+checked_entries in_directory [] = Ok []
+checked_entries in_directory (r ∷ rs) =
+    with_entry r.line (entry_of in_directory r) (checked_entries in_directory rs)
 
 -- what the rules of a file say, if it is there, or its first fault
 abbrev pub entries_held : Bool → Held → Result (Option (List ConfigEntry)) LexFault
-entries_held in_folder absent = Ok None
-entries_held in_folder (faulty fault) = Err fault
-entries_held in_folder (holds rules) = result_map Some (checked_entries in_folder rules)
+entries_held in_directory absent = Ok None
+entries_held in_directory (faulty fault) = Err fault
+entries_held in_directory (holds rules) = result_map Some (checked_entries in_directory rules)
 
 -- the fields of a rule that was asked for, which begins in this line
 abbrev pub GivesFields : Option (List Token) → ℕ → List RawRule → Type 0

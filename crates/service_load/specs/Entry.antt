@@ -17,8 +17,8 @@ use Rattle.service_load.specs.Answers.{result_map}
 use Rattle.service_load.specs.RuleType.{is_word, type_field_of}
 
 -- the directory of the service files (pam.d(5))
-abbrev pub folder_name : List ℕ
-folder_name = codes "/etc/pam.d"
+abbrev pub directory_name : List ℕ
+directory_name = codes "/etc/pam.d"
 
 -- the name of a file that a rule names (pam.conf(5)): one that doesn't begin with a slash is in the
 -- directory
@@ -66,7 +66,7 @@ with_type line (Some field) tokens =
 -- what a rule of these tokens says; `@include`, Debian's addition, is only in files of the form of
 -- `/etc/pam.d` (this project's own)
 abbrev pub entry_of_tokens : ℕ → Bool → List Token → Result ConfigEntry FaultKind
-entry_of_tokens line in_folder [] = Err MissingField
+entry_of_tokens line in_directory [] = Err MissingField
 entry_of_tokens line true (t ∷ ts) = if is_word (codes "@include") t
     then entry_at line None (result_map Include (file_field ts))
     else with_type line (type_field_of t) ts
@@ -75,4 +75,4 @@ entry_of_tokens line false (t ∷ ts) = with_type line (type_field_of t) ts
 -- what a rule says, in a file of the form of `/etc/pam.d` (pam.d(5)) or in pam.conf after its
 -- service (pam.conf(5))
 unfoldable pub entry_of : Bool → RawRule → Result ConfigEntry FaultKind
-entry_of in_folder rule = entry_of_tokens rule.line in_folder rule.tokens
+entry_of in_directory rule = entry_of_tokens rule.line in_directory rule.tokens

@@ -86,13 +86,13 @@ is_absent absent = true
 is_absent other = false
 
 -- whether a file has the form of `/etc/pam.d`
-abbrev pub is_in_folder : RuleFile → Bool
-is_in_folder file = is_none file.service
+abbrev pub is_in_directory : RuleFile → Bool
+is_in_directory file = is_none file.service
 
 -- what the rules of a file say; a rule with a fault says nothing
 abbrev pub entries_of : Bool → List RawRule → List ConfigEntry
-entries_of in_folder rules = filter_map (λ r. result_ok (entry_of in_folder r)) rules
+entries_of in_directory rules = filter_map (λ r. result_ok (entry_of in_directory r)) rules
 
 -- whether no rule has a fault
 abbrev pub all_fine : Bool → List RawRule → Bool
-all_fine in_folder rules = list_all (λ r. is_ok (entry_of in_folder r)) rules
+all_fine in_directory rules = list_all (λ r. is_ok (entry_of in_directory r)) rules

@@ -8,7 +8,7 @@ use Rattle.service_load.specs.declared.entry.ConfigEntry.{ConfigEntry}
 use Rattle.service_load.specs.declared.load_fault.LoadFault.{LoadFault}
 use Rattle.service_load.specs.declared.rule_file.RuleFile.{RuleFile}
 use Rattle.service_load.specs.Entry.{entry_of}
-use Rattle.service_load.specs.Files.{Held, absent, faulty, holds, held, is_in_folder}
+use Rattle.service_load.specs.Files.{Held, absent, faulty, holds, held, is_in_directory}
 use Rattle.service_load.specs.Order.{Opener, as_service, as_other, as_last, by_rule, Item, begin, opening, checked, made}
 
 abbrev pub fault_at : List ℕ → ℕ → FaultKind → LoadFault
@@ -78,15 +78,15 @@ module _ (texts : List ℕ → Option (List ℕ)) (fails : List ℕ) where
       else held_file (asked counts) file opener (held texts file)
 
   -- the counts after an item, or its fault
-  abbrev pub behind : Counts → Item → Result Counts Stop
-  behind counts begin = Ok (record counts { lines = 0 })
-  behind counts (opening file level opener) = opened counts file level opener
-  behind counts (checked file rule) =
-      checked_rule counts file.name rule.line (entry_of (is_in_folder file) rule)
-  behind counts (made name line) = if nat_le 4096 counts.lines
+  abbrev pub past_end : Counts → Item → Result Counts Stop
+  past_end counts begin = Ok (record counts { lines = 0 })
+  past_end counts (opening file level opener) = opened counts file level opener
+  past_end counts (checked file rule) =
+      checked_rule counts file.name rule.line (entry_of (is_in_directory file) rule)
+  past_end counts (made name line) = if nat_le 4096 counts.lines
       then stop counts name line TooManyLines else Ok (record counts { lines = counts.lines + 1 })
 
   -- the counts after some items, or the first fault among them
   unfoldable pub look : Counts → List Item → Result Counts Stop
   look counts [] = Ok counts
-  look counts (i ∷ is) = going_on (behind counts i) (λ c. look c is)
+  look counts (i ∷ is) = going_on (past_end counts i) (λ c. look c is)

@@ -4,13 +4,13 @@ use Rattle.pam_base.specs.declared.fault.Refuse.{Refuse}
 use Rattle.pam_base.specs.declared.fault.Refuse.TheVariants.{NoMemory, Named}
 use Rattle.pam_base.specs.declared.fault.FaultKind.TheVariants.{ReadFailed}
 use Rattle.pam_outside.specs.Counts.{next_count}
-use Rattle.pam_outside.specs.Files.{VaultState, is_failing, is_folder}
+use Rattle.pam_outside.specs.Files.{VaultState, is_failing, is_directory}
 use Rattle.control_words.specs.Stack.{Stack, stack_of}
 use Rattle.service_load.specs.declared.load_fault.LoadFault.{LoadFault}
 use Rattle.service_load.specs.declared.rule_type.RuleType.{RuleType}
 use Rattle.service_load.specs.declared.rule_type.RuleType.TheVariants.{Auth, Account, Password, Session}
 use Rattle.service_load.specs.Trees.{Trees}
-use Rattle.service_load.specs.Entry.{folder_name}
+use Rattle.service_load.specs.Entry.{directory_name}
 use Rattle.service_load.specs.FirstFault.{Counts, Stop, fault_at, look}
 use Rattle.service_load.specs.Loading.{texts_of, IsBounded}
 use Rattle.pam_outside.specs.Paths.{path_of}
@@ -18,25 +18,25 @@ use Rattle.service_load.specs.Order.{order}
 use Rattle.service_load.specs.Tree.{tree}
 
 -- whether the directory of the service files exists
-abbrev pub has_folder : VaultState → List ℕ → Bool
-has_folder vault root = is_folder (path_of root folder_name) vault.files
+abbrev pub directory_exists : VaultState → List ℕ → Bool
+directory_exists vault root = is_directory (path_of root directory_name) vault.files
 
 -- the result for a service, once it is known whether the directory exists, by the file accesses so
 -- far
 abbrev pub loaded_from : Bool → VaultState → List ℕ → List ℕ → ℕ → Result Counts Stop
-loaded_from in_folder vault root service calls =
+loaded_from in_directory vault root service calls =
     look (texts_of root vault) vault.fails (record { calls = calls; openings = 0; lines = 0 })
-    (order (texts_of root vault) in_folder service)
+    (order (texts_of root vault) in_directory service)
 
 -- the result for a service: it is asked whether the directory exists, and then everything is
 -- checked in order; the counts after it, or the first fault, with the file accesses up to it
 abbrev pub loaded : VaultState → List ℕ → List ℕ → Result Counts Stop
 loaded vault root service =
     if is_failing vault then Err (record {
-      fault = fault_at folder_name 0 ReadFailed;
+      fault = fault_at directory_name 0 ReadFailed;
       calls = next_count vault.calls;
     })
-    else loaded_from (has_folder vault root) vault root service (next_count vault.calls)
+    else loaded_from (directory_exists vault root) vault root service (next_count vault.calls)
 
 -- the first fault, if there is one
 abbrev pub first_fault : VaultState → List ℕ → List ℕ → Option LoadFault
@@ -78,13 +78,13 @@ LoadsBy (Err NoMemory) looked new stack = Unit {0}
 -- once it is known whether the directory exists
 abbrev pub LoadsFrom : Result Trees (Refuse LoadFault) → Bool → VaultState → VaultState → List ℕ
     → List ℕ → Type 0
-LoadsFrom result in_folder old new root service =
-    LoadsBy result (loaded_from in_folder old root service old.calls) new
-    (tree (texts_of root old) in_folder service)
+LoadsFrom result in_directory old new root service =
+    LoadsBy result (loaded_from in_directory old root service old.calls) new
+    (tree (texts_of root old) in_directory service)
 
 -- the load of a service
 abbrev pub Loads : Result Trees (Refuse LoadFault) → VaultState → VaultState → List ℕ → List ℕ
     → Type 0
 Loads result old new root service =
     LoadsBy result (loaded old root service) new
-    (tree (texts_of root old) (has_folder old root) service)
+    (tree (texts_of root old) (directory_exists old root) service)

@@ -9,7 +9,7 @@ use Rattle.service_load.specs.declared.entry.RuleContent.TheVariants.{Line, Incl
 use Rattle.service_load.specs.declared.entry.ConfigEntry.{ConfigEntry}
 use Rattle.service_load.specs.declared.rule_file.RuleFile.{RuleFile}
 use Rattle.service_load.specs.declared.rule_type.RuleType.{RuleType}
-use Rattle.service_load.specs.Files.{plain_file, service_file, held, rules_held, is_absent, entries_of, all_fine, is_in_folder}
+use Rattle.service_load.specs.Files.{plain_file, service_file, held, rules_held, is_absent, entries_of, all_fine, is_in_directory}
 use Rattle.service_load.specs.RuleType.{all_types}
 use Rattle.service_load.specs.Tree.{serves, nodes}
 
@@ -54,8 +54,8 @@ items_of deeper type name entries = flat_map (entry_items deeper type name) entr
 abbrev pub file_items : (Opener → RuleFile → List Item) → RuleType → RuleFile → List RawRule
     → List Item
 file_items deeper type file rules =
-    map (checked file) rules ++ (if all_fine (is_in_folder file) rules
-    then items_of deeper type file.name (entries_of (is_in_folder file) rules) else [])
+    map (checked file) rules ++ (if all_fine (is_in_directory file) rules
+    then items_of deeper type file.name (entries_of (is_in_directory file) rules) else [])
 
 module _ (texts : List ℕ → Option (List ℕ)) where
   -- a file that is opened, and what it adds, if n levels of files may open; at level 17 nothing
@@ -81,5 +81,5 @@ module _ (texts : List ℕ → Option (List ℕ)) where
 
   -- the whole order
   abbrev pub order : Bool → List ℕ → List Item
-  order is_folder service =
-      trees_items (service_file is_folder service) (service_file is_folder (codes "other"))
+  order is_directory service =
+      trees_items (service_file is_directory service) (service_file is_directory (codes "other"))

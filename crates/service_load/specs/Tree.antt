@@ -6,7 +6,7 @@ use Rattle.service_load.specs.declared.entry.RuleContent.TheVariants.{Line, Incl
 use Rattle.service_load.specs.declared.entry.ConfigEntry.{ConfigEntry}
 use Rattle.service_load.specs.declared.rule_file.RuleFile.{RuleFile}
 use Rattle.service_load.specs.declared.rule_type.RuleType.{RuleType}
-use Rattle.service_load.specs.Files.{plain_file, service_file, held, rules_held, entries_of, is_in_folder}
+use Rattle.service_load.specs.Files.{plain_file, service_file, held, rules_held, entries_of, is_in_directory}
 use Rattle.service_load.specs.RuleType.{same_type}
 
 -- whether an entry serves a type (pam.conf(5)); `@include` serves all
@@ -42,7 +42,7 @@ module _ (texts : List ℕ → Option (List ℕ)) where
   nodes zero type file = none
   nodes (suc levels) type file =
       nodes_of (λ name. nodes levels type (plain_file name)) type
-      (entries_of (is_in_folder file) (rules_held (held texts file)))
+      (entries_of (is_in_directory file) (rules_held (held texts file)))
 
   -- the stack of a service's file for a type: its nodes, at level 0 of 16, or those of the file of
   -- `other` if it has none
@@ -51,5 +51,5 @@ module _ (texts : List ℕ → Option (List ℕ)) where
 
   -- the tree of a service for a type
   abbrev pub tree : Bool → List ℕ → RuleType → Stack
-  tree is_folder service =
-      tree_from (service_file is_folder service) (service_file is_folder (codes "other"))
+  tree is_directory service =
+      tree_from (service_file is_directory service) (service_file is_directory (codes "other"))

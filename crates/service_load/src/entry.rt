@@ -4,7 +4,7 @@ ghost use Rattle.service_load.specs.Entry.{entry_of_tokens, after_type, file_fie
 ghost use Rattle.service_load.specs.Kinds.{IfNamed, is_read_failed};
 ghost use Rattle.service_load.specs.Tree.{serves};
 
-use crate::names::IN_FOLDER;
+use crate::names::IN_DIRECTORY;
 use crate::rule_type::RuleType;
 use crate::type_field::{TypeField, is_word};
 use control_words::conf_lex::Token;
@@ -43,16 +43,16 @@ impl ConfigEntry {
     pub(crate) fn of(
         alloc: Global,
         line: u32,
-        in_folder: bool,
+        in_directory: bool,
         tokens: &[Token],
     ) -> Result<ConfigEntry, Refuse<FaultKind>>
-        ensures answer { Answers result (entry_of_tokens line in_folder tokens.now) }
+        ensures answer { Answers result (entry_of_tokens line in_directory tokens.now) }
         ensures kinds { IfNamed result (λ kind. is_read_failed kind ≡ false) }
     {
         let [first, rest @ ..] = tokens else {
             return Err(Refuse::Named(FaultKind::MissingField));
         };
-        if in_folder && is_word(b"@include", first) {
+        if in_directory && is_word(b"@include", first) {
             let name = file_field(alloc, rest)?;
             return Ok(ConfigEntry {
                 line,
@@ -151,7 +151,7 @@ pub fn named_file(alloc: Global, name: &[u8]) -> Result<Text, NoMemory>
 {
     match name {
         [b'/', ..] => Text::from_bytes(alloc, name),
-        _ => joined(alloc, IN_FOLDER, name),
+        _ => joined(alloc, IN_DIRECTORY, name),
     }
 }
 

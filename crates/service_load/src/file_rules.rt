@@ -1,6 +1,6 @@
 ghost use Rattle.std.specs.Prelude.{◌≡◌, false, option_copied};
 ghost use Rattle.service_load.specs.Answers.{Answers, AddsTo};
-ghost use Rattle.service_load.specs.Files.{own_rule, held_text, is_in_folder};
+ghost use Rattle.service_load.specs.Files.{own_rule, held_text, is_in_directory};
 ghost use Rattle.service_load.specs.Kinds.{IfNamed, is_read_failed};
 ghost use Rattle.service_load.specs.Checking.{checked_entries, entries_held, GivesFields};
 
@@ -18,7 +18,7 @@ pub(crate) fn entries_in(
     file: &RuleFile,
     text: &[u8],
 ) -> Result<Option<Entries>, Refuse<LexFault>>
-    ensures answer { Answers result (entries_held (is_in_folder file.now)
+    ensures answer { Answers result (entries_held (is_in_directory file.now)
         (held_text file.now.service (Some text.now))) }
     ensures kinds { IfNamed result (λ fault. is_read_failed fault.kind ≡ false) }
 {
@@ -27,7 +27,7 @@ pub(crate) fn entries_in(
     for rule in rules.items() {
         add_rule(alloc, file, rule, &mut entries)?;
     }
-    if !file.is_in_folder() && entries.is_empty() {
+    if !file.is_in_directory() && entries.is_empty() {
         return Ok(None);
     }
     Ok(Some(entries))
@@ -41,13 +41,13 @@ fn add_rule(
     entries: &mut Entries,
 ) -> Result<(), Refuse<LexFault>>
     ensures added { AddsTo result entries.old entries.new
-        (checked_entries (is_in_folder file.now) (own_rule file.now.service rule.now)) }
+        (checked_entries (is_in_directory file.now) (own_rule file.now.service rule.now)) }
     ensures kinds { IfNamed result (λ fault. is_read_failed fault.kind ≡ false) }
 {
     let Some(fields) = fields_of(file, rule) else {
         return Ok(());
     };
-    match ConfigEntry::of(alloc, rule.line, file.is_in_folder(), fields) {
+    match ConfigEntry::of(alloc, rule.line, file.is_in_directory(), fields) {
         Ok(entry) => {
             entries.push(entry)?;
             Ok(())

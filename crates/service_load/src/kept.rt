@@ -2,7 +2,7 @@ ghost use Rattle.std.specs.Prelude.{◌≡◌, Ok, Some, IsTrue, IfOk, IfSome, f
 ghost use Rattle.std.specs.Option.{is_none, option_map};
 ghost use Rattle.service_load.specs.Answers.{Answers, result_map};
 ghost use Rattle.service_load.specs.Checking.{entries_held, entries_of_type};
-ghost use Rattle.service_load.specs.Files.{held_text, is_in_folder};
+ghost use Rattle.service_load.specs.Files.{held_text, is_in_directory};
 ghost use Rattle.service_load.specs.Kinds.{IfNamed, is_read_failed};
 
 use crate::entry::{ConfigEntry, Entries};
@@ -103,7 +103,7 @@ impl KeptTexts {
         text: Text,
     ) -> Result<Option<Entries>, Refuse<LexFault>>
         ensures answer { Answers result (result_map (option_map (entries_of_type rule_type))
-            (entries_held (is_in_folder file.now) (held_text file.now.service (Some text)))) }
+            (entries_held (is_in_directory file.now) (held_text file.now.service (Some text)))) }
         ensures kinds { IfNamed result (λ fault. is_read_failed fault.kind ≡ false) }
     {
         if let Some(kept) = self.found(file, text.bytes()) {

@@ -6,7 +6,7 @@ ghost use Rattle.control_words.specs.Stack.{stack_of};
 ghost use Rattle.service_load.specs.Answers.{Answers, IsRefusal, result_map};
 ghost use Rattle.service_load.specs.FirstFault.{look, opening_fault};
 ghost use Rattle.service_load.specs.Checking.{entries_held, entries_of_type};
-ghost use Rattle.service_load.specs.Files.{held, is_absent, is_in_folder};
+ghost use Rattle.service_load.specs.Files.{held, is_absent, is_in_directory};
 ghost use Rattle.service_load.specs.Load.{AreBounded, LoadsBy};
 ghost use Rattle.service_load.specs.Order.{as_last, as_other, trees_items};
 ghost use Rattle.service_load.specs.Tree.{tree_from};
@@ -64,7 +64,7 @@ impl Loader {
             (opened_answer (fails_next (vault_holds vault.old).calls
             (vault_holds vault.old).fails) file.now.name
             (result_map (option_map (entries_of_type rule_type))
-            (entries_held (is_in_folder file.now) (held (texts_of root.now
+            (entries_held (is_in_directory file.now) (held (texts_of root.now
             (vault_holds vault.old)) file.now)))) }
         ensures calls { IsTrue (vault_tells vault.old) →
             IfCalled result (vault_holds vault.new ≡ counted (vault_holds vault.old)) }

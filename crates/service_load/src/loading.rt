@@ -6,11 +6,11 @@ ghost use Rattle.service_load.specs.Loading.{CountsFaults, OnlyCalls};
 use crate::kept::KeptTexts;
 use crate::load_fault::LoadFault;
 use crate::loader::Loader;
-use crate::names::FOLDER;
+use crate::names::DIRECTORY;
 use crate::rule_file::ServiceFiles;
 use crate::trees::Trees;
 use pam_base::{Refuse, Text};
-use pam_outside::{ReplaceFault, Vault, is_folder, path_of};
+use pam_outside::{ReplaceFault, Vault, is_directory, path_of};
 use std::alloc::Global;
 use std::mem;
 
@@ -70,9 +70,9 @@ pub fn load_with(
     ensures bounded { IfOk result (λ trees. AreBounded trees) }
     ensures faults { CountsFaults result (vault_faults vault.old) (vault_faults vault.new) }
 {
-    let folder = path_of(alloc, root, FOLDER)?;
-    let unread = Text::from_bytes(alloc, FOLDER)?;
-    match is_folder(vault, alloc, folder.bytes()) {
+    let folder = path_of(alloc, root, DIRECTORY)?;
+    let unread = Text::from_bytes(alloc, DIRECTORY)?;
+    match is_directory(vault, alloc, folder.bytes()) {
         Ok(found) => load_from(alloc, vault, root, found, service, kept),
         Err(ReplaceFault::NoMemory) => Err(Refuse::NoMemory),
         Err(ReplaceFault::Failed) => Err(Refuse::Named(LoadFault::unread(unread))),
@@ -84,20 +84,20 @@ fn load_from(
     alloc: Global,
     vault: &mut dyn Vault,
     root: &[u8],
-    is_folder: bool,
+    is_directory: bool,
     service: &[u8],
     kept: &mut KeptTexts,
 ) -> Result<Trees, Refuse<LoadFault>>
     ensures tells { vault_tells vault.new ≡ vault_tells vault.old }
     ensures told { IsTrue (vault_tells vault.old) →
-        LoadsFrom result is_folder (vault_holds vault.old)
+        LoadsFrom result is_directory (vault_holds vault.old)
         (vault_holds vault.new) root.now service.now }
     ensures stays { IsTrue (vault_tells vault.old) →
         OnlyCalls (vault_holds vault.old) (vault_holds vault.new) }
     ensures bounded { IfOk result (λ trees. AreBounded trees) }
     ensures faults { CountsFaults result (vault_faults vault.old) (vault_faults vault.new) }
 {
-    let files = ServiceFiles::of(alloc, is_folder, service)?;
+    let files = ServiceFiles::of(alloc, is_directory, service)?;
     let mut loader = Loader {
         openings: 0,
         lines: 0,

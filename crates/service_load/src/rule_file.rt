@@ -1,7 +1,7 @@
 ghost use Rattle.std.specs.Prelude.{◌≡◌, IfOk, codes};
-ghost use Rattle.service_load.specs.Files.{service_file, plain_file, is_in_folder};
+ghost use Rattle.service_load.specs.Files.{service_file, plain_file, is_in_directory};
 
-use crate::names::{IN_FOLDER, PAM_CONF};
+use crate::names::{IN_DIRECTORY, PAM_CONF};
 use pam_base::{NoMemory, Text, lowercase};
 use pam_outside::joined;
 use std::alloc::Global;
@@ -28,13 +28,13 @@ impl RuleFile {
     }
 
     /// The file of a service: one in `/etc/pam.d` if that is a directory, else `/etc/pam.conf`.
-    fn of_service(alloc: Global, is_folder: bool, service: &[u8]) -> Result<RuleFile, NoMemory>
-        ensures { IfOk result (λ file. file ≡ service_file is_folder service.now) }
+    fn of_service(alloc: Global, is_directory: bool, service: &[u8]) -> Result<RuleFile, NoMemory>
+        ensures { IfOk result (λ file. file ≡ service_file is_directory service.now) }
     {
         let service = lowercase(alloc, service)?;
-        if is_folder {
+        if is_directory {
             return Ok(RuleFile {
-                name: joined(alloc, IN_FOLDER, service.bytes())?,
+                name: joined(alloc, IN_DIRECTORY, service.bytes())?,
                 service: None,
             });
         }
@@ -45,8 +45,8 @@ impl RuleFile {
     }
 
     /// Whether it has the form of the files in `/etc/pam.d`.
-    pub fn is_in_folder(&self) -> bool
-        ensures { result ≡ is_in_folder self.now }
+    pub fn is_in_directory(&self) -> bool
+        ensures { result ≡ is_in_directory self.now }
     {
         self.service.is_none()
     }
@@ -65,14 +65,14 @@ pub struct ServiceFiles {
 impl ServiceFiles {
     /// The files of a service: in `/etc/pam.d` if that is a directory, else `/etc/pam.conf`.
     /// `NoMemory` is returned if an allocation fails.
-    pub fn of(alloc: Global, is_folder: bool, service: &[u8]) -> Result<ServiceFiles, NoMemory>
-        ensures own { IfOk result (λ files. files.own ≡ service_file is_folder service.now) }
+    pub fn of(alloc: Global, is_directory: bool, service: &[u8]) -> Result<ServiceFiles, NoMemory>
+        ensures own { IfOk result (λ files. files.own ≡ service_file is_directory service.now) }
         ensures other { IfOk result (λ files.
-            files.other ≡ service_file is_folder (codes "other")) }
+            files.other ≡ service_file is_directory (codes "other")) }
     {
         Ok(ServiceFiles {
-            own: RuleFile::of_service(alloc, is_folder, service)?,
-            other: RuleFile::of_service(alloc, is_folder, b"other")?,
+            own: RuleFile::of_service(alloc, is_directory, service)?,
+            other: RuleFile::of_service(alloc, is_directory, b"other")?,
         })
     }
 }

@@ -10,8 +10,8 @@ use Rattle.control_words.specs.declared.nodes.Rule.{Rule}
 use Rattle.control_words.specs.Stack.{Stack, none, line, sub, joined, count, depth, lines_in}
 use Rattle.service_load.specs.declared.rule_type.RuleType.{RuleType}
 use Rattle.service_load.specs.Entry.{entry_of}
-use Rattle.service_load.specs.Files.{plain_file, Held, absent, faulty, holds, held, rules_held, all_fine, is_in_folder}
-use Rattle.service_load.specs.FirstFault.{Counts, Stop, going_on, asked, absent_file, held_file, checked_rule, behind, look}
+use Rattle.service_load.specs.Files.{plain_file, Held, absent, faulty, holds, held, rules_held, all_fine, is_in_directory}
+use Rattle.service_load.specs.FirstFault.{Counts, Stop, going_on, asked, absent_file, held_file, checked_rule, past_end, look}
 use Rattle.service_load.specs.Order.{Opener, as_service, as_other, as_last, by_rule, Item, begin, opening, checked, made, items, other_opener, tree_items}
 use Rattle.service_load.specs.Tree.{serves, nodes, tree_of}
 use Rattle.service_print.specs.Printed.{subs_in}
@@ -44,10 +44,10 @@ unfolding look
 nothing_met texts fails before after is = cc
 
 one_met : (texts : List ℕ → Option (List ℕ)) (fails : List ℕ) (before after : Counts) (item : Item) → look texts fails before (item ∷ []) ≡ Ok after
-    → behind texts fails before item ≡ Ok after
+    → past_end texts fails before item ≡ Ok after
 unfolding look
 one_met texts fails before after item is =
-    let parts = through (behind texts fails before item) (λ c. Ok c) after is in
+    let parts = through (past_end texts fails before item) (λ c. Ok c) after is in
     let same : parts.0 ≡ after = let e = parts.2 in cc in
     parts.1 ∙ ap Ok same
 
@@ -109,7 +109,7 @@ pub record Made (before after : Counts) : Type 0 where
   pub openings : after.openings ≡ before.openings
 
 line_made : (texts : List ℕ → Option (List ℕ)) (fails : List ℕ) (before after : Counts) (name : List ℕ) (number : ℕ)
-    → behind texts fails before (made name number) ≡ Ok after → Made before after
+    → past_end texts fails before (made name number) ≡ Ok after → Made before after
 line_made texts fails before after name number is =
     let parts = past (nat_le 4096 before.lines) _ _ after is in
     let same : record before { lines = before.lines + 1 } ≡ after = let e = parts.1 in cc in
@@ -136,7 +136,7 @@ held_passed counts after file opener (faulty fault) is = absurd cc
 held_passed counts after file opener (holds rules) is = cc
 
 file_opened : (texts : List ℕ → Option (List ℕ)) (fails : List ℕ) (before after : Counts) (file : _) (level : ℕ) (opener : Opener)
-    → behind texts fails before (opening file level opener) ≡ Ok after → Opened before after
+    → past_end texts fails before (opening file level opener) ≡ Ok after → Opened before after
 file_opened texts fails before after file level opener is =
     let low = past (nat_lt 16 level) _ _ after is in
     let few = past (nat_le 256 before.openings) _ _ after low.1 in
@@ -154,13 +154,13 @@ rule_passed counts after name number (Ok entry) is = (let same : counts ≡ afte
 rule_passed counts after name number (Err kind) is = absurd cc
 
 rules_passed : (texts : List ℕ → Option (List ℕ)) (fails : List ℕ) (before after : Counts) (file : _) (rules : List RawRule)
-    → look texts fails before (map (checked file) rules) ≡ Ok after → (before ≡ after) × (all_fine (is_in_folder file) rules ≡ true)
+    → look texts fails before (map (checked file) rules) ≡ Ok after → (before ≡ after) × (all_fine (is_in_directory file) rules ≡ true)
 rules_passed texts fails before after file [] is = (nothing_met texts fails before after is, refl)
 rules_passed texts fails before after file (rule ∷ rules) is =
     let parts = split texts fails before (checked file rule ∷ []) (map (checked file) rules) after is in
-    let here = rule_passed before parts.between file.name rule.line (entry_of (is_in_folder file) rule) (one_met texts fails before parts.between (checked file rule) parts.first) in
+    let here = rule_passed before parts.between file.name rule.line (entry_of (is_in_directory file) rule) (one_met texts fails before parts.between (checked file rule) parts.first) in
     let more = rules_passed texts fails parts.between after file rules parts.second in
-    (here.0 ∙ more.0, and_from (is_ok (entry_of (is_in_folder file) rule)) (all_fine (is_in_folder file) rules) here.1 more.1)
+    (here.0 ∙ more.0, and_from (is_ok (entry_of (is_in_directory file) rule)) (all_fine (is_in_directory file) rules) here.1 more.1)
 
 -- ---- files
 
@@ -191,18 +191,18 @@ meant_bring texts fails levels files type name number (a_substack own file) befo
     ]
 
 rules_bring : (texts : List ℕ → Option (List ℕ)) (fails : List ℕ) (levels : ℕ) → FilesBring texts fails levels
-    → (in_folder : Bool) (type : RuleType) (name : List ℕ) (rules : List RawRule) → list_all good_rule rules ≡ true → (before after : Counts)
-    → look texts fails before (items_from texts levels in_folder type name rules) ≡ Ok after → Brings before after (nodes_from (λ n. nodes texts levels type (plain_file n)) in_folder type rules) levels 0
-rules_bring texts fails levels files in_folder type name [] good before after is = brings_nothing before after levels (nothing_met texts fails before after is)
-rules_bring texts fails levels files in_folder type name (rule ∷ rules) good before after is =
+    → (in_directory : Bool) (type : RuleType) (name : List ℕ) (rules : List RawRule) → list_all good_rule rules ≡ true → (before after : Counts)
+    → look texts fails before (items_from texts levels in_directory type name rules) ≡ Ok after → Brings before after (nodes_from (λ n. nodes texts levels type (plain_file n)) in_directory type rules) levels 0
+rules_bring texts fails levels files in_directory type name [] good before after is = brings_nothing before after levels (nothing_met texts fails before after is)
+rules_bring texts fails levels files in_directory type name (rule ∷ rules) good before after is =
     let goods = and_parts (good_rule rule) (list_all good_rule rules) good in
-    let means = known in_folder rule goods.0 in
+    let means = known in_directory rule goods.0 in
     let deeper = λ (n : List ℕ). nodes texts levels type (plain_file n) in
-    let parts = split texts fails before (meant_items texts levels type name rule.line means.meaning) (items_from texts levels in_folder type name rules) after (ap (look texts fails before) (sym (means.meant.items texts levels type name rules)) ∙ is) in
+    let parts = split texts fails before (meant_items texts levels type name rule.line means.meaning) (items_from texts levels in_directory type name rules) after (ap (look texts fails before) (sym (means.meant.items texts levels type name rules)) ∙ is) in
     subst (λ (s : Stack). Brings before after s levels 0) (sym (means.meant.nodes deeper type rules))
-    (brings_both before parts.between after (meant_nodes deeper type means.meaning) (nodes_from deeper in_folder type rules) levels
+    (brings_both before parts.between after (meant_nodes deeper type means.meaning) (nodes_from deeper in_directory type rules) levels
     (meant_bring texts fails levels files type name rule.line means.meaning before parts.between parts.first)
-    (rules_bring texts fails levels files in_folder type name rules goods.1 parts.between after parts.second))
+    (rules_bring texts fails levels files in_directory type name rules goods.1 parts.between after parts.second))
 
 brings_opened : (before between after : Counts) (stack : Stack) (levels : ℕ) → Opened before between → Brings between after stack levels 0
     → Brings before after stack (suc levels) 1
@@ -229,10 +229,10 @@ files_bring reading texts fails (suc levels) = λ type opener file before after 
     let opens = file_opened texts fails before first.between file (16 - levels) opener (one_met texts fails before first.between (opening file (16 - levels) opener) first.first) in
     let second = split texts fails first.between (map (checked file) rules) _ after first.second in
     let passed = rules_passed texts fails first.between second.between file rules second.first in
-    let entries = where_fine texts fails second.between after (all_fine (is_in_folder file) rules) (items_from texts levels (is_in_folder file) type file.name rules) passed.1 second.second in
-    brings_opened before first.between after (nodes_from (λ n. nodes texts levels type (plain_file n)) (is_in_folder file) type rules) levels opens
-    (subst (λ (c : Counts). Brings c after (nodes_from (λ n. nodes texts levels type (plain_file n)) (is_in_folder file) type rules) levels 0) (sym passed.0)
-    (rules_bring texts fails levels (files_bring reading texts fails levels) (is_in_folder file) type file.name rules good second.between after entries))
+    let entries = where_fine texts fails second.between after (all_fine (is_in_directory file) rules) (items_from texts levels (is_in_directory file) type file.name rules) passed.1 second.second in
+    brings_opened before first.between after (nodes_from (λ n. nodes texts levels type (plain_file n)) (is_in_directory file) type rules) levels opens
+    (subst (λ (c : Counts). Brings c after (nodes_from (λ n. nodes texts levels type (plain_file n)) (is_in_directory file) type rules) levels 0) (sym passed.0)
+    (rules_bring texts fails levels (files_bring reading texts fails levels) (is_in_directory file) type file.name rules good second.between after entries))
 
 -- ---- trees
 

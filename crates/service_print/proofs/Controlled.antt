@@ -15,7 +15,7 @@ use Rattle.control_words.specs.declared.control.Action.TheVariants as actions
 use Rattle.control_words.specs.declared.bracket.ControlFault.{ControlFault}
 use Rattle.control_words.specs.Control.{action_at}
 use Rattle.control_words.specs.Bracket.{action_of_word, is_default, names, last_action, action_among, fault_of_entry, control_unless, control_of_entries, control_of}
-use Rattle.control_words.specs.Entries.{ControlPair, FirstEntry, ends_name, from_first, first_entry, with_name, with_action, entries_behind, entries_in}
+use Rattle.control_words.specs.Entries.{ControlPair, FirstEntry, ends_name, from_first, first_entry, with_name, with_action, entries_after, entries_in}
 use Rattle.control_words.specs.Entries.{after_space as after_white}
 use Rattle.service_print.specs.Tokens.{after_space, spaced}
 use Rattle.service_print.specs.Controls.{action_word, same_action, entry_text, has_entry, entries_among}
@@ -53,38 +53,38 @@ first_entry_is : (name action rest : List ℕ) → list_all is_name name ≡ tru
     → first_entry (name ++ 61 ∷ (action ++ rest)) ≡ record { entry = record { name = name; action = action }; rest = rest }
 first_entry_is name action rest named acts some stop =
     let front : before_first ends_name (name ++ 61 ∷ (action ++ rest)) ≡ name = cut_front ends_name name (61 ∷ (action ++ rest)) named refl in
-    let behind : from_first ends_name (name ++ 61 ∷ (action ++ rest)) ≡ 61 ∷ (action ++ rest) = cut_rest ends_name name (61 ∷ (action ++ rest)) named refl in
+    let past_end : from_first ends_name (name ++ 61 ∷ (action ++ rest)) ≡ 61 ∷ (action ++ rest) = cut_rest ends_name name (61 ∷ (action ++ rest)) named refl in
     let value : before_first is_white (action ++ rest) ≡ action = cut_front is_white action rest acts stop in
     let more : from_first is_white (action ++ rest) ≡ rest = cut_rest is_white action rest acts stop in
     ap (λ (n : List ℕ). with_name n (after_white (from_first ends_name (name ++ 61 ∷ (action ++ rest))))) front
-    ∙ ap (λ (t : List ℕ). with_name name (after_white t)) behind
+    ∙ ap (λ (t : List ℕ). with_name name (after_white t)) past_end
     ∙ ap (λ (t : List ℕ). with_action name t) (no_white_first action rest some)
     ∙ ap (λ (a : List ℕ). record { entry = record { name = name; action = a }; rest = from_first is_white (action ++ rest) }) value
     ∙ ap (λ (r : List ℕ). record { entry = record { name = name; action = action }; rest = r }) more
 
 -- ---- the entries of a text
 
-behind_front : (front rest : List ℕ) → entries_behind (length front) (front ++ rest) ≡ entries_behind 0 rest
-unfolding entries_behind
-behind_front [] rest = refl
-behind_front (b ∷ front) rest = behind_front front rest
+after_front : (front rest : List ℕ) → entries_after (length front) (front ++ rest) ≡ entries_after 0 rest
+unfolding entries_after
+after_front [] rest = refl
+after_front (b ∷ front) rest = after_front front rest
 
 black_first : (b : ℕ) (bs : List ℕ) (found : FirstEntry) → is_white b ≡ false → first_entry (b ∷ bs) ≡ found
-    → entries_behind 0 (b ∷ bs) ≡ found.entry ∷ entries_behind (length bs - length found.rest) bs
-unfolding entries_behind
-black_first b bs found black read = ap (λ (w : Bool). elim w [ true ↦ entries_behind 0 bs | false ↦ (first_entry (b ∷ bs)).entry ∷ entries_behind (length bs - length (first_entry (b ∷ bs)).rest) bs ]) black ∙ ap (λ (f : FirstEntry). f.entry ∷ entries_behind (length bs - length f.rest) bs) read
+    → entries_after 0 (b ∷ bs) ≡ found.entry ∷ entries_after (length bs - length found.rest) bs
+unfolding entries_after
+black_first b bs found black read = ap (λ (w : Bool). elim w [ true ↦ entries_after 0 bs | false ↦ (first_entry (b ∷ bs)).entry ∷ entries_after (length bs - length (first_entry (b ∷ bs)).rest) bs ]) black ∙ ap (λ (f : FirstEntry). f.entry ∷ entries_after (length bs - length f.rest) bs) read
 
 one_entry : (first : ℕ) (more name action rest : List ℕ) → name ++ 61 ∷ action ≡ first ∷ more → is_white first ≡ false
     → first_entry ((name ++ 61 ∷ action) ++ rest) ≡ record { entry = record { name = name; action = action }; rest = rest }
-    → entries_behind 0 ((name ++ 61 ∷ action) ++ rest) ≡ record { name = name; action = action } ∷ entries_behind 0 rest
-unfolding entries_behind
+    → entries_after 0 ((name ++ 61 ∷ action) ++ rest) ≡ record { name = name; action = action } ∷ entries_after 0 rest
+unfolding entries_after
 one_entry first more name action rest is black found =
     let read : first_entry (first ∷ (more ++ rest)) ≡ record { entry = record { name = name; action = action }; rest = rest } = ap (λ (t : List ℕ). first_entry (t ++ rest)) (sym is) ∙ found in
     let left : length (more ++ rest) - length rest ≡ length more = omega (arith, length-append more rest) in
-    ap (λ (t : List ℕ). entries_behind 0 (t ++ rest)) is
+    ap (λ (t : List ℕ). entries_after 0 (t ++ rest)) is
     ∙ black_first first (more ++ rest) (record { entry = record { name = name; action = action }; rest = rest }) black read
-    ∙ ap (λ n. record { name = name; action = action } ∷ entries_behind n (more ++ rest)) left
-    ∙ (ap (λ (es : List ControlPair). record { name = name; action = action } ∷ es) (behind_front more rest))
+    ∙ ap (λ n. record { name = name; action = action } ∷ entries_after n (more ++ rest)) left
+    ∙ (ap (λ (es : List ControlPair). record { name = name; action = action } ∷ es) (after_front more rest))
 
 -- ---- the entries of a control
 
@@ -106,7 +106,7 @@ begins_name [] rest some = absurd cc
 begins_name (b ∷ bs) rest some = record { first = b; more = bs ++ rest; is = refl; black = (or_parts (is_white b) (eqb b 61) (not-true (ends_name b) some)).0 }
 
 a_code : (control : List Action) (code : Code) (rest : List ℕ) → is_fine (action_at control code) ≡ true → stops is_white rest ≡ true
-    → entries_behind 0 (entry_text control code ++ rest) ≡ entry_record control code ∷ entries_behind 0 rest
+    → entries_after 0 (entry_text control code ++ rest) ≡ entry_record control code ∷ entries_after 0 rest
 a_code control code rest fine stop =
     let word = action_word (action_at control code) in
     let read = action_reads (action_at control code) fine in
@@ -114,33 +114,33 @@ a_code control code rest fine stop =
     one_entry begins.first begins.more (code_word code) word rest begins.is begins.black
     (ap first_entry (append_assoc (code_word code) (61 ∷ word) rest) ∙ first_entry_is (code_word code) word rest (code_word-name code) read.bytes read.some stop)
 
-space_first : (text : List ℕ) → entries_behind 0 (32 ∷ text) ≡ entries_behind 0 text
-unfolding entries_behind
+space_first : (text : List ℕ) → entries_after 0 (32 ∷ text) ≡ entries_after 0 text
+unfolding entries_after
 space_first text = refl
 
-no_entries : entries_behind 0 [] ≡ []
-unfolding entries_behind
+no_entries : entries_after 0 [] ≡ []
+unfolding entries_after
 no_entries = refl
 
-behind_stops : (texts : List (List ℕ)) → stops is_white (flat_map after_space texts) ≡ true
-behind_stops [] = refl
-behind_stops (text ∷ texts) = refl
+after_stops : (texts : List (List ℕ)) → stops is_white (flat_map after_space texts) ≡ true
+after_stops [] = refl
+after_stops (text ∷ texts) = refl
 
-behind_entries : (control : List Action) (codes : List Code) → all_fine control codes ≡ true
-    → entries_behind 0 (flat_map after_space (map (entry_text control) codes)) ≡ map (entry_record control) codes
-behind_entries control [] fine = no_entries
-behind_entries control (code ∷ codes) fine =
+after_entries : (control : List Action) (codes : List Code) → all_fine control codes ≡ true
+    → entries_after 0 (flat_map after_space (map (entry_text control) codes)) ≡ map (entry_record control) codes
+after_entries control [] fine = no_entries
+after_entries control (code ∷ codes) fine =
     let parts = and_parts (is_fine (action_at control code)) (all_fine control codes) fine in
     let rest = flat_map after_space (map (entry_text control) codes) in
-    space_first (entry_text control code ++ rest) ∙ a_code control code rest parts.0 (behind_stops (map (entry_text control) codes)) ∙ ap (λ (es : List ControlPair). entry_record control code ∷ es) (behind_entries control codes parts.1)
+    space_first (entry_text control code ++ rest) ∙ a_code control code rest parts.0 (after_stops (map (entry_text control) codes)) ∙ ap (λ (es : List ControlPair). entry_record control code ∷ es) (after_entries control codes parts.1)
 
 spaced_entries : (control : List Action) (codes : List Code) → all_fine control codes ≡ true
-    → entries_behind 0 (spaced (map (entry_text control) codes)) ≡ map (entry_record control) codes
+    → entries_after 0 (spaced (map (entry_text control) codes)) ≡ map (entry_record control) codes
 spaced_entries control [] fine = no_entries
 spaced_entries control (code ∷ codes) fine =
     let parts = and_parts (is_fine (action_at control code)) (all_fine control codes) fine in
     let rest = flat_map after_space (map (entry_text control) codes) in
-    a_code control code rest parts.0 (behind_stops (map (entry_text control) codes)) ∙ ap (λ (es : List ControlPair). entry_record control code ∷ es) (behind_entries control codes parts.1)
+    a_code control code rest parts.0 (after_stops (map (entry_text control) codes)) ∙ ap (λ (es : List ControlPair). entry_record control code ∷ es) (after_entries control codes parts.1)
 
 -- ---- the control of the entries
 

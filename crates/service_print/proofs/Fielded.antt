@@ -138,19 +138,19 @@ entry_bytes control code fine =
     list_all-append is_word_byte (code_word code) (61 ∷ action_word (action_at control code))
     ∙ and_from (list_all is_word_byte (code_word code)) (list_all is_word_byte (61 ∷ action_word (action_at control code))) (code_word-bytes code) (action_reads (action_at control code) fine).word
 
-behind_bytes : (control : List Action) (codes : List Code) → list_all is_fine control ≡ true
+after_bytes : (control : List Action) (codes : List Code) → list_all is_fine control ≡ true
     → list_all is_word_byte (flat_map after_space (map (entry_text control) codes)) ≡ true
-behind_bytes control [] fine = refl
-behind_bytes control (code ∷ codes) fine =
+after_bytes control [] fine = refl
+after_bytes control (code ∷ codes) fine =
     list_all-append is_word_byte (entry_text control code) (flat_map after_space (map (entry_text control) codes))
-    ∙ and_from (list_all is_word_byte (entry_text control code)) (list_all is_word_byte (flat_map after_space (map (entry_text control) codes))) (entry_bytes control code (fine_at control _ fine)) (behind_bytes control codes fine)
+    ∙ and_from (list_all is_word_byte (entry_text control code)) (list_all is_word_byte (flat_map after_space (map (entry_text control) codes))) (entry_bytes control code (fine_at control _ fine)) (after_bytes control codes fine)
 
 spaced_bytes : (control : List Action) (codes : List Code) → list_all is_fine control ≡ true
     → list_all is_word_byte (spaced (map (entry_text control) codes)) ≡ true
 spaced_bytes control [] fine = refl
 spaced_bytes control (code ∷ codes) fine =
     list_all-append is_word_byte (entry_text control code) (flat_map after_space (map (entry_text control) codes))
-    ∙ and_from (list_all is_word_byte (entry_text control code)) (list_all is_word_byte (flat_map after_space (map (entry_text control) codes))) (entry_bytes control code (fine_at control _ fine)) (behind_bytes control codes fine)
+    ∙ and_from (list_all is_word_byte (entry_text control code)) (list_all is_word_byte (flat_map after_space (map (entry_text control) codes))) (entry_bytes control code (fine_at control _ fine)) (after_bytes control codes fine)
 
 entries_bytes : (control : List Action) (codes : List Code) → list_all is_fine control ≡ true
     → list_all is_word_byte (spaced (entries_among control codes)) ≡ true

@@ -13,7 +13,7 @@ use Rattle.service_print.specs.declared.file.File.{File}
 use Rattle.service_print.specs.Printed.{numbered, subs_in, substack_files, all_substack_files}
 use Rattle.service_print.specs.Reload.{placed_file}
 use Rattle.service_print.proofs.Adding.{length-substack_files}
-use Rattle.service_print.proofs.Understood.{in_the_folder}
+use Rattle.service_print.proofs.Understood.{in_the_directory}
 
 -- ---- names
 
@@ -25,11 +25,11 @@ not_equal : (a b : List ℕ) → (a ≡ b → ⊥) → bytes_eq a b ≡ false
 not_equal a b other = elim (cases_Bool (bytes_eq a b)) [ inl y ↦ absurd (other ((bytes_eq-Decides a b).0 y)) | inr n ↦ n ]
 
 abbrev pub path_in : List ℕ → List ℕ → List ℕ
-path_in root name = path_of root (in_the_folder name)
+path_in root name = path_of root (in_the_directory name)
 
 paths_apart : (root a b : List ℕ) → (a ≡ b → ⊥) → path_in root a ≡ path_in root b → ⊥
 unfolding path_of
-paths_apart root a b other same = other (front_same (codes "/etc/pam.d/") a b (front_same (root_before root) (in_the_folder a) (in_the_folder b) same))
+paths_apart root a b other same = other (front_same (codes "/etc/pam.d/") a b (front_same (root_before root) (in_the_directory a) (in_the_directory b) same))
 
 pub found_first : (root : List ℕ) (file : File) (files : List File) → file_at (path_in root file.name) (map (placed_file root) (file ∷ files)) ≡ Some file.text
 found_first root file files = rw ((bytes_eq-Decides (path_in root file.name) (path_in root file.name)).1 refl) refl
@@ -84,7 +84,7 @@ all_numbered stack service number (type ∷ types) =
 -- each of these files is found under its name
 abbrev pub AllThere : (List ℕ → Option (List ℕ)) → List File → Type 0
 AllThere texts [] = Unit {0}
-AllThere texts (file ∷ files) = (texts (in_the_folder file.name) ≡ Some file.text) × AllThere texts files
+AllThere texts (file ∷ files) = (texts (in_the_directory file.name) ≡ Some file.text) × AllThere texts files
 
 abbrev pub texts_in : List ℕ → List File → List ℕ → Option (List ℕ)
 texts_in root files name = file_at (path_of root name) (map (placed_file root) files)
@@ -105,7 +105,7 @@ pub all_found : (root service : List ℕ) (number : ℕ) (all front files : List
     → Passed root service number front → Numbered service number files → AllThere (texts_in root all) files
 all_found root service number all front [] is few passed numbers = tt
 all_found root service number all front (file ∷ files) is few passed numbers =
-    let here : texts_in root all (in_the_folder file.name) ≡ Some file.text =
+    let here : texts_in root all (in_the_directory file.name) ≡ Some file.text =
     ap (λ (fs : List File). file_at (path_in root file.name) (map (placed_file root) fs)) is
     ∙ ap (λ (n : List ℕ). file_at (path_in root n) (map (placed_file root) (front ++ file ∷ files))) numbers.0
     ∙ passed number (file ∷ files) (omega arith) (omega arith)

@@ -28,7 +28,7 @@ use Rattle.control_words.specs.Keyword.{control_of_word, keyword_control as cont
 use Rattle.control_words.specs.Stack.{Stack, none, line, sub, joined}
 use Rattle.service_load.specs.declared.rule_type.RuleType.{RuleType}
 use Rattle.service_load.specs.Entry.{named_file, with_control, after_type, entry_at, with_type, entry_of}
-use Rattle.service_load.specs.Files.{plain_file, rule_without, own_rules, held_in_conf, held_for, held_answer, held_text, held, rules_held, is_in_folder}
+use Rattle.service_load.specs.Files.{plain_file, rule_without, own_rules, held_in_conf, held_for, held_answer, held_text, held, rules_held, is_in_directory}
 use Rattle.service_load.specs.RuleType.{is_word, type_field_of}
 use Rattle.service_load.specs.Tree.{serves, nodes}
 use Rattle.service_print.proofs.Actions.{is_fine}
@@ -160,13 +160,13 @@ Writes (a_line own rule) = IsWritable rule
 Writes meaning = Unit {0}
 
 -- what a rule means
-pub record Known (in_folder : Bool) (rule : RawRule) : Type 0 where
+pub record Known (in_directory : Bool) (rule : RawRule) : Type 0 where
   pub meaning : Meaning
-  pub meant : IsMeant in_folder rule meaning
+  pub meant : IsMeant in_directory rule meaning
   pub writes : Writes meaning
 
-at_fault : (in_folder : Bool) (rule : RawRule) (kind : FaultKind) → entry_of in_folder rule ≡ Err kind → Known in_folder rule
-at_fault in_folder rule kind read = record {
+at_fault : (in_directory : Bool) (rule : RawRule) (kind : FaultKind) → entry_of in_directory rule ≡ Err kind → Known in_directory rule
+at_fault in_directory rule kind read = record {
   meaning = nothing;
   meant = record {
     nodes = λ deeper type rules. rw read refl;
@@ -182,11 +182,11 @@ good_texts (token ∷ tokens) good =
     let parts = and_parts (is_good token) (list_all is_good tokens) good in
     and_from (can_stand token.text) (can_stand_all (map (λ (t : Token). t.text) tokens)) parts.0 (good_texts tokens parts.1)
 
-known_module : (in_folder : Bool) (rule : RawRule) (own : Option RuleType) (silent : Bool) (control : List Action) (tokens : List Token)
+known_module : (in_directory : Bool) (rule : RawRule) (own : Option RuleType) (silent : Bool) (control : List Action) (tokens : List Token)
     → IsControl control → list_all is_good tokens ≡ true
-    → entry_of in_folder rule ≡ entry_at rule.line own (with_control silent (Ok control) tokens) → Known in_folder rule
-known_module in_folder rule own silent control [] is good read = at_fault in_folder rule _ read
-known_module in_folder rule own silent control (token ∷ tokens) is good read =
+    → entry_of in_directory rule ≡ entry_at rule.line own (with_control silent (Ok control) tokens) → Known in_directory rule
+known_module in_directory rule own silent control [] is good read = at_fault in_directory rule _ read
+known_module in_directory rule own silent control (token ∷ tokens) is good read =
     let parts = and_parts (is_good token) (list_all is_good tokens) good in
     record {
       meaning = a_line own (record { silent = silent; control = control; path = token.text; args = map (λ (t : Token). t.text) tokens });
@@ -198,24 +198,24 @@ known_module in_folder rule own silent control (token ∷ tokens) is good read =
       writes = record { each = is.each; fine = is.fine; path = parts.0; args = good_texts tokens parts.1 };
     }
 
-known_control : (in_folder : Bool) (rule : RawRule) (own : Option RuleType) (silent bracketed : Bool) (text : List ℕ) (control : Result (List Action) ControlFault) (tokens : List Token)
+known_control : (in_directory : Bool) (rule : RawRule) (own : Option RuleType) (silent bracketed : Bool) (text : List ℕ) (control : Result (List Action) ControlFault) (tokens : List Token)
     → control_of bracketed text ≡ control
-    → list_all is_good tokens ≡ true → entry_of in_folder rule ≡ entry_at rule.line own (with_control silent control tokens) → Known in_folder rule
-known_control in_folder rule own silent bracketed text (Ok control) tokens reads good read = known_module in_folder rule own silent control tokens (control_read bracketed text control reads) good read
-known_control in_folder rule own silent bracketed text (Err why) tokens reads good read = at_fault in_folder rule _ read
+    → list_all is_good tokens ≡ true → entry_of in_directory rule ≡ entry_at rule.line own (with_control silent control tokens) → Known in_directory rule
+known_control in_directory rule own silent bracketed text (Ok control) tokens reads good read = known_module in_directory rule own silent control tokens (control_read bracketed text control reads) good read
+known_control in_directory rule own silent bracketed text (Err why) tokens reads good read = at_fault in_directory rule _ read
 
-known_type : (in_folder : Bool) (rule : RawRule) (own : Option RuleType) (silent : Bool) (tokens : List Token) → list_all is_good tokens ≡ true
-    → entry_of in_folder rule ≡ entry_at rule.line own (after_type silent tokens) → Known in_folder rule
-known_type in_folder rule own silent [] good read = at_fault in_folder rule _ read
-known_type in_folder rule own silent (token ∷ []) good read =
+known_type : (in_directory : Bool) (rule : RawRule) (own : Option RuleType) (silent : Bool) (tokens : List Token) → list_all is_good tokens ≡ true
+    → entry_of in_directory rule ≡ entry_at rule.line own (after_type silent tokens) → Known in_directory rule
+known_type in_directory rule own silent [] good read = at_fault in_directory rule _ read
+known_type in_directory rule own silent (token ∷ []) good read =
     elim (cases_Bool (is_word (codes "include") token)) [
-      | inl y ↦ at_fault in_folder rule MissingField (rw y at read)
+      | inl y ↦ at_fault in_directory rule MissingField (rw y at read)
       | inr n ↦ elim (cases_Bool (is_word (codes "substack") token)) [
-        | inl y ↦ at_fault in_folder rule MissingField (rw (n, y) at read)
-        | inr m ↦ known_control in_folder rule own silent token.bracketed token.text (control_of token.bracketed token.text) [] refl refl (rw (n, m) at read)
+        | inl y ↦ at_fault in_directory rule MissingField (rw (n, y) at read)
+        | inr m ↦ known_control in_directory rule own silent token.bracketed token.text (control_of token.bracketed token.text) [] refl refl (rw (n, m) at read)
       ]
     ]
-known_type in_folder rule own silent (token ∷ next ∷ more) good read =
+known_type in_directory rule own silent (token ∷ next ∷ more) good read =
     elim (cases_Bool (is_word (codes "include") token)) [
       | inl y ↦
           (let says = rw y at read in
@@ -240,14 +240,14 @@ known_type in_folder rule own silent (token ∷ next ∷ more) good read =
               };
               writes = tt;
             })
-        | inr m ↦ known_control in_folder rule own silent token.bracketed token.text (control_of token.bracketed token.text) (next ∷ more) refl (and_parts (is_good token) (list_all is_good (next ∷ more)) good).1 (rw (n, m) at read)
+        | inr m ↦ known_control in_directory rule own silent token.bracketed token.text (control_of token.bracketed token.text) (next ∷ more) refl (and_parts (is_good token) (list_all is_good (next ∷ more)) good).1 (rw (n, m) at read)
       ]
     ]
 
-known_field : (in_folder : Bool) (rule : RawRule) (token : Token) (tokens : List Token) (field : Option _) → list_all is_good tokens ≡ true
-    → entry_of in_folder rule ≡ with_type rule.line field tokens → Known in_folder rule
-known_field in_folder rule token tokens None good read = at_fault in_folder rule _ read
-known_field in_folder rule token tokens (Some field) good read = known_type in_folder rule (Some field.rule_type) field.silent tokens good read
+known_field : (in_directory : Bool) (rule : RawRule) (token : Token) (tokens : List Token) (field : Option _) → list_all is_good tokens ≡ true
+    → entry_of in_directory rule ≡ with_type rule.line field tokens → Known in_directory rule
+known_field in_directory rule token tokens None good read = at_fault in_directory rule _ read
+known_field in_directory rule token tokens (Some field) good read = known_type in_directory rule (Some field.rule_type) field.silent tokens good read
 
 -- Debian's addition
 known_debian : (rule : RawRule) (tokens : List Token) → list_all is_good tokens ≡ true → (token : Token) → rule.tokens ≡ token ∷ tokens
@@ -266,7 +266,7 @@ known_debian rule (next ∷ more) good token is word = record {
   writes = tt;
 }
 
-known_tokens : (in_folder : Bool) (rule : RawRule) (tokens : List Token) → rule.tokens ≡ tokens → list_all is_good tokens ≡ true → Known in_folder rule
+known_tokens : (in_directory : Bool) (rule : RawRule) (tokens : List Token) → rule.tokens ≡ tokens → list_all is_good tokens ≡ true → Known in_directory rule
 unfolding entry_of
 known_tokens true rule [] is good = at_fault true rule MissingField (rw is refl)
 known_tokens false rule [] is good = at_fault false rule MissingField (rw is refl)
@@ -277,8 +277,8 @@ known_tokens true rule (token ∷ tokens) is good =
       | inr n ↦ known_field true rule token tokens (type_field_of token) (and_parts (is_good token) (list_all is_good tokens) good).1 (rw (is, n) refl)
     ]
 
-pub known : (in_folder : Bool) (rule : RawRule) → good_rule rule ≡ true → Known in_folder rule
-known in_folder rule good = known_tokens in_folder rule rule.tokens refl good
+pub known : (in_directory : Bool) (rule : RawRule) → good_rule rule ≡ true → Known in_directory rule
+known in_directory rule good = known_tokens in_directory rule rule.tokens refl good
 
 -- ---- files
 
@@ -332,18 +332,18 @@ meant_writable deeper each type (an_include own file) writes = elim (serves type
 meant_writable deeper each type (a_substack own file) writes = elim (serves type own) as (λ (b : Bool). AllWritable (cond b (sub (deeper file) none) none)) [ true ↦ (each file, tt) | false ↦ tt ]
 
 rules_writable : (deeper : List ℕ → Stack) → ((name : List ℕ) → AllWritable (deeper name))
-    → (in_folder : Bool) (type : RuleType) (rules : List RawRule) → list_all good_rule rules ≡ true
-    → AllWritable (nodes_from deeper in_folder type rules)
-rules_writable deeper each in_folder type [] good = tt
-rules_writable deeper each in_folder type (rule ∷ rules) good =
+    → (in_directory : Bool) (type : RuleType) (rules : List RawRule) → list_all good_rule rules ≡ true
+    → AllWritable (nodes_from deeper in_directory type rules)
+rules_writable deeper each in_directory type [] good = tt
+rules_writable deeper each in_directory type (rule ∷ rules) good =
     let parts = and_parts (good_rule rule) (list_all good_rule rules) good in
-    let is = known in_folder rule parts.0 in
+    let is = known in_directory rule parts.0 in
     subst AllWritable (sym (is.meant.nodes deeper type rules))
-    (joined_writable (meant_nodes deeper type is.meaning) (nodes_from deeper in_folder type rules) (meant_writable deeper each type is.meaning is.writes) (rules_writable deeper each in_folder type rules parts.1))
+    (joined_writable (meant_nodes deeper type is.meaning) (nodes_from deeper in_directory type rules) (meant_writable deeper each type is.meaning is.writes) (rules_writable deeper each in_directory type rules parts.1))
 
 -- the lines of a file can be printed
 pub nodes_writable : Reading → (texts : List ℕ → Option (List ℕ)) (levels : ℕ) (type : RuleType) (file : _) → AllWritable (nodes texts levels type file)
 unfolding nodes
 nodes_writable reading texts zero type file = tt
 nodes_writable reading texts (suc levels) type file =
-    rules_writable (λ name. nodes texts levels type (plain_file name)) (λ name. nodes_writable reading texts levels type (plain_file name)) (is_in_folder file) type (rules_held (held texts file)) (held_good reading file.service (texts file.name))
+    rules_writable (λ name. nodes texts levels type (plain_file name)) (λ name. nodes_writable reading texts levels type (plain_file name)) (is_in_directory file) type (rules_held (held texts file)) (held_good reading file.service (texts file.name))

@@ -6,13 +6,13 @@ use Rattle.std.proofs.lemmas.Grind.{flat_map-append}
 use Rattle.std.proofs.lemmas.List.Folds.{list_all-append, list_any-append}
 use Rattle.conf_lex.specs.declared.token.Token.{Token}
 use Rattle.conf_lex.specs.declared.token.RawRule.{RawRule}
-use Rattle.conf_lex.specs.Piece.{Piece, white, newline, piece_bytes, piece_tokens, spelling, tokens_of, is_newline, is_open, stands, all_stand, goes_on, join_after_backslash, IsReading}
+use Rattle.conf_lex.specs.Piece.{Piece, white, newline, piece_bytes, piece_tokens, spelling, tokens_of, is_newline, is_open, may_precede, all_may_precede, goes_on, join_after_backslash, IsReading}
 use Rattle.conf_lex.specs.Reading.{pieces_of}
 use Rattle.conf_lex.specs.Rules.{newlines, lines_of_pieces, numbered, line_rules, line_fault, first_fault}
 use Rattle.conf_lex.specs.Lexing.{nul_line, answer_at}
 use Rattle.conf_lex.specs.Answer.{answer_to}
 use Rattle.service_print.specs.Tokens.{after_space, spaced, escaped_byte, in_brackets, ends_in, ended, text_of}
-use Rattle.service_print.proofs.Spelled.{last_is, ends_in-last, is_inner, is_plain, is_sound, is_plain_text, is_inner_text, plain_parts, written, fields_text, field_pieces, behind_pieces, field_pieces-bytes, field_pieces-tokens, behind_pieces-within, behind_pieces-closed, fields_stand, piece_of, piece_of-within, piece_of-closed}
+use Rattle.service_print.proofs.Spelled.{last_is, ends_in-last, is_inner, is_plain, is_sound, is_plain_text, is_inner_text, plain_parts, written, fields_text, field_pieces, after_pieces, field_pieces-bytes, field_pieces-tokens, after_pieces-within, after_pieces-closed, fields_stand, piece_of, piece_of-within, piece_of-closed}
 
 -- ---- every byte of a line
 
@@ -45,20 +45,20 @@ choice_all test passes false text all = all
 abbrev pub all_bytes : (ℕ → Bool) → Token → Bool
 all_bytes test token = list_all test token.text
 
-behind_all : (test : ℕ → Bool) → Passes test → (tokens : List Token) → list_all (all_bytes test) tokens ≡ true
+past_all : (test : ℕ → Bool) → Passes test → (tokens : List Token) → list_all (all_bytes test) tokens ≡ true
     → list_all test (flat_map after_space (map written tokens)) ≡ true
-behind_all test passes [] all = refl
-behind_all test passes (token ∷ tokens) all =
+past_all test passes [] all = refl
+past_all test passes (token ∷ tokens) all =
     let parts = and_parts (all_bytes test token) (list_all (all_bytes test) tokens) all in
     and_from (test 32) (list_all test (written token ++ flat_map after_space (map written tokens))) passes.space
-    (list_all-append test (written token) (flat_map after_space (map written tokens)) ∙ and_from (list_all test (written token)) (list_all test (flat_map after_space (map written tokens))) (choice_all test passes token.bracketed token.text parts.0) (behind_all test passes tokens parts.1))
+    (list_all-append test (written token) (flat_map after_space (map written tokens)) ∙ and_from (list_all test (written token)) (list_all test (flat_map after_space (map written tokens))) (choice_all test passes token.bracketed token.text parts.0) (past_all test passes tokens parts.1))
 
 fields_all : (test : ℕ → Bool) → Passes test → (token : Token) (tokens : List Token) → list_all (all_bytes test) (token ∷ tokens) ≡ true
     → list_all test (fields_text token tokens) ≡ true
 fields_all test passes token tokens all =
     let parts = and_parts (all_bytes test token) (list_all (all_bytes test) tokens) all in
     list_all-append test (written token) (flat_map after_space (map written tokens))
-    ∙ and_from (list_all test (written token)) (list_all test (flat_map after_space (map written tokens))) (choice_all test passes token.bracketed token.text parts.0) (behind_all test passes tokens parts.1)
+    ∙ and_from (list_all test (written token)) (list_all test (flat_map after_space (map written tokens))) (choice_all test passes token.bracketed token.text parts.0) (past_all test passes tokens parts.1)
 
 -- ---- lines
 
@@ -125,24 +125,24 @@ body_pieces-within : (fields : Fields) → list_any is_newline (body_pieces fiel
 body_pieces-within fields =
     list_any-append is_newline (field_pieces fields.first fields.more) (space_piece (ends_in 92 (line_text fields)))
     ∙ or_from (list_any is_newline (field_pieces fields.first fields.more)) (list_any is_newline (space_piece (ends_in 92 (line_text fields))))
-    (or_from (is_newline (piece_of fields.first)) (list_any is_newline (behind_pieces fields.more)) (piece_of-within fields.first) (behind_pieces-within fields.more))
+    (or_from (is_newline (piece_of fields.first)) (list_any is_newline (after_pieces fields.more)) (piece_of-within fields.first) (after_pieces-within fields.more))
     (space_piece-within (ends_in 92 (line_text fields)))
 
 body_pieces-closed : (fields : Fields) → list_any is_open (body_pieces fields) ≡ false
 body_pieces-closed fields =
     list_any-append is_open (field_pieces fields.first fields.more) (space_piece (ends_in 92 (line_text fields)))
     ∙ or_from (list_any is_open (field_pieces fields.first fields.more)) (list_any is_open (space_piece (ends_in 92 (line_text fields))))
-    (or_from (is_open (piece_of fields.first)) (list_any is_open (behind_pieces fields.more)) (piece_of-closed fields.first) (behind_pieces-closed fields.more))
+    (or_from (is_open (piece_of fields.first)) (list_any is_open (after_pieces fields.more)) (piece_of-closed fields.first) (after_pieces-closed fields.more))
     (space_piece-closed (ends_in 92 (line_text fields)))
 
 -- ---- pieces that are whole
 
-stand-append : (ps qs : List Piece) (rest : List ℕ) → all_stand ps (spelling qs ++ rest) ≡ true → all_stand qs rest ≡ true → all_stand (ps ++ qs) rest ≡ true
+stand-append : (ps qs : List Piece) (rest : List ℕ) → all_may_precede ps (spelling qs ++ rest) ≡ true → all_may_precede qs rest ≡ true → all_may_precede (ps ++ qs) rest ≡ true
 stand-append [] qs rest one other = other
 stand-append (p ∷ ps) qs rest one other =
-    let parts = and_parts (stands p (spelling ps ++ (spelling qs ++ rest))) (all_stand ps (spelling qs ++ rest)) one in
+    let parts = and_parts (may_precede p (spelling ps ++ (spelling qs ++ rest))) (all_may_precede ps (spelling qs ++ rest)) one in
     let same : spelling (ps ++ qs) ++ rest ≡ spelling ps ++ (spelling qs ++ rest) = ap (λ (t : List ℕ). t ++ rest) (flat_map-append piece_bytes ps qs) ∙ append_assoc (spelling ps) (spelling qs) rest in
-    and_from (stands p (spelling (ps ++ qs) ++ rest)) (all_stand (ps ++ qs) rest) (ap (stands p) same ∙ parts.0) (stand-append ps qs rest parts.1 other)
+    and_from (may_precede p (spelling (ps ++ qs) ++ rest)) (all_may_precede (ps ++ qs) rest) (ap (may_precede p) same ∙ parts.0) (stand-append ps qs rest parts.1 other)
 
 -- whether the tokens of a line read back as they are written
 abbrev pub is_sound_line : Fields → Bool
@@ -151,9 +151,9 @@ is_sound_line fields = is_sound fields.first && list_all is_sound fields.more
 abbrev end_pieces : Bool → List Piece
 end_pieces spaced = space_piece spaced ++ newline ∷ []
 
-end_stands : (spaced : Bool) (rest : List ℕ) → all_stand (end_pieces spaced) rest ≡ true
-end_stands true rest = refl
-end_stands false rest = refl
+end_adds_its_event : (spaced : Bool) (rest : List ℕ) → all_may_precede (end_pieces spaced) rest ≡ true
+end_adds_its_event true rest = refl
+end_adds_its_event false rest = refl
 
 end_ends : (spaced : Bool) (rest : List ℕ) → goes_on (spelling (end_pieces spaced) ++ rest) ≡ false
 end_ends true rest = refl
@@ -163,15 +163,15 @@ end_apart : (spaced : Bool) (rest : List ℕ) → spaced ≡ true → join_after
 end_apart true rest is = refl
 end_apart false rest is = absurd cc
 
-line_stands : (fields : Fields) (rest : List ℕ) → is_sound_line fields ≡ true → all_stand (body_pieces fields ++ newline ∷ []) rest ≡ true
+line_stands : (fields : Fields) (rest : List ℕ) → is_sound_line fields ≡ true → all_may_precede (body_pieces fields ++ newline ∷ []) rest ≡ true
 line_stands fields rest sound =
     let parts = and_parts (is_sound fields.first) (list_all is_sound fields.more) sound in
     let spaced = ends_in 92 (line_text fields) in
     let whole = stand-append (field_pieces fields.first fields.more) (end_pieces spaced) rest
     (fields_stand fields.first fields.more (spelling (end_pieces spaced) ++ rest) parts.0 parts.1 (end_ends spaced rest) (λ y. end_apart spaced rest (ends_in-last (line_text fields) ∙ y)))
-    (end_stands spaced rest)
+    (end_adds_its_event spaced rest)
     in
-    ap (λ (ps : List Piece). all_stand ps rest) (append_assoc (field_pieces fields.first fields.more) (space_piece spaced) (newline ∷ [])) ∙ whole
+    ap (λ (ps : List Piece). all_may_precede ps rest) (append_assoc (field_pieces fields.first fields.more) (space_piece spaced) (newline ∷ [])) ∙ whole
 
 -- ---- texts
 
@@ -189,7 +189,7 @@ text_spelled (fields ∷ lines) =
     ended-closed (line_text fields) ∙ ap (λ (t : List ℕ). t ++ 10 ∷ []) (sym (body_pieces-bytes fields)) ∙ sym (flat_map-append piece_bytes (body_pieces fields) (newline ∷ [])) in
     rw (here, text_spelled lines) (sym (flat_map-append piece_bytes (body_pieces fields ++ newline ∷ []) (text_pieces lines)))
 
-text_stands : (lines : List Fields) → list_all is_sound_line lines ≡ true → all_stand (text_pieces lines) [] ≡ true
+text_stands : (lines : List Fields) → list_all is_sound_line lines ≡ true → all_may_precede (text_pieces lines) [] ≡ true
 text_stands [] sound = refl
 text_stands (fields ∷ lines) sound =
     let parts = and_parts (is_sound_line fields) (list_all is_sound_line lines) sound in

@@ -8,7 +8,7 @@ use Rattle.service_load.specs.declared.rule_type.RuleType.{RuleType}
 use Rattle.service_load.specs.declared.rule_type.RuleType.TheVariants.{Auth, Account, Password, Session}
 use Rattle.service_load.specs.Files.{service_file}
 use Rattle.service_load.specs.FirstFault.{Counts, look}
-use Rattle.service_load.specs.Load.{has_folder, loaded_from}
+use Rattle.service_load.specs.Load.{directory_exists, loaded_from}
 use Rattle.service_load.specs.Loading.{texts_of}
 use Rattle.service_load.specs.Order.{tree_items, order}
 use Rattle.service_load.specs.RuleType.{all_types}
@@ -78,24 +78,24 @@ pub record IsLoadable (stack : RuleType → Stack) : Type 0 where
   pub few : openings_of stack all_types ≤ 256
 
 looked_loadable : Reading
-    → (texts : List ℕ → Option (List ℕ)) (fails : List ℕ) (in_folder : Bool) (service : List ℕ) (calls : ℕ) (counts : Counts) (stack : RuleType → Stack)
-    → look texts fails (record { calls = calls; openings = 0; lines = 0 }) (order texts in_folder service) ≡ Ok counts → ((type : RuleType) → tree texts in_folder service type ≡ stack type) → IsLoadable stack
-looked_loadable reading texts fails in_folder service calls counts stack looked same =
-    let own = service_file in_folder service in
-    let other = service_file in_folder (codes "other") in
+    → (texts : List ℕ → Option (List ℕ)) (fails : List ℕ) (in_directory : Bool) (service : List ℕ) (calls : ℕ) (counts : Counts) (stack : RuleType → Stack)
+    → look texts fails (record { calls = calls; openings = 0; lines = 0 }) (order texts in_directory service) ≡ Ok counts → ((type : RuleType) → tree texts in_directory service type ≡ stack type) → IsLoadable stack
+looked_loadable reading texts fails in_directory service calls counts stack looked same =
+    let own = service_file in_directory service in
+    let other = service_file in_directory (codes "other") in
     let start : Counts = record { calls = calls; openings = 0; lines = 0 } in
     let all = trees_bring reading texts fails own other all_types start counts looked in
     let few = all.few (omega arith) in
     record {
       printable = record {
         writable = λ type. subst AllWritable (same type) (tree_writable reading texts own other type);
-        deep = λ type. subst (λ (s : Stack). depth s ≤ 16) (same type) (bounded_depth (tree texts in_folder service) all.bounded type);
-        few = λ type. subst (λ (s : Stack). lines_in s ≤ 4096) (same type) (bounded_lines (tree texts in_folder service) all.bounded type);
+        deep = λ type. subst (λ (s : Stack). depth s ≤ 16) (same type) (bounded_depth (tree texts in_directory service) all.bounded type);
+        few = λ type. subst (λ (s : Stack). lines_in s ≤ 4096) (same type) (bounded_lines (tree texts in_directory service) all.bounded type);
       };
-      few = omega (arith, all.openings, few, same_openings (tree texts in_folder service) stack all_types same);
+      few = omega (arith, all.openings, few, same_openings (tree texts in_directory service) stack all_types same);
     }
 
 pub loadable : Reading → (vault : VaultState) (root service : List ℕ) (stack : RuleType → Stack) → LoadsTo vault root service stack → IsLoadable stack
 loadable reading vault root service stack is =
-    let parts = past (is_failing vault) _ (loaded_from (has_folder vault root) vault root service _) is.counts is.no_fault in
-    looked_loadable reading (texts_of root vault) vault.fails (has_folder vault root) service _ is.counts stack parts.1 is.stacks
+    let parts = past (is_failing vault) _ (loaded_from (directory_exists vault root) vault root service _) is.counts is.no_fault in
+    looked_loadable reading (texts_of root vault) vault.fails (directory_exists vault root) service _ is.counts stack parts.1 is.stacks

@@ -37,15 +37,15 @@ meant_items texts levels type name number (a_substack own file) = cond (serves t
 
 -- the nodes of some rules, and what a load meets by them
 abbrev pub nodes_from : (List ℕ → Stack) → Bool → RuleType → List RawRule → Stack
-nodes_from deeper in_folder type rules = nodes_of deeper type (entries_of in_folder rules)
+nodes_from deeper in_directory type rules = nodes_of deeper type (entries_of in_directory rules)
 
 abbrev pub items_from : (List ℕ → Option (List ℕ)) → ℕ → Bool → RuleType → List ℕ → List RawRule → List Item
-items_from texts levels in_folder type name rules = items_of (items texts levels type) type name (entries_of in_folder rules)
+items_from texts levels in_directory type name rules = items_of (items texts levels type) type name (entries_of in_directory rules)
 
 -- a rule has this meaning
-pub record IsMeant (in_folder : Bool) (rule : RawRule) (meaning : Meaning) : Type 0 where
+pub record IsMeant (in_directory : Bool) (rule : RawRule) (meaning : Meaning) : Type 0 where
   pub nodes : (deeper : List ℕ → Stack) (type : RuleType) (rules : List RawRule)
-      → nodes_from deeper in_folder type (rule ∷ rules) ≡ joined (meant_nodes deeper type meaning) (nodes_from deeper in_folder type rules)
+      → nodes_from deeper in_directory type (rule ∷ rules) ≡ joined (meant_nodes deeper type meaning) (nodes_from deeper in_directory type rules)
   pub items : (texts : List ℕ → Option (List ℕ)) (levels : ℕ) (type : RuleType) (name : List ℕ) (rules : List RawRule)
-      → items_from texts levels in_folder type name (rule ∷ rules) ≡ meant_items texts levels type name rule.line meaning ++ items_from texts levels in_folder type name rules
-  pub fine : is_ok (entry_of in_folder rule) ≡ is_meant meaning
+      → items_from texts levels in_directory type name (rule ∷ rules) ≡ meant_items texts levels type name rule.line meaning ++ items_from texts levels in_directory type name rules
+  pub fine : is_ok (entry_of in_directory rule) ≡ is_meant meaning

@@ -11,13 +11,13 @@ use Rattle.std.proofs.Math.Seq.{take-append_seam}
 use Rattle.pam_base.specs.Bytes.{has_byte}
 use Rattle.pam_base.specs.Counts.{next_count, fails_next}
 use Rattle.pam_base.specs.ServiceName.{is_name_byte, is_service_name}
-use Rattle.pam_outside.specs.Files.{VaultState, file_at, is_below, is_folder, is_failing}
+use Rattle.pam_outside.specs.Files.{VaultState, file_at, is_below, is_directory, is_failing}
 use Rattle.pam_outside.specs.Files.{File as VaultFile}
 use Rattle.control_words.specs.Stack.{Stack}
 use Rattle.service_load.specs.declared.rule_type.RuleType.{RuleType}
-use Rattle.service_load.specs.Entry.{folder_name}
+use Rattle.service_load.specs.Entry.{directory_name}
 use Rattle.service_load.specs.FirstFault.{Counts, look}
-use Rattle.service_load.specs.Load.{has_folder, loaded}
+use Rattle.service_load.specs.Load.{directory_exists, loaded}
 use Rattle.service_load.specs.Loading.{texts_of}
 use Rattle.pam_outside.specs.Paths.{root_before, path_of}
 use Rattle.service_load.specs.Order.{order}
@@ -28,7 +28,7 @@ use Rattle.service_print.specs.Printed.{numbered, subs_in, substack_files, all_l
 use Rattle.service_print.specs.Reload.{LoadsTo, placed_file, HoldsJust, is_short, IsLowerName}
 use Rattle.service_print.proofs.Adding.{length-substack_files}
 use Rattle.service_print.proofs.Lexed.{OneReading}
-use Rattle.service_print.proofs.Understood.{IsServiceName, in_the_folder}
+use Rattle.service_print.proofs.Understood.{IsServiceName, in_the_directory}
 use Rattle.service_print.proofs.Found.{path_in, found_first, found_later, service_apart, Numbered, all_numbered, AllThere, texts_in, all_found}
 use Rattle.service_print.proofs.Segments.{short_file, stack_files_stand, all_fields, all_meanings, all_subs, service_lines, service_meant, part_of}
 use Rattle.service_print.proofs.Returned.{IsPrintable, openings_of, Stands, tree_is, pass_order}
@@ -121,12 +121,12 @@ below_by folder path rest is =
     let front : take (length needle) path ≡ needle = ap (take (length needle)) is ∙ take-append_seam needle rest in
     ap (pointwise nat_eq needle) front ∙ pointwise_self needle
 
-folder_there : (root : List ℕ) (file : File) (files : List File) → is_folder (path_of root folder_name) (map (placed_file root) (file ∷ files)) ≡ true
+directory_there : (root : List ℕ) (file : File) (files : List File) → is_directory (path_of root directory_name) (map (placed_file root) (file ∷ files)) ≡ true
 unfolding path_of
-folder_there root file files =
-    let path : path_of root (in_the_folder file.name) ≡ (path_of root folder_name ++ codes "/") ++ file.name =
-    sym (append_assoc (path_of root folder_name) (codes "/") file.name ∙ append_assoc (root_before root) folder_name (codes "/" ++ file.name)) in
-    or_left (is_below (path_of root folder_name) (path_of root (in_the_folder file.name))) (is_folder (path_of root folder_name) (map (placed_file root) files)) (below_by (path_of root folder_name) (path_of root (in_the_folder file.name)) file.name path)
+directory_there root file files =
+    let path : path_of root (in_the_directory file.name) ≡ (path_of root directory_name ++ codes "/") ++ file.name =
+    sym (append_assoc (path_of root directory_name) (codes "/") file.name ∙ append_assoc (root_before root) directory_name (codes "/" ++ file.name)) in
+    or_left (is_below (path_of root directory_name) (path_of root (in_the_directory file.name))) (is_directory (path_of root directory_name) (map (placed_file root) files)) (below_by (path_of root directory_name) (path_of root (in_the_directory file.name)) file.name path)
 
 -- ---- the load
 
@@ -134,7 +134,7 @@ no_failing : (calls : ℕ) (fails : List ℕ) → fails ≡ [] → fails_next ca
 no_failing calls fails none = rw none (and_right _ false refl)
 
 loaded_by : (vault : VaultState) (root service : List ℕ) (texts : List ℕ → Option (List ℕ)) (counts : Counts) → is_failing vault ≡ false
-    → has_folder vault root ≡ true → texts_of root vault ≡ texts → vault.fails ≡ []
+    → directory_exists vault root ≡ true → texts_of root vault ≡ texts → vault.fails ≡ []
     → look texts [] (record { calls = next_count vault.calls; openings = 0; lines = 0 }) (order texts true service) ≡ Ok counts → loaded vault root service ≡ Ok counts
 loaded_by vault root service texts counts works folder same no_fails looked =
     let start : Counts = record { calls = next_count vault.calls; openings = 0; lines = 0 } in
@@ -153,13 +153,13 @@ loads_to only stack vault root service is few name lower files no_fails short =
     let texts = texts_in root (first ∷ subs) in
     let stands = stands_in only root service stack name is few short in
     let same : texts_of root vault ≡ texts = ap (λ (fs : List VaultFile). λ (n : List ℕ). file_at (path_of root n) fs) files in
-    let folder : has_folder vault root ≡ true = ap (is_folder (path_of root folder_name)) files ∙ folder_there root first subs in
+    let folder : directory_exists vault root ≡ true = ap (is_directory (path_of root directory_name)) files ∙ directory_there root first subs in
     let looked = pass_order texts service stack stands is lower few (next_count vault.calls) in
     record {
       counts = looked.0;
       no_fault = loaded_by vault root service texts looked.0 (no_failing vault.calls vault.fails no_fails) folder same no_fails looked.1;
       stacks = λ type.
-          ap (λ (t : List ℕ → Option (List ℕ)). tree t (has_folder vault root) service type) same
+          ap (λ (t : List ℕ → Option (List ℕ)). tree t (directory_exists vault root) service type) same
           ∙ ap (λ (b : Bool). tree texts b service type) folder
           ∙ tree_is texts service stack stands is lower type;
     }

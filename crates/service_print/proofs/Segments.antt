@@ -18,7 +18,7 @@ use Rattle.service_print.specs.Reload.{is_short}
 use Rattle.service_print.proofs.Spelled.{is_inner}
 use Rattle.service_print.proofs.Lexed.{Fields, tokens_in, line_text, lines_text, closed_line, ended-closed, closed_all, inner_passes, all_sound_inner, is_sound_line, is_short_line, OneReading}
 use Rattle.service_print.proofs.Meant.{Meaning, is_meant, meant_nodes, meant_items}
-use Rattle.service_print.proofs.Understood.{AllWritable, IsServiceName, in_the_folder}
+use Rattle.service_print.proofs.Understood.{AllWritable, IsServiceName, in_the_directory}
 use Rattle.service_print.proofs.Stacked.{fields_from, meanings_from, AreLines, stack_lines, lines-append, stack_meant, meanings_nodes, meanings_items, lines_sound, lines_text_is, IsFile, is_file}
 use Rattle.service_print.proofs.Standing.{Stand}
 use Rattle.service_print.proofs.Found.{AllThere, there-parts}
@@ -51,12 +51,12 @@ lines_short (f ∷ fs) sound short =
 -- a file of such lines, if it exists and is short
 pub short_file : OneReading → (texts : List ℕ → Option (List ℕ)) (file : File) (fs : List Fields) (ts : List (List ℕ)) (ms : List Meaning)
     → AreLines fs ts ms → list_all is_meant ms ≡ true → file.text ≡ text_of ts
-    → is_short file ≡ true → texts (in_the_folder file.name) ≡ Some file.text → IsFile texts (in_the_folder file.name) ms
+    → is_short file ≡ true → texts (in_the_directory file.name) ≡ Some file.text → IsFile texts (in_the_directory file.name) ms
 short_file only texts file fs ts ms are meant text short there =
     let parts = and_parts (nat_le (length file.text) 65536) (list_all is_short_text (lines_of file.text)) short in
     let same : file.text ≡ lines_text fs = text ∙ sym (lines_text_is fs ts ms are) in
     let lines : list_all is_short_text (lines_of (lines_text fs)) ≡ true = ap (λ (t : List ℕ). list_all is_short_text (lines_of t)) (sym same) ∙ parts.1 in
-    is_file only texts (in_the_folder file.name) fs ts ms are meant (lines_short fs (lines_sound fs ts ms are) lines) (subst (λ (t : List ℕ). length t ≤ 65536) text (leb-true (length file.text) 65536 parts.0)) (there ∙ ap Some text)
+    is_file only texts (in_the_directory file.name) fs ts ms are meant (lines_short fs (lines_sound fs ts ms are) lines) (subst (λ (t : List ℕ). length t ≤ 65536) text (leb-true (length file.text) 65536 parts.0)) (there ∙ ap Some text)
 
 -- ---- the files of the substacks
 
@@ -68,10 +68,10 @@ stack_files_stand only texts type service number none is writable few there shor
 stack_files_stand only texts type service number (line rule rest) is writable few there short = stack_files_stand only texts type service number rest is writable.1 few there short
 stack_files_stand only texts type service number (sub inner rest) is writable few there short =
     let within = substack_files service type (number + 1) inner in
-    let behind = substack_files service type (number + 1 + subs_in inner) rest in
-    let theres = there-parts texts within behind there.1 in
-    let first = and_parts (is_short (substack_file service type number inner)) (list_all is_short (within ++ behind)) short in
-    let shorts = and_parts (list_all is_short within) (list_all is_short behind) (sym (list_all-append is_short within behind) ∙ first.1) in (
+    let past_end = substack_files service type (number + 1 + subs_in inner) rest in
+    let theres = there-parts texts within past_end there.1 in
+    let first = and_parts (is_short (substack_file service type number inner)) (list_all is_short (within ++ past_end)) short in
+    let shorts = and_parts (list_all is_short within) (list_all is_short past_end) (sym (list_all-append is_short within past_end) ∙ first.1) in (
       short_file only texts (substack_file service type number inner) (fields_from type service (number + 1) inner) (list_lines service type (number + 1) inner) (meanings_from type service (number + 1) inner)
           (stack_lines type service (number + 1) inner is writable.0 (omega arith)) (stack_meant type service (number + 1) inner) refl first.0 there.0,
       stack_files_stand only texts type service (number + 1) inner is writable.0 (omega arith) theres.0 shorts.0,
@@ -143,8 +143,8 @@ items-append : (texts : List ℕ → Option (List ℕ)) (levels : ℕ) (type : R
     → meanings_items texts levels type name first (ms ++ ns) ≡ meanings_items texts levels type name first ms ++ meanings_items texts levels type name (first + length ms) ns
 items-append texts levels type name first [] ns = ap (λ n. meanings_items texts levels type name n ns) (sym (add-zero first))
 items-append texts levels type name first (m ∷ ms) ns =
-    let behind : first + 1 + length ms ≡ first + length (m ∷ ms) = omega arith in
-    ap (λ (is : List Item). meant_items texts levels type name first m ++ is) (items-append texts levels type name (first + 1) ms ns ∙ ap (λ n. meanings_items texts levels type name (first + 1) ms ++ meanings_items texts levels type name n ns) behind)
+    let past_end : first + 1 + length ms ≡ first + length (m ∷ ms) = omega arith in
+    ap (λ (is : List Item). meant_items texts levels type name first m ++ is) (items-append texts levels type name (first + 1) ms ns ∙ ap (λ n. meanings_items texts levels type name (first + 1) ms ++ meanings_items texts levels type name n ns) past_end)
     ∙ sym (append_assoc (meant_items texts levels type name first m) (meanings_items texts levels type name (first + 1) ms) (meanings_items texts levels type name (first + length (m ∷ ms)) ns))
 
 -- ---- the part of a type
@@ -220,12 +220,12 @@ module _ (stack : RuleType → Stack) (service : List ℕ) where
         start = part.start;
         nodes = λ deeper. nodes-append deeper own here later ∙ ap (λ (s : Stack). joined s (meanings_nodes deeper own later)) (foreign_nodes deeper own type service number (stack type) other) ∙ part.nodes deeper;
         items = λ texts levels name first.
-            let behind = part.items texts levels name (first + length here) in
+            let past_end = part.items texts levels name (first + length here) in
             record {
-              first = behind.first;
+              first = past_end.first;
               same = items-append texts levels own name first here later
                   ∙ ap (λ (is : List Item). is ++ meanings_items texts levels own name (first + length here) later) (foreign_items texts levels own type name first service number (stack type) other)
-                  ∙ behind.same;
+                  ∙ past_end.same;
             };
         within = omega (arith, part.within);
         there = λ texts all. part.there texts (there-parts texts files more all).1;

@@ -4,7 +4,7 @@ use Rattle.std.specs.List.{flat_map, list_all, list_any}
 use Rattle.std.proofs.lemmas.Bool.{cases_Bool, not_from_false, cond-false, false≢true, both_ways, not-true, or_parts, and_parts, and_from, eqb-true}
 use Rattle.pam_base.specs.White.{is_white}
 use Rattle.conf_lex.specs.declared.token.Token.{Token}
-use Rattle.conf_lex.specs.Piece.{return_feed, BracketUnit, escaped, single, unit_bytes, unit_text, unit_stands, units_bytes, units_text, units_stand, Piece, plain, bracket, white, piece_bytes, piece_tokens, spelling, tokens_of, begins_with, join_after_backslash, begins_join, is_single, goes_on, all_go_on, stands, all_stand, is_newline, is_open}
+use Rattle.conf_lex.specs.Piece.{return_feed, BracketUnit, escaped, single, unit_bytes, unit_text, unit_may_precede, units_bytes, units_text, units_may_precede, Piece, plain, bracket, white, piece_bytes, piece_tokens, spelling, tokens_of, begins_with, join_after_backslash, begins_join, is_single, goes_on, all_go_on, may_precede, all_may_precede, is_newline, is_open}
 use Rattle.service_print.specs.Tokens.{after_space, spaced, escaped_byte, in_brackets, ends_in}
 
 -- ---- the last byte
@@ -141,17 +141,17 @@ single_by b more no_bracket no_newline next =
       | inr m ↦ rw (no_bracket, no_newline, m) refl
     ]
 
-unit_stands_by : (b : ℕ) (more : List ℕ) → is_inner b ≡ true → (eqb b 92 ≡ true → IsNext more) → unit_stands (unit_of b) more ≡ true
+unit_stands_by : (b : ℕ) (more : List ℕ) → is_inner b ≡ true → (eqb b 92 ≡ true → IsNext more) → unit_may_precede (unit_of b) more ≡ true
 unit_stands_by b more is next =
-    elim (cases_Bool (eqb b 93)) [ inl y ↦ rw y refl | inr n ↦ ap (λ (u : BracketUnit). unit_stands u more) (cond-false (eqb b 93) escaped (single b) n) ∙ single_by b more n (not-true (eqb b 10) is) next ]
+    elim (cases_Bool (eqb b 93)) [ inl y ↦ rw y refl | inr n ↦ ap (λ (u : BracketUnit). unit_may_precede u more) (cond-false (eqb b 93) escaped (single b) n) ∙ single_by b more n (not-true (eqb b 10) is) next ]
 
-units_of-stand : (text rest : List ℕ) → list_all is_inner text ≡ true → last_is 92 text ≡ false → units_stand (units_of text) (93 ∷ rest) ≡ true
+units_of-stand : (text rest : List ℕ) → list_all is_inner text ≡ true → last_is 92 text ≡ false → units_may_precede (units_of text) (93 ∷ rest) ≡ true
 units_of-stand [] rest is last = refl
 units_of-stand (b ∷ []) rest is last =
-    and_from (unit_stands (unit_of b) (93 ∷ rest)) true (unit_stands_by b (93 ∷ rest) (and_parts (is_inner b) true is).0 (λ y. absurd (both_ways (eqb b 92) last y))) refl
+    and_from (unit_may_precede (unit_of b) (93 ∷ rest)) true (unit_stands_by b (93 ∷ rest) (and_parts (is_inner b) true is).0 (λ y. absurd (both_ways (eqb b 92) last y))) refl
 units_of-stand (b ∷ c ∷ cs) rest is last =
     let parts = and_parts (is_inner b) (list_all is_inner (c ∷ cs)) is in
-    and_from (unit_stands (unit_of b) (units_bytes (units_of (c ∷ cs)) ++ 93 ∷ rest)) (units_stand (units_of (c ∷ cs)) (93 ∷ rest))
+    and_from (unit_may_precede (unit_of b) (units_bytes (units_of (c ∷ cs)) ++ 93 ∷ rest)) (units_may_precede (units_of (c ∷ cs)) (93 ∷ rest))
     (unit_stands_by b (units_bytes (units_of (c ∷ cs)) ++ 93 ∷ rest) parts.0 (λ y. next_inside c cs rest parts.1))
     (units_of-stand (c ∷ cs) rest parts.1 last)
 
@@ -195,7 +195,7 @@ pub piece_of-closed : (token : Token) → is_open (piece_of token) ≡ false
 piece_of-closed token = elim token.bracketed as (λ (b : Bool). is_open (cond b (bracket (units_of token.text)) (plain token.text)) ≡ false) [ true ↦ refl | false ↦ refl ]
 
 plain_stands : (text rest : List ℕ) → is_plain_text text ≡ true → goes_on rest ≡ false → (last_is 92 text ≡ true → join_after_backslash rest ≡ None)
-    → stands (plain text) rest ≡ true
+    → may_precede (plain text) rest ≡ true
 plain_stands [] rest is ends last = absurd (false≢true is)
 plain_stands (b ∷ bs) rest is ends last =
     let parts = and_parts (not (eqb b 91)) (list_all is_plain (b ∷ bs)) is in
@@ -207,51 +207,51 @@ plain_stands (b ∷ bs) rest is ends last =
 
 -- a token comes before its terminator and joins no backslash of its own
 piece_stands : (bracketed : Bool) (text rest : List ℕ) → cond bracketed (is_inner_text text) (is_plain_text text) ≡ true → goes_on rest ≡ false
-    → (last_is 92 (cond bracketed (in_brackets text) text) ≡ true → join_after_backslash rest ≡ None) → stands (cond bracketed (bracket (units_of text)) (plain text)) rest ≡ true
+    → (last_is 92 (cond bracketed (in_brackets text) text) ≡ true → join_after_backslash rest ≡ None) → may_precede (cond bracketed (bracket (units_of text)) (plain text)) rest ≡ true
 piece_stands true text rest is ends last =
     let parts = and_parts (list_all is_inner text) (not (last_is 92 text)) is in
     units_of-stand text rest parts.0 (not-true (last_is 92 text) parts.1)
 piece_stands false text rest is ends last = plain_stands text rest is ends last
 
-piece_of-stands : (token : Token) (rest : List ℕ) → is_sound token ≡ true → goes_on rest ≡ false
-    → (last_is 92 (written token) ≡ true → join_after_backslash rest ≡ None) → stands (piece_of token) rest ≡ true
-piece_of-stands token rest = piece_stands token.bracketed token.text rest
+piece_of-may_precede : (token : Token) (rest : List ℕ) → is_sound token ≡ true → goes_on rest ≡ false
+    → (last_is 92 (written token) ≡ true → join_after_backslash rest ≡ None) → may_precede (piece_of token) rest ≡ true
+piece_of-may_precede token rest = piece_stands token.bracketed token.text rest
 
 -- ---- lines
 
 -- the pieces of tokens after others
-abbrev pub behind_pieces : List Token → List Piece
-behind_pieces [] = []
-behind_pieces (token ∷ tokens) = white 32 ∷ piece_of token ∷ behind_pieces tokens
+abbrev pub after_pieces : List Token → List Piece
+after_pieces [] = []
+after_pieces (token ∷ tokens) = white 32 ∷ piece_of token ∷ after_pieces tokens
 
 abbrev pub field_pieces : Token → List Token → List Piece
-field_pieces token tokens = piece_of token ∷ behind_pieces tokens
+field_pieces token tokens = piece_of token ∷ after_pieces tokens
 
 -- the fields of a line as they are written
 abbrev pub fields_text : Token → List Token → List ℕ
 fields_text token tokens = spaced (map written (token ∷ tokens))
 
-behind_pieces-bytes : (tokens : List Token) → spelling (behind_pieces tokens) ≡ flat_map after_space (map written tokens)
-behind_pieces-bytes [] = refl
-behind_pieces-bytes (token ∷ tokens) = rw (piece_of-bytes token, behind_pieces-bytes tokens) refl
+after_pieces-bytes : (tokens : List Token) → spelling (after_pieces tokens) ≡ flat_map after_space (map written tokens)
+after_pieces-bytes [] = refl
+after_pieces-bytes (token ∷ tokens) = rw (piece_of-bytes token, after_pieces-bytes tokens) refl
 
 pub field_pieces-bytes : (token : Token) (tokens : List Token) → spelling (field_pieces token tokens) ≡ fields_text token tokens
-field_pieces-bytes token tokens = rw (piece_of-bytes token, behind_pieces-bytes tokens) refl
+field_pieces-bytes token tokens = rw (piece_of-bytes token, after_pieces-bytes tokens) refl
 
-behind_pieces-tokens : (tokens : List Token) → tokens_of (behind_pieces tokens) ≡ tokens
-behind_pieces-tokens [] = refl
-behind_pieces-tokens (token ∷ tokens) = rw (piece_of-tokens token, behind_pieces-tokens tokens) refl
+after_pieces-tokens : (tokens : List Token) → tokens_of (after_pieces tokens) ≡ tokens
+after_pieces-tokens [] = refl
+after_pieces-tokens (token ∷ tokens) = rw (piece_of-tokens token, after_pieces-tokens tokens) refl
 
 pub field_pieces-tokens : (token : Token) (tokens : List Token) → tokens_of (field_pieces token tokens) ≡ token ∷ tokens
-field_pieces-tokens token tokens = rw (piece_of-tokens token, behind_pieces-tokens tokens) refl
+field_pieces-tokens token tokens = rw (piece_of-tokens token, after_pieces-tokens tokens) refl
 
-pub behind_pieces-within : (tokens : List Token) → list_any is_newline (behind_pieces tokens) ≡ false
-behind_pieces-within [] = refl
-behind_pieces-within (token ∷ tokens) = rw (piece_of-within token) (behind_pieces-within tokens)
+pub after_pieces-within : (tokens : List Token) → list_any is_newline (after_pieces tokens) ≡ false
+after_pieces-within [] = refl
+after_pieces-within (token ∷ tokens) = rw (piece_of-within token) (after_pieces-within tokens)
 
-pub behind_pieces-closed : (tokens : List Token) → list_any is_open (behind_pieces tokens) ≡ false
-behind_pieces-closed [] = refl
-behind_pieces-closed (token ∷ tokens) = rw (piece_of-closed token) (behind_pieces-closed tokens)
+pub after_pieces-closed : (tokens : List Token) → list_any is_open (after_pieces tokens) ≡ false
+after_pieces-closed [] = refl
+after_pieces-closed (token ∷ tokens) = rw (piece_of-closed token) (after_pieces-closed tokens)
 
 -- the written form of a token isn't empty
 pub record IsSome (text : List ℕ) : Type 0 where
@@ -272,21 +272,21 @@ pub written-some : (token : Token) → is_sound token ≡ true → IsSome (writt
 written-some token is = some_written token.bracketed token.text is
 
 -- the last byte of a line is that of its last token
-last_behind : (a : ℕ) (front : List ℕ) (token : Token) (tokens : List Token) → is_sound token ≡ true
+last_after : (a : ℕ) (front : List ℕ) (token : Token) (tokens : List Token) → is_sound token ≡ true
     → last_is a (front ++ 32 ∷ fields_text token tokens) ≡ last_is a (fields_text token tokens)
-last_behind a front token tokens sound =
+last_after a front token tokens sound =
     let some = written-some token sound in
     let is : fields_text token tokens ≡ some.first ∷ (some.more ++ flat_map after_space (map written tokens)) = ap (λ (t : List ℕ). t ++ flat_map after_space (map written tokens)) some.is in
     ap (λ (t : List ℕ). last_is a (front ++ 32 ∷ t)) is ∙ last_is-append a 32 front (some.first ∷ (some.more ++ flat_map after_space (map written tokens))) ∙ ap (last_is a) (sym is)
 
 -- the pieces of a line come before its end
 pub fields_stand : (token : Token) (tokens : List Token) (rest : List ℕ) → is_sound token ≡ true → list_all is_sound tokens ≡ true → goes_on rest ≡ false
-    → (last_is 92 (fields_text token tokens) ≡ true → join_after_backslash rest ≡ None) → all_stand (field_pieces token tokens) rest ≡ true
+    → (last_is 92 (fields_text token tokens) ≡ true → join_after_backslash rest ≡ None) → all_may_precede (field_pieces token tokens) rest ≡ true
 fields_stand token [] rest sound all ends last =
-    and_from (stands (piece_of token) rest) true (piece_of-stands token rest sound ends (λ y. last (ap (last_is 92) (append-nil (written token)) ∙ y))) refl
+    and_from (may_precede (piece_of token) rest) true (piece_of-may_precede token rest sound ends (λ y. last (ap (last_is 92) (append-nil (written token)) ∙ y))) refl
 fields_stand token (next ∷ tokens) rest sound all ends last =
     let parts = and_parts (is_sound next) (list_all is_sound tokens) all in
     let more = spelling (field_pieces next tokens) ++ rest in
-    and_from (stands (piece_of token) (32 ∷ more)) (all_stand (field_pieces next tokens) rest)
-    (piece_of-stands token (32 ∷ more) sound refl (λ y. refl))
-    (fields_stand next tokens rest parts.0 parts.1 ends (λ y. last (last_behind 92 (written token) next tokens parts.0 ∙ y)))
+    and_from (may_precede (piece_of token) (32 ∷ more)) (all_may_precede (field_pieces next tokens) rest)
+    (piece_of-may_precede token (32 ∷ more) sound refl (λ y. refl))
+    (fields_stand next tokens rest parts.0 parts.1 ends (λ y. last (last_after 92 (written token) next tokens parts.0 ∙ y)))

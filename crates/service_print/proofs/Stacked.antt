@@ -15,7 +15,7 @@ use Rattle.service_print.specs.Tokens.{text_of}
 use Rattle.service_print.specs.Printed.{numbered, subs_in, list_lines}
 use Rattle.service_print.proofs.Lexed.{Fields, tokens_in, line_text, lines_text, is_sound_line, is_set_line, is_short_line, raw_rules, OneReading, text_answer}
 use Rattle.service_print.proofs.Meant.{Meaning, a_line, a_substack, is_meant, meant_nodes, meant_items, nodes_from, items_from}
-use Rattle.service_print.proofs.Understood.{AllWritable, rule_tokens, IsLine, rule_is_line, IsServiceName, substack_tokens, in_the_folder, substack_is_line}
+use Rattle.service_print.proofs.Understood.{AllWritable, rule_tokens, IsLine, rule_is_line, IsServiceName, substack_tokens, in_the_directory, substack_is_line}
 
 -- ---- the lines of a stack
 
@@ -27,7 +27,7 @@ fields_from type service number (sub inner rest) = substack_tokens type (numbere
 abbrev pub meanings_from : RuleType → List ℕ → ℕ → Stack → List Meaning
 meanings_from type service number none = []
 meanings_from type service number (line rule rest) = a_line (Some type) rule ∷ meanings_from type service number rest
-meanings_from type service number (sub inner rest) = a_substack (Some type) (in_the_folder (numbered service number)) ∷ meanings_from type service (number + 1 + subs_in inner) rest
+meanings_from type service number (sub inner rest) = a_substack (Some type) (in_the_directory (numbered service number)) ∷ meanings_from type service (number + 1 + subs_in inner) rest
 
 -- these fields are written as this line, and mean this
 abbrev pub AreLines : List Fields → List (List ℕ) → List Meaning → Type 0

@@ -11,13 +11,13 @@ use Rattle.service_load.specs.declared.rule_type.RuleType.{RuleType}
 use Rattle.service_load.specs.declared.rule_type.RuleType.TheVariants.{Auth}
 use Rattle.service_load.specs.Entry.{entry_of}
 use Rattle.service_load.specs.Files.{plain_file, holds, held, all_fine}
-use Rattle.service_load.specs.FirstFault.{Counts, Stop, going_on, checked_rule, behind, look}
+use Rattle.service_load.specs.FirstFault.{Counts, Stop, going_on, checked_rule, past_end, look}
 use Rattle.service_load.specs.Order.{Opener, by_rule, Item, opening, checked, made, items}
 use Rattle.service_load.specs.RuleType.{same_type}
 use Rattle.service_load.specs.Tree.{nodes}
 use Rattle.service_print.specs.Printed.{numbered, subs_in}
 use Rattle.service_print.proofs.Meant.{Meaning}
-use Rattle.service_print.proofs.Understood.{in_the_folder}
+use Rattle.service_print.proofs.Understood.{in_the_directory}
 use Rattle.service_print.proofs.Stacked.{meanings_from, meanings_nodes, meanings_items, IsFile, file_nodes, file_met}
 
 -- the files of the substacks of a stack are at their positions
@@ -25,7 +25,7 @@ abbrev pub Stand : (List ℕ → Option (List ℕ)) → RuleType → List ℕ �
 Stand texts type service number none = Unit {0}
 Stand texts type service number (line rule rest) = Stand texts type service number rest
 Stand texts type service number (sub inner rest) =
-    IsFile texts (in_the_folder (numbered service number)) (meanings_from type service (number + 1) inner)
+    IsFile texts (in_the_directory (numbered service number)) (meanings_from type service (number + 1) inner)
     × Stand texts type service (number + 1) inner
     × Stand texts type service (number + 1 + subs_in inner) rest
 
@@ -43,8 +43,8 @@ stack_stands texts type service number levels (line rule rest) deep stand =
     rw (same_type-self type) (ap (line rule) (stack_stands texts type service number levels rest deep stand))
 stack_stands texts type service number zero (sub inner rest) deep stand = absurd (omega arith)
 stack_stands texts type service number (suc levels) (sub inner rest) deep stand =
-    let inside : nodes texts (suc levels) type (plain_file (in_the_folder (numbered service number))) ≡ inner =
-    file_nodes texts levels type (in_the_folder (numbered service number)) (meanings_from type service (number + 1) inner) stand.0
+    let inside : nodes texts (suc levels) type (plain_file (in_the_directory (numbered service number))) ≡ inner =
+    file_nodes texts levels type (in_the_directory (numbered service number)) (meanings_from type service (number + 1) inner) stand.0
     ∙ stack_stands texts type service (number + 1) levels inner (omega arith) stand.1
     in
     let more = stack_stands texts type service (number + 1 + subs_in inner) (suc levels) rest (omega arith) stand.2 in
@@ -70,7 +70,7 @@ pub look-append : (texts : List ℕ → Option (List ℕ)) (fails : List ℕ) (b
 unfolding look
 look-append texts fails before [] more = refl
 look-append texts fails before (item ∷ items) more =
-    going_through (behind texts fails before item) (λ c. look texts fails c items) (λ c. look texts fails c (items ++ more)) (λ c. look texts fails c more) (λ c. look-append texts fails c items more)
+    going_through (past_end texts fails before item) (λ c. look texts fails c items) (λ c. look texts fails c (items ++ more)) (λ c. look texts fails c more) (λ c. look-append texts fails c items more)
 
 pub pass-append : (texts : List ℕ → Option (List ℕ)) (before : Counts) (front more : List Item) (openings lines openings' lines' : ℕ) (one : Passes texts before front openings lines)
     → Passes texts (counts_with one.calls openings lines) more openings' lines' → Passes texts before (front ++ more) openings' lines'
@@ -143,7 +143,7 @@ pass_stack texts type service number levels (line rule rest) name first calls op
     (pass-append texts (counts_with calls openings lines) (made name first ∷ []) (meanings_items texts levels type name (first + 1) (meanings_from type service number rest)) openings (lines + 1) (openings + subs_in rest) (lines + 1 + lines_in rest) one more))
 pass_stack texts type service number zero (sub inner rest) name first calls openings lines deep stand few short = absurd (omega arith)
 pass_stack texts type service number (suc levels) (sub inner rest) name first calls openings lines deep stand few short =
-    let file = in_the_folder (numbered service number) in
+    let file = in_the_directory (numbered service number) in
     let inside = pass_file texts levels type (by_rule name first) file (meanings_from type service (number + 1) inner) stand.0 calls openings lines (openings + 1 + subs_in inner) (lines + lines_in inner) (omega arith)
     (λ calls'. pass_stack texts type service (number + 1) levels inner file 1 calls' (openings + 1) lines (omega arith) stand.1 (omega arith) (omega arith))
     in

@@ -8,9 +8,9 @@ use Rattle.pam_base.specs.declared.fault.FaultKind.TheVariants.{FileTooLong}
 use Rattle.conf_lex.specs.declared.token.Token.{Token}
 use Rattle.conf_lex.specs.declared.token.RawRule.{RawRule}
 use Rattle.conf_lex.specs.declared.token.LexFault.{LexFault}
-use Rattle.conf_lex.specs.Piece.{BracketUnit, escaped, joined, single, unit_bytes, unit_text, units_bytes, units_text, unit_stands, units_stand, is_single, begins_with, begins_join, at_line_end, goes_on, all_go_on, Piece, newline, white, join, plain, bracket, open_bracket, comment, piece_bytes, piece_tokens, spelling, tokens_of, stands, all_stand, is_newline, IsReading}
+use Rattle.conf_lex.specs.Piece.{BracketUnit, escaped, joined, single, unit_bytes, unit_text, units_bytes, units_text, unit_may_precede, units_may_precede, is_single, begins_with, begins_join, at_line_end, goes_on, all_go_on, Piece, newline, white, join, plain, bracket, open_bracket, comment, piece_bytes, piece_tokens, spelling, tokens_of, may_precede, all_may_precede, is_newline, IsReading}
 use Rattle.conf_lex.specs.Reading.{pieces_of}
-use Rattle.conf_lex.specs.Rules.{newlines, in_front, lines_of_pieces, numbered, rule_at, line_rules, first_fault}
+use Rattle.conf_lex.specs.Rules.{newlines, put_before, lines_of_pieces, numbered, rule_at, line_rules, first_fault}
 use Rattle.conf_lex.specs.Lexing.{nul_line, given, answer_at}
 use Rattle.conf_lex.specs.Answer.{answer_unless_nul, answer_to}
 use Rattle.service_print.specs.Tokens.{ends_token, wants_brackets}
@@ -43,7 +43,7 @@ run_unended (b ∷ bs) rest on =
     let here = goes_on_plain b (bs ++ rest) parts.0 in
     or_from (ends_token b) (list_any ends_token bs) (or_from (is_white b) (eqb b 35) here.0 here.1) (run_unended bs rest parts.1)
 
-run_wants : (run rest : List ℕ) → stands (plain run) rest ≡ true → wants_brackets run ≡ false
+run_wants : (run rest : List ℕ) → may_precede (plain run) rest ≡ true → wants_brackets run ≡ false
 run_wants [] rest stand = absurd (false≢true stand)
 run_wants (b ∷ bs) rest stand =
     let third = and_parts (not (eqb b 10) && not (eqb b 91) && all_go_on (b ∷ bs) rest) (not (goes_on rest)) stand in
@@ -51,7 +51,7 @@ run_wants (b ∷ bs) rest stand =
     let first = and_parts (not (eqb b 10)) (not (eqb b 91)) second.0 in
     or_from (eqb b 91) (list_any ends_token (b ∷ bs)) (not-true (eqb b 91) first.1) (run_unended (b ∷ bs) rest second.1)
 
-run_on : (run rest : List ℕ) → stands (plain run) rest ≡ true → all_go_on run rest ≡ true
+run_on : (run rest : List ℕ) → may_precede (plain run) rest ≡ true → all_go_on run rest ≡ true
 run_on run rest stand =
     let third = and_parts (not (at_line_end run) && not (begins_with 91 run) && all_go_on run rest) (not (goes_on rest)) stand in
     (and_parts (not (at_line_end run) && not (begins_with 91 run)) (all_go_on run rest) third.0).1
@@ -60,7 +60,7 @@ can_stand_by : (text : List ℕ) → list_all is_inner text ≡ true → list_al
     → can_stand text ≡ true
 can_stand_by text inner set last = and_from (list_all is_inner text && list_all is_set text) (not (wants_brackets text && last_is 92 text)) (and_from (list_all is_inner text) (list_all is_set text) inner set) (not_from_false (wants_brackets text && last_is 92 text) last)
 
-run_can : (run rest : List ℕ) → stands (plain run) rest ≡ true → list_all is_set run ≡ true → can_stand run ≡ true
+run_can : (run rest : List ℕ) → may_precede (plain run) rest ≡ true → list_all is_set run ≡ true → can_stand run ≡ true
 run_can run rest stand set = can_stand_by run (run_inner run rest (run_on run rest stand)) set (and_left (wants_brackets run) (last_is 92 run) (run_wants run rest stand))
 
 -- ---- a token in brackets
@@ -71,15 +71,15 @@ single_parts b more is =
     let some = or_parts (eqb b 93 || eqb b 10) (eqb b 92 && begins_with 93 more) all.0 in
     ((or_parts (eqb b 93) (eqb b 10) some.0).1, some.1)
 
-unit_inner : (unit : BracketUnit) (rest : List ℕ) → unit_stands unit rest ≡ true → list_all is_inner (unit_text unit) ≡ true
+unit_inner : (unit : BracketUnit) (rest : List ℕ) → unit_may_precede unit rest ≡ true → list_all is_inner (unit_text unit) ≡ true
 unit_inner escaped rest stand = refl
 unit_inner (joined j) rest stand = refl
 unit_inner (single b) rest stand = and_from (is_inner b) true (not_from_false (eqb b 10) (single_parts b rest stand).0) refl
 
-units_inner : (units : List BracketUnit) (rest : List ℕ) → units_stand units rest ≡ true → list_all is_inner (units_text units) ≡ true
+units_inner : (units : List BracketUnit) (rest : List ℕ) → units_may_precede units rest ≡ true → list_all is_inner (units_text units) ≡ true
 units_inner [] rest stand = refl
 units_inner (unit ∷ units) rest stand =
-    let parts = and_parts (unit_stands unit (units_bytes units ++ rest)) (units_stand units rest) stand in
+    let parts = and_parts (unit_may_precede unit (units_bytes units ++ rest)) (units_may_precede units rest) stand in
     list_all-append is_inner (unit_text unit) (units_text units) ∙ and_from (list_all is_inner (unit_text unit)) (list_all is_inner (units_text units)) (unit_inner unit (units_bytes units ++ rest) parts.0) (units_inner units rest parts.1)
 
 unit_set : (unit : BracketUnit) → list_all is_set (unit_bytes unit) ≡ true → list_all is_set (unit_text unit) ≡ true
@@ -94,7 +94,7 @@ units_set (unit ∷ units) set =
     list_all-append is_set (unit_text unit) (units_text units) ∙ and_from (list_all is_set (unit_text unit)) (list_all is_set (units_text units)) (unit_set unit parts.0) (units_set units parts.1)
 
 -- the text of a unit before a `]` doesn't end with a backslash
-last_unit : (unit : BracketUnit) (rest : List ℕ) → unit_stands unit (93 ∷ rest) ≡ true → last_is 92 (unit_text unit) ≡ false
+last_unit : (unit : BracketUnit) (rest : List ℕ) → unit_may_precede unit (93 ∷ rest) ≡ true → last_is 92 (unit_text unit) ≡ false
 last_unit escaped rest stand = refl
 last_unit (joined j) rest stand = refl
 last_unit (single b) rest stand = elim (cases_Bool (eqb b 92)) [ inl y ↦ absurd (true≢false (sym (and_from (eqb b 92) true y refl) ∙ (single_parts b (93 ∷ rest) stand).1)) | inr n ↦ n ]
@@ -108,16 +108,16 @@ unit_one escaped = record { byte = 93; is = refl }
 unit_one (joined j) = record { byte = 32; is = refl }
 unit_one (single b) = record { byte = b; is = refl }
 
-units_last : (units : List BracketUnit) (rest : List ℕ) → units_stand units (93 ∷ rest) ≡ true → last_is 92 (units_text units) ≡ false
+units_last : (units : List BracketUnit) (rest : List ℕ) → units_may_precede units (93 ∷ rest) ≡ true → last_is 92 (units_text units) ≡ false
 units_last [] rest stand = refl
-units_last (unit ∷ []) rest stand = ap (last_is 92) (append-nil (unit_text unit)) ∙ last_unit unit rest (and_parts (unit_stands unit (93 ∷ rest)) true stand).0
+units_last (unit ∷ []) rest stand = ap (last_is 92) (append-nil (unit_text unit)) ∙ last_unit unit rest (and_parts (unit_may_precede unit (93 ∷ rest)) true stand).0
 units_last (unit ∷ next ∷ units) rest stand =
-    let parts = and_parts (unit_stands unit (units_bytes (next ∷ units) ++ 93 ∷ rest)) (units_stand (next ∷ units) (93 ∷ rest)) stand in
+    let parts = and_parts (unit_may_precede unit (units_bytes (next ∷ units) ++ 93 ∷ rest)) (units_may_precede (next ∷ units) (93 ∷ rest)) stand in
     let one = unit_one next in
     let is : units_text (next ∷ units) ≡ one.byte ∷ units_text units = ap (λ (t : List ℕ). t ++ units_text units) one.is in
     ap (λ (t : List ℕ). last_is 92 (unit_text unit ++ t)) is ∙ last_is-append 92 one.byte (unit_text unit) (units_text units) ∙ ap (last_is 92) (sym is) ∙ units_last (next ∷ units) rest parts.1
 
-units_can : (units : List BracketUnit) (rest : List ℕ) → units_stand units (93 ∷ rest) ≡ true → list_all is_set (units_bytes units) ≡ true
+units_can : (units : List BracketUnit) (rest : List ℕ) → units_may_precede units (93 ∷ rest) ≡ true → list_all is_set (units_bytes units) ≡ true
     → can_stand (units_text units) ≡ true
 units_can units rest stand set =
     can_stand_by (units_text units) (units_inner units (93 ∷ rest) stand) (units_set units set)
@@ -132,7 +132,7 @@ is_good token = can_stand token.text
 abbrev good_piece : Piece → Bool
 good_piece piece = list_all is_good (piece_tokens piece)
 
-piece_good : (piece : Piece) (rest : List ℕ) → stands piece rest ≡ true → list_all is_set (piece_bytes piece) ≡ true → good_piece piece ≡ true
+piece_good : (piece : Piece) (rest : List ℕ) → may_precede piece rest ≡ true → list_all is_set (piece_bytes piece) ≡ true → good_piece piece ≡ true
 piece_good newline rest stand set = refl
 piece_good (white b) rest stand set = refl
 piece_good (join j) rest stand set = refl
@@ -143,11 +143,11 @@ piece_good (bracket units) rest stand set =
 piece_good (open_bracket units) rest stand set = refl
 piece_good (comment text) rest stand set = refl
 
-pieces_good : (pieces : List Piece) (rest : List ℕ) → all_stand pieces rest ≡ true → list_all is_set (spelling pieces) ≡ true
+pieces_good : (pieces : List Piece) (rest : List ℕ) → all_may_precede pieces rest ≡ true → list_all is_set (spelling pieces) ≡ true
     → list_all good_piece pieces ≡ true
 pieces_good [] rest stand set = refl
 pieces_good (piece ∷ pieces) rest stand set =
-    let stands_all = and_parts (stands piece (spelling pieces ++ rest)) (all_stand pieces rest) stand in
+    let stands_all = and_parts (may_precede piece (spelling pieces ++ rest)) (all_may_precede pieces rest) stand in
     let sets = and_parts (list_all is_set (piece_bytes piece)) (list_all is_set (spelling pieces)) (sym (list_all-append is_set (piece_bytes piece) (spelling pieces)) ∙ set) in
     and_from (good_piece piece) (list_all good_piece pieces) (piece_good piece (spelling pieces ++ rest) stands_all.0 sets.0) (pieces_good pieces rest stands_all.1 sets.1)
 
@@ -156,10 +156,10 @@ pieces_good (piece ∷ pieces) rest stand set =
 abbrev good_line : List Piece → Bool
 good_line pieces = list_all good_piece pieces
 
-in_front_good : (piece : Piece) (lines : List (List Piece)) → good_piece piece ≡ true → list_all good_line lines ≡ true
-    → list_all good_line (in_front piece lines) ≡ true
-in_front_good piece [] good all = and_from (good_line (piece ∷ [])) true (and_from (good_piece piece) true good refl) refl
-in_front_good piece (l ∷ ls) good all =
+put_before_good : (piece : Piece) (lines : List (List Piece)) → good_piece piece ≡ true → list_all good_line lines ≡ true
+    → list_all good_line (put_before piece lines) ≡ true
+put_before_good piece [] good all = and_from (good_line (piece ∷ [])) true (and_from (good_piece piece) true good refl) refl
+put_before_good piece (l ∷ ls) good all =
     let parts = and_parts (good_line l) (list_all good_line ls) all in
     and_from (good_line (piece ∷ l)) (list_all good_line ls) (and_from (good_piece piece) (good_line l) good parts.0) parts.1
 
@@ -169,7 +169,7 @@ lines_good (piece ∷ pieces) good =
     let parts = and_parts (good_piece piece) (list_all good_piece pieces) good in
     elim (cases_Bool (is_newline piece)) [
       | inl y ↦ rw y (lines_good pieces parts.1)
-      | inr n ↦ rw n (in_front_good piece (lines_of_pieces pieces) parts.0 (lines_good pieces parts.1))
+      | inr n ↦ rw n (put_before_good piece (lines_of_pieces pieces) parts.0 (lines_good pieces parts.1))
     ]
 
 line_tokens_good : (pieces : List Piece) → good_line pieces ≡ true → list_all is_good (tokens_of pieces) ≡ true

@@ -129,10 +129,10 @@ abbrev pub substack_tokens : RuleType → List ℕ → Fields
 substack_tokens type name = record { first = plain_token (type_field false type); more = plain_token (codes "substack") ∷ plain_token name ∷ [] }
 
 -- the name of a file in the directory (pam.d(5))
-abbrev pub in_the_folder : List ℕ → List ℕ
-in_the_folder name = codes "/etc/pam.d/" ++ name
+abbrev pub in_the_directory : List ℕ → List ℕ
+in_the_directory name = codes "/etc/pam.d/" ++ name
 
-named_plain : (name : List ℕ) (first : ℕ) (more : List ℕ) → list_all is_name_byte name ≡ true → name ≡ first ∷ more → named_file name ≡ in_the_folder name
+named_plain : (name : List ℕ) (first : ℕ) (more : List ℕ) → list_all is_name_byte name ≡ true → name ≡ first ∷ more → named_file name ≡ in_the_directory name
 named_plain name first more bytes is =
     let here = (and_parts (is_name_byte first) (list_all is_name_byte more) (ap (list_all is_name_byte) (sym is) ∙ bytes)).0 in
     rw is (rw (apart is_name_byte first 47 refl here) refl)
@@ -141,8 +141,8 @@ substack_written : (type : RuleType) (name : List ℕ) → line_text (substack_t
 unfolding substack_line
 substack_written type name = refl
 
-substack_means : (type : RuleType) (name : List ℕ) (number : ℕ) → named_file name ≡ in_the_folder name
-    → IsMeant true (record { line = number; tokens = tokens_in (substack_tokens type name) }) (a_substack (Some type) (in_the_folder name))
+substack_means : (type : RuleType) (name : List ℕ) (number : ℕ) → named_file name ≡ in_the_directory name
+    → IsMeant true (record { line = number; tokens = tokens_in (substack_tokens type name) }) (a_substack (Some type) (in_the_directory name))
 unfolding entry_of
 substack_means type name number named =
     let first = type_token_is false type in
@@ -153,7 +153,7 @@ substack_means type name number named =
     }
 
 pub substack_is_line : (type : RuleType) (service : List ℕ) (number : ℕ) → IsServiceName service → number < 256
-    → IsLine (substack_tokens type (numbered service number)) (substack_line type (numbered service number)) (a_substack (Some type) (in_the_folder (numbered service number)))
+    → IsLine (substack_tokens type (numbered service number)) (substack_line type (numbered service number)) (a_substack (Some type) (in_the_directory (numbered service number)))
 substack_is_line type service number is few =
     let name = numbered service number in
     let bytes = numbered_bytes service number is few in

@@ -31,15 +31,15 @@ same_control control other =
     list_all (λ code. same_action (action_at control code) (action_at other code)) all_codes
 
 -- whether a keyword is short for a control (pam.conf(5))
-abbrev pub stands_for : List ℕ → List Action → Bool
-stands_for word control = elim (control_of_word word) [
+abbrev pub is_keyword_for : List ℕ → List Action → Bool
+is_keyword_for word control = elim (control_of_word word) [
   | Some table ↦ same_control control table
   | None ↦ false
 ]
 
 -- the keyword that is short for a control, if there is one
 abbrev pub keyword_of : List Action → Option (List ℕ)
-keyword_of control = find (λ word. stands_for word control) (map keyword_word all_keywords)
+keyword_of control = find (λ word. is_keyword_for word control) (map keyword_word all_keywords)
 
 -- the entry of a code (pam.conf(5))
 abbrev pub entry_text : List Action → Code → List ℕ

@@ -13,7 +13,7 @@ use Rattle.service_load.specs.declared.load_fault.LoadFault.{LoadFault}
 use Rattle.service_load.specs.declared.rule_type.RuleType.{RuleType}
 use Rattle.service_load.specs.Trees.{Trees}
 use Rattle.service_load.specs.FirstFault.{Counts}
-use Rattle.service_load.specs.Load.{has_folder, loaded}
+use Rattle.service_load.specs.Load.{directory_exists, loaded}
 use Rattle.service_load.specs.Loading.{texts_of}
 use Rattle.pam_outside.specs.Paths.{path_of}
 use Rattle.service_load.specs.Tree.{tree}
@@ -25,7 +25,7 @@ pub record LoadsTo (vault : VaultState) (root service : List ℕ) (stack : RuleT
     0 where
   pub counts : Counts
   pub no_fault : loaded vault root service ≡ Ok counts
-  pub stacks : (type : RuleType) → tree (texts_of root vault) (has_folder vault root) service type
+  pub stacks : (type : RuleType) → tree (texts_of root vault) (directory_exists vault root) service type
       ≡ stack type
 
 -- a file in the directory of the service files, below a root (pam.d(5))

@@ -2,7 +2,7 @@ ghost use Rattle.std.specs.Prelude.{◌≡◌, ◌++◌, OnOk, option_map};
 ghost use Rattle.std.specs.List.{find, list_all};
 ghost use Rattle.control_words.specs.Control.{action_at};
 ghost use Rattle.control_words.specs.Keyword.{all_keywords, keyword_word};
-ghost use Rattle.service_print.specs.Controls.{action_word, control_text, entries_among, entry_text, has_entry, keyword_of, same_action, same_control, stands_for};
+ghost use Rattle.service_print.specs.Controls.{action_word, control_text, entries_among, entry_text, has_entry, keyword_of, same_action, same_control, is_keyword_for};
 ghost use Rattle.service_print.specs.Tokens.{spaced};
 
 use control_words::{ALL_KEYWORDS, Action, Control, Keyword, control_named};
@@ -32,17 +32,17 @@ fn keyword_of(control: &Control) -> Option<Keyword>
 }
 
 fn keyword_among(control: &Control) -> Option<Keyword>
-    ensures { result ≡ find (λ keyword. stands_for
+    ensures { result ≡ find (λ keyword. is_keyword_for
         (keyword_word keyword) control.now) all_keywords }
 {
     ALL_KEYWORDS
         .iter()
         .copied()
-        .find(|keyword| stands_for(*keyword, control))
+        .find(|keyword| is_keyword_for(*keyword, control))
 }
 
-fn stands_for(keyword: Keyword, control: &Control) -> bool
-    ensures { result ≡ stands_for (keyword_word keyword) control.now }
+fn is_keyword_for(keyword: Keyword, control: &Control) -> bool
+    ensures { result ≡ is_keyword_for (keyword_word keyword) control.now }
 {
     match control_named(keyword.word().as_bytes()) {
         Some(table) => same_control(control, &table),

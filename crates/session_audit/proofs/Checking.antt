@@ -21,7 +21,7 @@ use Rattle.report_lines.specs.Line.{Command, starts, ends, runs, sets_item, gets
 use Rattle.report_lines.specs.Line.{switches_delay, replies, Shown, shows_code, shows_fault, shows_value, shows_count, shows_not_open}
 use Rattle.report_lines.specs.Line.{shows_already_open, shows_bad_number, shows_pending, Result, answered, closed_by_program}
 use Rattle.session_audit.specs.Fits.{SlotLog, shut, running, visits_told, is_none, only_if, same_code, is_refused_change, without_visits}
-use Rattle.session_audit.specs.Fits.{behind_call, at_call, behind_result}
+use Rattle.session_audit.specs.Fits.{past_call, at_call, after_result}
 use Rattle.session_audit.specs.Differs as told_lines
 use Rattle.session_audit.specs.Differs.{visits_good}
 use Rattle.session_audit.specs.Checked.{told_in, after_quiet, IsCall}
@@ -163,7 +163,7 @@ module _ (stacks : Stacks) where
 
   pub call_goes : (func : Func) (code : Code) (vs : List retell.Seen) (h : Held) → is_refused_change func code vs ≡ false
       → is_other_pending h.pending func ≡ false
-      → behind_call code (goes as_told stacks func h (telling vs)) ≡ at_call stacks func code vs h
+      → past_call code (goes as_told stacks func h (telling vs)) ≡ at_call stacks func code vs h
   call_goes func code vs h is other = sym (if_false (is_refused_change func code vs) (Some (running h)) _ is
       ∙ if_false (is_other_pending h.pending func) None _ other)
 
@@ -178,9 +178,9 @@ module _ (stacks : Stacks) where
 -- the lines that a replayed call took
 pub as_retold : (told : List (Option Seen)) (r : Retold) (code : Code) (w : Went retell.Telling) → went_of told r ≡ w
     → r.next ≡ lines_before (length (visits_in told) - length (visits_in (drop r.next told))) told
-    → behind_call code w ≡ only_if (not r.astray && (eqb r.next (length told) && same_code code r.code)) (running (held_of r.held))
+    → past_call code w ≡ only_if (not r.astray && (eqb r.next (length told) && same_code code r.code)) (running (held_of r.held))
 as_retold told r code w is at =
-    ap (behind_call code) (sym is)
+    ap (past_call code) (sym is)
     ∙ ap (λ (b : Bool). only_if (not r.astray && (b && same_code code r.code)) (running (held_of r.held))) (sym (all_taken told r.next at))
 
 pub retold_line : (told : List (Option Seen)) (r : Retold) (w : Went retell.Telling) → went_of told r ≡ w
@@ -207,7 +207,7 @@ none_without (v ∷ vs) = refl
 
 module _ (stacks : Stacks) where
   quiet_open : (h : Held) (vs : List retell.Seen) (command : Command) (shown : Shown) → IsCall None (answered command shown)
-      → behind_result stacks (running h) vs (answered command shown) ≡ without_visits vs (after_quiet (running h) (answered command shown))
+      → after_result stacks (running h) vs (answered command shown) ≡ without_visits vs (after_quiet (running h) (answered command shown))
   quiet_open h vs starts shown is = refl
   quiet_open h vs ends shown is = refl
   quiet_open h vs (runs func) (shows_code code) is = absurd (is func code refl)
@@ -228,7 +228,7 @@ module _ (stacks : Stacks) where
   quiet_open h vs replies shown is = refl
 
   pub quiet_result : (place : SlotLog) (vs : List retell.Seen) (result : Result) → IsCall None result
-      → behind_result stacks place vs result ≡ without_visits vs (after_quiet place result)
+      → after_result stacks place vs result ≡ without_visits vs (after_quiet place result)
   quiet_result shut vs (answered command shown) is = refl
   quiet_result shut vs (closed_by_program code) is = sym (none_without vs)
   quiet_result (running h) vs (answered command shown) is = quiet_open h vs command shown is
@@ -252,6 +252,6 @@ module _ (stacks : Stacks) where
   quiet_good (running h) vs (closed_by_program code) is = refl
 
   -- a closed transaction has no such code
-  pub shut_result : (vs : List retell.Seen) (result : Result) → behind_result stacks shut vs result ≡ without_visits vs (after_quiet shut result)
+  pub shut_result : (vs : List retell.Seen) (result : Result) → after_result stacks shut vs result ≡ without_visits vs (after_quiet shut result)
   shut_result vs (answered command shown) = refl
   shut_result vs (closed_by_program code) = sym (none_without vs)

@@ -10,8 +10,8 @@ use Rattle.service_load.specs.Stacks.{Stacks}
 use Rattle.report_lines.specs.Line.{Told, Result, Block, block_of, unread}
 use Rattle.report_lines.specs.Says.{Says, tells, results, lasts}
 use Rattle.session_audit.specs.declared.place.SlotLog as held
-use Rattle.session_audit.specs.Fits.{SlotLog, place_at, with_place, visits_told, is_none, is_bad_number, behind_result, with_behind, behind_at, behind_block}
-use Rattle.session_audit.specs.Differs.{Gathered, nothing_yet, gathered, may_follow, told_so_far, lines_before, visits_good, bad_line, behind_or, differs_from}
+use Rattle.session_audit.specs.Fits.{SlotLog, place_at, with_place, visits_told, is_none, is_bad_number, after_result, with_after, after_at, after_block}
+use Rattle.session_audit.specs.Differs.{Gathered, nothing_yet, gathered, may_follow, told_so_far, lines_before, visits_good, bad_line, after_or, differs_from}
 use Rattle.session_audit.specs.Checked.{place_of, IsPlaced, IsUnplaced}
 
 abbrev pub nothing_in : Gathered → Bool
@@ -56,8 +56,8 @@ module _ (stacks : Stacks) where
   other_result places g n number result lines other = by_other (may_follow g number) _ (Some (n + 1)) other
 
   abbrev by_block : List SlotLog → ℕ → List (Option Says) → Block → Option ℕ
-  by_block places n lines b = behind_or stacks (behind_block stacks places b) (n + 1 - length b.told + bad_line stacks (place_at places b.number) b)
-      (λ behind. differs_from stacks behind nothing_yet (n + 1) lines)
+  by_block places n lines b = after_or stacks (after_block stacks places b) (n + 1 - length b.told + bad_line stacks (place_at places b.number) b)
+      (λ past_end. differs_from stacks past_end nothing_yet (n + 1) lines)
 
   result_goes : (places : List SlotLog) (g : Gathered) (n number : ℕ) (told : List Told) (result : Result) (lines : List (Option Says))
       → may_follow g number ≡ true → told ≡ told_so_far g
@@ -68,23 +68,23 @@ module _ (stacks : Stacks) where
 
   pub result_fits : (places next : List SlotLog) (g : Gathered) (n number : ℕ) (told : List Told) (result : Result) (lines : List (Option Says))
       → may_follow g number ≡ true → told ≡ told_so_far g
-      → behind_block stacks places (block_of number told result) ≡ Some next
+      → after_block stacks places (block_of number told result) ≡ Some next
       → differs_from stacks places g n (Some (results number result) ∷ lines) ≡ differs_from stacks next nothing_yet (n + 1) lines
   result_fits places next g n number told result lines follows are fits =
       let b : Block = block_of number told result in
       result_goes places g n number told result lines follows are
-      ∙ ap (λ (x : Option (List SlotLog)). behind_or stacks x (n + 1 - length b.told + bad_line stacks (place_at places b.number) b)
-      (λ behind. differs_from stacks behind nothing_yet (n + 1) lines)) fits
+      ∙ ap (λ (x : Option (List SlotLog)). after_or stacks x (n + 1 - length b.told + bad_line stacks (place_at places b.number) b)
+      (λ past_end. differs_from stacks past_end nothing_yet (n + 1) lines)) fits
 
   pub result_named : (places : List SlotLog) (g : Gathered) (n number line : ℕ) (told : List Told) (result : Result) (lines : List (Option Says))
       → may_follow g number ≡ true → told ≡ told_so_far g
-      → behind_block stacks places (block_of number told result) ≡ None → line ≡ bad_line stacks (place_at places number) (block_of number told result)
+      → after_block stacks places (block_of number told result) ≡ None → line ≡ bad_line stacks (place_at places number) (block_of number told result)
       → differs_from stacks places g n (Some (results number result) ∷ lines) ≡ Some (n + 1 - length told + line)
   result_named places g n number line told result lines follows are fits is =
       let b : Block = block_of number told result in
       result_goes places g n number told result lines follows are
-      ∙ ap (λ (x : Option (List SlotLog)). behind_or stacks x (n + 1 - length b.told + bad_line stacks (place_at places b.number) b)
-      (λ behind. differs_from stacks behind nothing_yet (n + 1) lines)) fits
+      ∙ ap (λ (x : Option (List SlotLog)). after_or stacks x (n + 1 - length b.told + bad_line stacks (place_at places b.number) b)
+      (λ past_end. differs_from stacks past_end nothing_yet (n + 1) lines)) fits
       ∙ ap (λ (k : ℕ). Some (n + 1 - length told + k)) (sym is)
 
   -- ---- a block of the transaction of its number
@@ -102,27 +102,27 @@ module _ (stacks : Stacks) where
       named ∙ ap (λ (x : Option SlotLog). bad_line stacks x (block_of number told result)) (sym (found_at old i number p is at))
 
   pub placed_none : (old : List held.SlotLog) (i number : ℕ) (p : held.SlotLog) (told : List Told) (result : Result) → number ≡ suc i → slice_get old i ≡ Some p
-      → behind_result stacks (place_of p) (visits_told told) result ≡ None
-      → behind_block stacks (map place_of old) (block_of number told result) ≡ None
+      → after_result stacks (place_of p) (visits_told told) result ≡ None
+      → after_block stacks (map place_of old) (block_of number told result) ≡ None
   placed_none old i number p told result is at none =
-      ap (behind_at stacks (map place_of old) (block_of number told result)) (found_at old i number p is at)
-      ∙ ap (with_behind stacks (map place_of old) number) none
+      ap (after_at stacks (map place_of old) (block_of number told result)) (found_at old i number p is at)
+      ∙ ap (with_after stacks (map place_of old) number) none
 
-  pub placed_fits : (old : List held.SlotLog) (i number : ℕ) (p between behind : held.SlotLog) (told : List Told) (result : Result) → number ≡ suc i
+  pub placed_fits : (old : List held.SlotLog) (i number : ℕ) (p between past_end : held.SlotLog) (told : List Told) (result : Result) → number ≡ suc i
       → slice_get old i ≡ Some p
-      → behind_result stacks (place_of p) (visits_told told) result ≡ Some (place_of behind)
-      → behind_block stacks (map place_of old) (block_of number told result) ≡ Some (map place_of (slice_set (slice_set old i between) i behind))
-  placed_fits old i number p between behind told result is at fits =
-      ap (behind_at stacks (map place_of old) (block_of number told result)) (found_at old i number p is at)
-      ∙ ap (with_behind stacks (map place_of old) number) fits
-      ∙ ap (λ (m : ℕ). Some (with_place (map place_of old) m (place_of behind))) is
-      ∙ ap Some (sym (map-set place_of old i behind) ∙ ap (map place_of) (sym (set-set old i between behind)))
+      → after_result stacks (place_of p) (visits_told told) result ≡ Some (place_of past_end)
+      → after_block stacks (map place_of old) (block_of number told result) ≡ Some (map place_of (slice_set (slice_set old i between) i past_end))
+  placed_fits old i number p between past_end told result is at fits =
+      ap (after_at stacks (map place_of old) (block_of number told result)) (found_at old i number p is at)
+      ∙ ap (with_after stacks (map place_of old) number) fits
+      ∙ ap (λ (m : ℕ). Some (with_place (map place_of old) m (place_of past_end))) is
+      ∙ ap Some (sym (map-set place_of old i past_end) ∙ ap (map place_of) (sym (set-set old i between past_end)))
 
   pub unplaced : (places : List SlotLog) (number : ℕ) (told : List Told) (result : Result) (b : Bool) → place_at places number ≡ None
       → (is_bad_number stacks result && is_none (visits_told told)) ≡ b
-      → behind_block stacks places (block_of number told result) ≡ (if b then Some places else None)
+      → after_block stacks places (block_of number told result) ≡ (if b then Some places else None)
   unplaced places number told result b none is =
-      ap (behind_at stacks places (block_of number told result)) none ∙ ap (λ (c : Bool). if c then Some places else None) is
+      ap (after_at stacks places (block_of number told result)) none ∙ ap (λ (c : Bool). if c then Some places else None) is
 
   pub unplaced_line : (places : List SlotLog) (number : ℕ) (told : List Told) (result : Result) → place_at places number ≡ None
       → lines_before 0 told ≡ bad_line stacks (place_at places number) (block_of number told result)
@@ -154,13 +154,13 @@ pub a_place : (old : List held.SlotLog) (number : ℕ) → (ltb 0 number && leb 
 a_place old zero is = absurd (cc)
 a_place old (suc i) is = grind (arith, nat_tests)
 
-pub fits_at : (stacks : Stacks) (old : List held.SlotLog) (number : ℕ) (p between behind : held.SlotLog) (told : List Told) (result : Result)
+pub fits_at : (stacks : Stacks) (old : List held.SlotLog) (number : ℕ) (p between past_end : held.SlotLog) (told : List Told) (result : Result)
     → number ≡ suc (number - 1)
-    → slice_get old (number - 1) ≡ Some p → behind_result stacks (place_of p) (visits_told told) result ≡ Some (place_of behind)
-    → IsPlaced stacks old (block_of number told result) None (slice_set (slice_set old (number - 1) between) (number - 1) behind)
-fits_at stacks old number p between behind told result is at fits = (
-  placed_fits stacks old (number - 1) number p between behind told result is at fits,
-  length-set (slice_set old (number - 1) between) (number - 1) behind ∙ length-set old (number - 1) between,
+    → slice_get old (number - 1) ≡ Some p → after_result stacks (place_of p) (visits_told told) result ≡ Some (place_of past_end)
+    → IsPlaced stacks old (block_of number told result) None (slice_set (slice_set old (number - 1) between) (number - 1) past_end)
+fits_at stacks old number p between past_end told result is at fits = (
+  placed_fits stacks old (number - 1) number p between past_end told result is at fits,
+  length-set (slice_set old (number - 1) between) (number - 1) past_end ∙ length-set old (number - 1) between,
 )
 
 -- a block of a number that no transaction has

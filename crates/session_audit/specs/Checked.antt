@@ -21,7 +21,7 @@ use Rattle.session_audit.specs.declared.judge.Judged.{Judged}
 use Rattle.session_audit.specs.declared.judge.Judged.TheVariants as judged
 use Rattle.session_audit.specs.declared.verdict.Verdict.{Verdict}
 use Rattle.session_audit.specs.declared.verdict.Verdict.TheVariants as verdicts
-use Rattle.session_audit.specs.Fits.{SlotLog, shut, running, place_at, visits_told, is_none, is_bad_number, only_if, aborted_by, at_shut, at_running, behind_result, behind_block}
+use Rattle.session_audit.specs.Fits.{SlotLog, shut, running, place_at, visits_told, is_none, is_bad_number, only_if, aborted_by, at_shut, at_running, after_result, after_block}
 use Rattle.session_audit.specs.Differs.{Gathered, nothing_yet, gathered, lines_before, visits_good, bad_line, differs_from}
 use Rattle.session_audit.specs.Whole.{lines_read}
 
@@ -59,22 +59,22 @@ IsCall None result =
 
 -- the state of the transaction after it, or which line doesn't fit
 abbrev pub IsJudged : Judged → Option SlotLog → ℕ → Type 0
-IsJudged (judged.Fits place) behind bad = behind ≡ Some (place_of place)
-IsJudged (judged.Differs line) behind bad = (behind ≡ None) × (line ≡ bad)
+IsJudged (judged.Fits place) past_end bad = past_end ≡ Some (place_of place)
+IsJudged (judged.Differs line) past_end bad = (past_end ≡ None) × (line ≡ bad)
 
 -- a block is judged by the state of its transaction
 abbrev pub Judges : Stacks → SlotLog → List Told → Result → Judged → Type 0
 Judges stacks place told result j =
-    IsJudged j (behind_result stacks place (visits_told told) result)
+    IsJudged j (after_result stacks place (visits_told told) result)
     (lines_before (visits_good stacks (Some place) (visits_told told) result) told)
 
 -- the same for all transactions; a line is named if the block doesn't fit
 abbrev pub IsPlaced : Stacks → List held.SlotLog → Block → Option ℕ → List held.SlotLog → Type 0
 IsPlaced stacks old b (Some line) new =
-    (behind_block stacks (map place_of old) b ≡ None) ×
+    (after_block stacks (map place_of old) b ≡ None) ×
     (line ≡ bad_line stacks (place_at (map place_of old) b.number) b)
 IsPlaced stacks old b None new =
-    (behind_block stacks (map place_of old) b ≡ Some (map place_of new)) ×
+    (after_block stacks (map place_of old) b ≡ Some (map place_of new)) ×
     (length new ≡ length old)
 
 -- the same for a number that no transaction has

@@ -76,7 +76,7 @@ fn judge_quiet(place: SlotLog, told: &[Option<Seen>], outcome: ReportedOutcome) 
         return Judged::Differs(first);
     }
     match after_quiet(place, outcome) {
-        Some(behind) => Judged::Fits(behind),
+        Some(past_end) => Judged::Fits(past_end),
         None => Judged::Differs(first),
     }
 }

@@ -91,7 +91,7 @@ fn a_step_on(
     let next = format!(in alloc; "{done}/{name}")?;
     match symlink_metadata(rt, next.as_str()) {
         Ok(found) if found.is_symlink() && (is_inner || follows) => {
-            behind_link(rt, alloc, root, way.place, next, left, way.links)
+            after_link(rt, alloc, root, way.place, next, left, way.links)
         }
         Ok(found) if is_inner && !found.is_dir() => Err(ErrorKind::NotADirectory.into()),
         Ok(found) => Ok(Way {
@@ -141,7 +141,7 @@ fn one_up(rt: &HostRuntime, alloc: Global, root: &str, place: Place) -> io::Resu
 }
 
 // A link in this directory is followed.
-fn behind_link(
+fn after_link(
     rt: &HostRuntime,
     alloc: Global,
     root: &str,

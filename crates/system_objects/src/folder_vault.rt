@@ -1,7 +1,7 @@
 ghost use Rattle.std.specs.Prelude.{IsTrue, ◌≡◌, ◌≢◌, ◌≤◌, ◌↔◌, [], Some, false, true, length, IfOk, OnOk, Err, List, ℕ};
 ghost use Rattle.std.specs.Str.{IsUtf8};
 ghost use Rattle.pam_outside.specs.Counts.{Rose, next_count};
-ghost use Rattle.pam_outside.specs.Files.{ReadsFile, TellsFolder, Replaces, TakesLock, counted, file_at, no_locks, unlocked};
+ghost use Rattle.pam_outside.specs.Files.{ReadsFile, TellsDirectory, Replaces, TakesLock, counted, file_at, no_locks, unlocked};
 
 use crate::held_file::{HeldFile, open_file, put_held};
 use crate::limited::{CHUNK, read_of_size, read_to_limit};
@@ -127,7 +127,7 @@ impl Vault for FolderVault {
         ensures tells { ⟦<FolderVault as Vault>⟧.vault_tells self.new ≡
             ⟦<FolderVault as Vault>⟧.vault_tells self.old }
         ensures told { IsTrue (⟦<FolderVault as Vault>⟧.vault_tells self.old) →
-            TellsFolder result path.now (⟦<FolderVault as Vault>⟧.vault_holds self.old) }
+            TellsDirectory result path.now (⟦<FolderVault as Vault>⟧.vault_holds self.old) }
         ensures counts { IsTrue (⟦<FolderVault as Vault>⟧.vault_tells self.old) →
             ⟦<FolderVault as Vault>⟧.vault_holds self.new ≡ counted
             (⟦<FolderVault as Vault>⟧.vault_holds self.old) }
@@ -144,7 +144,7 @@ impl Vault for FolderVault {
         ensures stays { result ≢ Err ReplaceFault.Failed → self.new ≡ self.old }
         ensures not_text { ¬ (IsUtf8 path.now) → result ≡ Err ReplaceFault.Failed }
     {
-        let result = names_folder(&self.rt, alloc, self.root.bytes(), path);
+        let result = names_directory(&self.rt, alloc, self.root.bytes(), path);
         if let Err(ReplaceFault::Failed) = result {
             self.faults = self.faults.saturating_add(1);
         }
@@ -377,7 +377,7 @@ fn is_out_of_memory(error: &io::Error) -> bool {
     error.kind() == ErrorKind::OutOfMemory && error.raw_os_error().is_none()
 }
 
-fn names_folder(
+fn names_directory(
     rt: &HostRuntime,
     alloc: Global,
     root: &[u8],

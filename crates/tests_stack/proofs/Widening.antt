@@ -28,14 +28,14 @@ depth_joined none b = omega arith
 depth_joined (line rule rest) b = depth_joined rest b
 depth_joined (sub inner rest) b = omega (arith, depth_joined rest b)
 
-pub lines_behind : (old : Stack) (inner : Nodes)
+pub lines_after : (old : Stack) (inner : Nodes)
     → lines_in (joined old (node_on (Sub inner) none)) ≡ lines_in old + lines_in (stack_of inner.vec.items)
-lines_behind old inner =
+lines_after old inner =
     let s : Stack = sub (stack_of inner.vec.items) none in
     omega (arith, ap (λ (new : Stack). lines_in (joined old new)) (node_on-Sub inner none), lines_joined old s)
 
-pub depth_behind : (old : Stack) (inner : Nodes)
+pub depth_after : (old : Stack) (inner : Nodes)
     → depth (joined old (node_on (Sub inner) none)) ≡ max (depth old) (depth (stack_of inner.vec.items) + 1)
-depth_behind old inner =
+depth_after old inner =
     let s : Stack = sub (stack_of inner.vec.items) none in
     omega (arith, ap (λ (new : Stack). depth (joined old new)) (node_on-Sub inner none), depth_joined old s)

@@ -8,7 +8,7 @@ use Rattle.pam_outside.specs.Streams.{SinkState}
 use Rattle.explain_lines.specs.control_words.specs.Stack.{Stack}
 use Rattle.service_load.specs.declared.rule_type.RuleType.{RuleType}
 use Rattle.service_load.specs.FirstFault.{Counts, Stop}
-use Rattle.service_load.specs.Load.{has_folder, loaded}
+use Rattle.service_load.specs.Load.{directory_exists, loaded}
 use Rattle.service_load.specs.Loading.{texts_of}
 use Rattle.service_load.specs.Stacks.{stacks_of}
 use Rattle.service_load.specs.Tree.{tree}
@@ -77,8 +77,8 @@ module _ (P Q : Written → Type 0) (also : (w : Written) → P w → Q w) where
       → SaysIf long P old root service input new → SaysIf long Q old root service input new
   by_length true old root service input new p = also too_long_written p
   by_length false old root service input new p =
-      by_result (loaded old root service) service (tree (texts_of root old) (has_folder old root) service)
-      (sources_at (texts_of root old) (has_folder old root) service) input new p
+      by_result (loaded old root service) service (tree (texts_of root old) (directory_exists old root) service)
+      (sources_at (texts_of root old) (directory_exists old root) service) input new p
 
   by_input : (old : VaultState) (root service input : List ℕ) (new : VaultState) (before now : ℕ)
       → SaysInput P old root service input new before now → SaysInput Q old root service input new before now

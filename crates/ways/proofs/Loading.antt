@@ -11,7 +11,7 @@ use Rattle.service_load.specs.declared.rule_type.RuleType.{RuleType}
 use Rattle.service_load.specs.Trees.{Trees}
 use Rattle.service_load.specs.FirstFault.{Counts, Stop}
 use Rattle.service_load.specs.Kinds.{IfNamed}
-use Rattle.service_load.specs.Load.{AreTrees, LoadsBy, LoadsTrees, has_folder, loaded}
+use Rattle.service_load.specs.Load.{AreTrees, LoadsBy, LoadsTrees, directory_exists, loaded}
 use Rattle.service_load.specs.Loading.{CountsFaults, OnlyCalls, texts_of}
 use Rattle.service_load.specs.Stacks.{Stacks, stacks_of}
 use Rattle.service_load.specs.Tree.{tree}
@@ -49,8 +49,8 @@ stacks_are trees stack are = rw (are.auth, are.account, are.password, are.sessio
 
 -- the rules are where they were before the load
 sources_stay : (root service : List ℕ) (first mid : VaultState) → OnlyCalls first mid
-    → sources_at (texts_of root mid) (has_folder mid root) service ≡ sources_at (texts_of root first) (has_folder first root) service
-sources_stay root service first mid only = ap (λ (v : VaultState). sources_at (texts_of root v) (has_folder v root) service) only
+    → sources_at (texts_of root mid) (directory_exists mid root) service ≡ sources_at (texts_of root first) (directory_exists first root) service
+sources_stay root service first mid only = ap (λ (v : VaultState). sources_at (texts_of root v) (directory_exists v root) service) only
 
 by_load : {E : Type 0} (r : Result Output E) (trees : Trees) (looked : Result Counts Stop) (mid new : VaultState) (service : List ℕ) (stack : RuleType → Stack)
     (found sources : Sources) (report : List ℕ)
@@ -63,13 +63,13 @@ by_load (Ok e) trees looked mid new service stack found sources report loads sam
 by_load (Err x) trees looked mid new service stack found sources report loads same is = tt
 
 pub loaded_so : {E : Type 0} (r : Result Output E) (trees : Trees) (first mid new : VaultState) (root service report : List ℕ)
-    → LoadsTrees trees (loaded first root service) mid (tree (texts_of root first) (has_folder first root) service) → OnlyCalls first mid
-    → IfOk r (λ e. OrUnread (λ w. IsWritten e w) (Tells service (stacks_of_trees trees) (sources_at (texts_of root mid) (has_folder mid root) service) report)
+    → LoadsTrees trees (loaded first root service) mid (tree (texts_of root first) (directory_exists first root) service) → OnlyCalls first mid
+    → IfOk r (λ e. OrUnread (λ w. IsWritten e w) (Tells service (stacks_of_trees trees) (sources_at (texts_of root mid) (directory_exists mid root) service) report)
     new)
     → IfOk r (λ e. Says (λ w. IsWritten e w) first root service report new)
 loaded_so r trees first mid new root service report loads stays is =
-    by_load r trees (loaded first root service) mid new service (tree (texts_of root first) (has_folder first root) service)
-    (sources_at (texts_of root mid) (has_folder mid root) service) (sources_at (texts_of root first) (has_folder first root) service) report
+    by_load r trees (loaded first root service) mid new service (tree (texts_of root first) (directory_exists first root) service)
+    (sources_at (texts_of root mid) (directory_exists mid root) service) (sources_at (texts_of root first) (directory_exists first root) service) report
     loads (sources_stay root service first mid stays) is
 
 refused_by_load : {E : Type 0} (r : Result Output E) (stop : Refuse LoadFault) (looked : Result Counts Stop) (mid : VaultState) (service : List ℕ)
@@ -81,11 +81,11 @@ refused_by_load (Ok e) NoMemory looked mid service stack sources report fails is
 refused_by_load (Err x) stop looked mid service stack sources report fails is = tt
 
 pub refused_so : {E : Type 0} (r : Result Output E) (stop : Refuse LoadFault) (first mid : VaultState) (root service report : List ℕ)
-    → LoadsBy (Err stop) (loaded first root service) mid (tree (texts_of root first) (has_folder first root) service) → IfOk r (λ e. IsRefused e stop)
+    → LoadsBy (Err stop) (loaded first root service) mid (tree (texts_of root first) (directory_exists first root) service) → IfOk r (λ e. IsRefused e stop)
     → IfOk r (λ e. Says (λ w. IsWritten e w) first root service report mid)
 refused_so r stop first mid root service report fails is =
-    refused_by_load r stop (loaded first root service) mid service (tree (texts_of root first) (has_folder first root) service)
-    (sources_at (texts_of root first) (has_folder first root) service) report fails is
+    refused_by_load r stop (loaded first root service) mid service (tree (texts_of root first) (directory_exists first root) service)
+    (sources_at (texts_of root first) (directory_exists first root) service) report fails is
 
 -- ---- the same with any files
 

@@ -13,7 +13,7 @@ use Rattle.service_load.specs.declared.load_fault.LoadFault.{LoadFault}
 use Rattle.service_load.specs.declared.rule_type.RuleType.{RuleType}
 use Rattle.service_load.specs.FirstFault.{Counts, Stop}
 use Rattle.service_load.specs.Kinds.{KindCounts}
-use Rattle.service_load.specs.Load.{loaded, has_folder}
+use Rattle.service_load.specs.Load.{loaded, directory_exists}
 use Rattle.service_load.specs.Loading.{texts_of}
 use Rattle.service_load.specs.Stacks.{Stacks, stacks_of}
 use Rattle.service_load.specs.Tree.{tree}
@@ -85,8 +85,8 @@ SaysBy P (Err stop) service stack sources text vault = P (refused_written stop.f
 abbrev pub Says : (Written → Type 0) → VaultState → List ℕ → List ℕ → List ℕ → VaultState → Type 0
 Says P old root service text new =
     SaysBy P (loaded old root service) service
-    (tree (texts_of root old) (has_folder old root) service)
-    (sources_at (texts_of root old) (has_folder old root) service) text new
+    (tree (texts_of root old) (directory_exists old root) service)
+    (sources_at (texts_of root old) (directory_exists old root) service) text new
 
 -- ---- with any files
 

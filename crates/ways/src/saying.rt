@@ -1,5 +1,5 @@
 ghost use Rattle.std.specs.Prelude.{◌≡◌, [], IsTrue, IfOk, string_bytes};
-ghost use Rattle.service_load.specs.Load.{AreBounded, has_folder};
+ghost use Rattle.service_load.specs.Load.{AreBounded, directory_exists};
 ghost use Rattle.service_load.specs.Loading.{OnlyCalls, texts_of};
 ghost use Rattle.service_load.specs.Trees.{stacks_of_trees};
 ghost use Rattle.explain_origins.specs.Placed.{sources_at};
@@ -84,7 +84,7 @@ fn said_by(
     ensures told { IsTrue (vault_tells vault.old) → IfOk result (λ output.
         OrUnread (λ w. IsWritten output w) (Tells service.now (stacks_of_trees trees.now)
         (sources_at (texts_of root.now (vault_holds vault.old))
-        (has_folder (vault_holds vault.old) root.now) service.now) table.now)
+        (directory_exists (vault_holds vault.old) root.now) service.now) table.now)
         (vault_holds vault.new)) }
     ensures stays { IsTrue (vault_tells vault.old) →
         OnlyCalls (vault_holds vault.old) (vault_holds vault.new) }

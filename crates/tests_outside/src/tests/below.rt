@@ -39,7 +39,7 @@ fn the_root_is_its_own_parent(rt: HostRuntime) -> Result<(), Fail> {
     let tree = tree_in(rt, &folder)?;
     let tree = tree.as_str();
     let mut vault = FolderVault::below(rt, tree.as_bytes())?;
-    for (name, is_folder) in [
+    for (name, is_directory) in [
         ("", Ok(true)),
         ("/..", Ok(true)),
         ("-more/outside", Err(ReplaceFault::Failed)),
@@ -48,7 +48,7 @@ fn the_root_is_its_own_parent(rt: HostRuntime) -> Result<(), Fail> {
         let read = vault.read(alloc, path.as_bytes(), LIMIT);
         assert_eq!(rt; bytes_of(&read), Err(VaultFault::Failed), "at {name}");
         let found = vault.folder(alloc, path.as_bytes());
-        assert_eq!(rt; found, is_folder, "at {name}");
+        assert_eq!(rt; found, is_directory, "at {name}");
     }
     fs::remove_dir_all(&rt, folder.as_path())?;
     Ok(())

@@ -160,7 +160,7 @@ fn real_files_are_read_whole_or_refused(rt: HostRuntime) -> Result<(), Fail> {
     }
     let long = "longer-than-a-name-may-be-".repeat(alloc, 20)?;
     let mut vault = FolderVault::new(rt);
-    for (name, want, is_folder) in [
+    for (name, want, is_directory) in [
         ("common", Ok(b"front".as_slice()), Ok(false)),
         ("most", Ok(most.as_slice()), Ok(false)),
         ("more", Err(VaultFault::TooLong), Ok(false)),
@@ -186,7 +186,7 @@ fn real_files_are_read_whole_or_refused(rt: HostRuntime) -> Result<(), Fail> {
         let read = vault.read(alloc, path.as_str().as_bytes(), LIMIT);
         assert_eq!(rt; bytes_of(&read), want, "at {name}");
         let found = vault.folder(alloc, path.as_str().as_bytes());
-        assert_eq!(rt; found, is_folder, "at {name}");
+        assert_eq!(rt; found, is_directory, "at {name}");
     }
     let read = vault.read(alloc, b"/tmp/\xff", LIMIT);
     assert_eq!(rt; bytes_of(&read), Err(VaultFault::Failed));

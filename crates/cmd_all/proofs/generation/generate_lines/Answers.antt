@@ -31,6 +31,6 @@ returns-in-Ok-clause-generate g c = record {
 pub returns-in-Ok-clause-cleaned_up : goal.returns-in-Ok-clause-cleaned_up
 returns-in-Ok-clause-cleaned_up g c =
     rw c.in-Ok.ensures.players at
-    (cleaned_up _ _ _ _ _ _ _ (c.proceeding_stands.ensures _) c.in-Ok.ensures.first refl
+    (cleaned_up _ _ _ _ _ _ _ (c.proceeding_adds_events.ensures _) c.in-Ok.ensures.first refl
     (proceeds_too _ _ (ends_generate c.generate-generated.result _ (ap exit_status c.generate_exit.ensures)) _ _ _ _ _
     c.generate-generated.ensures.went.proceeds) c.generate-generated.ensures.none_open)

@@ -30,6 +30,6 @@ returns-in-Ok-clause-login g c =
 pub returns-in-Ok-clause-cleaned_up : goal.returns-in-Ok-clause-cleaned_up
 returns-in-Ok-clause-cleaned_up g c =
     rw c.with_terminal-desk.ensures.players at
-    (cleaned_at _ _ (ends_login c.login-verdict.result _ (ap exit_status c.login_exit.ensures)) _ _ _ _ _ _ (c.proceeding_stands.ensures _)
+    (cleaned_at _ _ (ends_login c.login-verdict.result _ (ap exit_status c.login_exit.ensures)) _ _ _ _ _ _ (c.proceeding_adds_events.ensures _)
     c.in-Ok.ensures.opened refl refl refl
     c.login-verdict.ensures.went c.login-verdict.ensures.none_open)

@@ -3,12 +3,12 @@ use Rattle.cmd_all.proofs.opening.library_of.Goals as goal
 
 pub returns-clause-first : goal.returns-clause-first
 returns-clause-first g c =
-    stand_at_first _ _ c.args.desk.convs.items _ _ (c.closed_places_stand_for_none.ensures.stand _) c.in_ok-library.ensures.slots c.requires.no_births
+    stand_at_first _ _ c.args.desk.convs.items _ _ (c.closed_places_have_no_events.ensures.stand _) c.in_ok-library.ensures.slots c.requires.no_births
     c.requires.no_receipts
 
 pub returns-clause-sound : goal.returns-clause-sound
 returns-clause-sound g c =
-    sound_at_first _ c.args.desk.convs.items _ _ _ _ (c.closed_places_stand_for_none.ensures.sound _ _) c.requires.sixteen c.in_ok-library.ensures.slots
+    sound_at_first _ c.args.desk.convs.items _ _ _ _ (c.closed_places_have_no_events.ensures.sound _ _) c.requires.sixteen c.in_ok-library.ensures.slots
     c.requires.no_births c.requires.no_receipts
 
 pub returns-clause-none_open : goal.returns-clause-none_open

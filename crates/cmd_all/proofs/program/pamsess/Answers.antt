@@ -11,7 +11,7 @@ pub returns-in-Some-Run-clause-run : goal.returns-in-Some-Run-clause-run
 returns-in-Some-Run-clause-run g c root asked =
     run_asked _ _ _ _ _ _ _ root (rw c.in-Some-Run.field-0-is at c.in-Some-Run.ensures) asked
     (script_so _ _ _ (c.status-in-Some-Run.ensures ∙ ap exit_status c.script_exit.ensures) _ _ _ _ c.run_under.ensures.under
-    c.numbers_stand_side_by_side.ensures c.run_under.ensures.reports)
+    c.numbers_go_alone.ensures c.run_under.ensures.reports)
 
 pub returns-in-Some-Run-clause-command : goal.returns-in-Some-Run-clause-command
 returns-in-Some-Run-clause-command g c =

@@ -34,7 +34,7 @@ returns-in-Ok-clause-under g c = record {
   source_tells = c.run_stream-result.ensures.ran.source_tells;
   sink_tells = c.run_stream-result.ensures.ran.sink_tells;
   world_tells = c.run_stream-result.ensures.ran.went.world_tells ∙ c.reset_clock.ensures.tells ∙ c.library_under.ensures.tells;
-  cleaned_up = cleaned_at _ _ (λ number status is. is) _ _ _ _ _ _ (c.proceeding_stands.ensures _) c.in-Ok.ensures.opened refl refl
+  cleaned_up = cleaned_at _ _ (λ number status is. is) _ _ _ _ _ _ (c.proceeding_adds_events.ensures _) c.in-Ok.ensures.opened refl refl
       c.reset_clock.ensures.process c.run_stream-result.ensures.ran.went c.run_stream-result.ensures.ran.none_open;
 }
 

@@ -23,9 +23,9 @@ returns-in-None-clause-ahead c =
 
 pub returns-then-ends-clause-leads : goal.returns-then-ends-clause-leads
 returns-then-ends-clause-leads c = λ s stands.
-    ended_at c.args.chain.now.nodes _ _ _ _ s (sym c.if-ends.ensures) c.end-behind.ensures.value stands
+    ended_at c.args.chain.now.nodes _ _ _ _ s (sym c.if-ends.ensures) c.end-past_end.ensures.value stands
 
 pub returns-then-ends-clause-ahead : goal.returns-then-ends-clause-ahead
 returns-then-ends-clause-ahead c =
     goes_ahead c.args.chain.now.nodes c.args.action _ _ c.args.new _ c.requires.within
-    (λ s stands. ended_at c.args.chain.now.nodes _ _ _ _ s (sym c.if-ends.ensures) c.end-behind.ensures.value stands)
+    (λ s stands. ended_at c.args.chain.now.nodes _ _ _ _ s (sym c.if-ends.ensures) c.end-past_end.ensures.value stands)

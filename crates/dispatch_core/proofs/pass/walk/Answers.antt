@@ -152,9 +152,9 @@ returns-clause-done g c =
           let sofar = c.loop-walker.invariant.1 in
           let answers : Answering State = answers_by (map (player_of (λ b. (goal.Module-dyn g (b.vtable, b.value)).label b.value) (λ b. (goal.Module-dyn g (b.vtable, b.value)).plays b.value) (λ b. (goal.Module-dyn g (b.vtable, b.value)).note b.value) (λ b. (goal.Module-dyn g (b.vtable, b.value)).breaks b.value)) c.args.mods.now) c.args.request.func c.args.request.flags in
           let now : State = state_of (plain_room (λ b. (goal.Conv-dyn g (b.vtable, b.value)).conv_holds b.value) c.loop-walker.room) (plain_world (λ b. (goal.Vault-dyn g (b.vtable, b.value)).vault_holds b.value) (λ b. (goal.Clock-dyn g (b.vtable, b.value)).clock_holds b.value) (λ b. (goal.Nap-dyn g (b.vtable, b.value)).nap_holds b.value) c.loop-walker.world) in
-          let behind : lines_in c.args.chain.now.nodes ≤ c.loop-walker.walker.at = omega (arith, c.len.ensures.counted, c.loop-walker-test.false, ap lines_in sofar.nodes) in
+          let past_end : lines_in c.args.chain.now.nodes ≤ c.loop-walker.walker.at = omega (arith, c.len.ensures.counted, c.loop-walker-test.false, ap lines_in sofar.nodes) in
           walks_to _ c.loop-walker.walker.opinion c.loop-walker.memory.answers.past c.loop-walker.invariant.0 now c.loop-walker.keeps c.loop-walker.memory.answers sofar.progress.taken_is sofar.progress.kept_is _ c.verdict.ensures
-          (ended_at_last c.args.request.kind (serving c.args.request.kind (by_place c.args.follows.now) answers) c.args.chain.now.nodes c.loop-walker.walker _ _ behind (sofar.goes told));
+          (ended_at_last c.args.request.kind (serving c.args.request.kind (by_place c.args.follows.now) answers) c.args.chain.now.nodes c.loop-walker.walker _ _ past_end (sofar.goes told));
       by_trail =
           let sofar = c.loop-walker.invariant.1 in
           traced_ended _ _ _ _ _ c.loop-walker.walker c.loop-walker.memory.answers.past c.loop-walker.invariant.0 _ c.loop-walker.keeps c.loop-walker.memory.answers _ sofar.traced sofar.progress.taken_is sofar.progress.kept_is

@@ -1,5 +1,5 @@
 use Rattle.session_audit.specs.pass_replay.specs.Retold.{stacks_in}
-use Rattle.session_audit.specs.service_load.specs.Load.{has_folder}
+use Rattle.session_audit.specs.service_load.specs.Load.{directory_exists}
 use Rattle.session_audit.specs.service_load.specs.Loading.{texts_of}
 use Rattle.explain_origins.specs.Placed.{sources_at}
 use Rattle.explain.proofs.Loading.{shows_with, told_with}
@@ -10,7 +10,7 @@ returns-clause-told g c = λ tells.
     let first = (goal.Vault-dyn g c.args.vault.now).vault_holds c.args.vault.now.1 in
     let new = (goal.Vault-dyn g (c.args.vault.now.0, c.sources_of-found.new.vault)).vault_holds c.sources_of-found.new.vault in
     told_with c.explained_with.result c.sources_of-found.result (stacks_in c.args.trees.now)
-    (sources_at (texts_of c.args.root.now first) (has_folder first c.args.root.now) c.args.service.now) c.args.report.now new
+    (sources_at (texts_of c.args.root.now first) (directory_exists first c.args.root.now) c.args.service.now) c.args.report.now new
     (c.sources_of-found.ensures.told tells) (c.sources_of-found.ensures.planned tells) c.explained_with.ensures
 
 pub returns-clause-shows : goal.returns-clause-shows

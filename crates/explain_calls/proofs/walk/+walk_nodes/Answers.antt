@@ -12,7 +12,7 @@ use Rattle.pass_replay.specs.Walk.{WalkEnds, state_in}
 use Rattle.pass_replay.proofs.Peeling.{few_there, peeled, peeled_line, peeled_sub, some_left}
 use Rattle.pass_replay.proofs.Walking.{sub_put_off, walking_line, walking_skip, walking_sub}
 use Rattle.explain_calls.specs.declared.turn.Turn.{Turn}
-use Rattle.explain_calls.specs.Rows.{rows, rows_behind}
+use Rattle.explain_calls.specs.Rows.{rows, rows_after}
 use Rattle.explain_calls.specs.Walk.{after_turn}
 use Rattle.explain_calls.proofs.Showing.{few_left, last_are, showing_line, showing_skip, showing_sub, showing_waits, sub_waits}
 use Rattle.explain_calls.proofs.walk.+walk_nodes.Goals as goal
@@ -64,7 +64,7 @@ returns-in_default-clause-shows t c =
     let goes = λ (left : count rest ≡ c.loop-node.left - 1).
     subst (λ (o : Option Turn). c.loop-node.shown ++ rows c.args.run.kind serve 0 c.loop-node.why (line c.in-Line.rule rest) (c.loop-node.replay.at + 1)
     c.args.entry c.loop-node.opinion old
-    ≡ c.walk_line.new.shown ++ rows_behind c.args.run.kind serve rest (c.loop-node.replay.at + 1 + 1) c.args.entry o new)
+    ≡ c.walk_line.new.shown ++ rows_after c.args.run.kind serve rest (c.loop-node.replay.at + 1 + 1) c.args.entry o new)
     c.in_default.is (c.in_ok-turn-in-Line.ensures.shows rest left) in
     showing_waits _ _ _ _ _ _ _ _ _ rest _ _ _ _ _ _ _ _ _ _ _ _ c.loop-node.invariant.showing here none_over counted c.in_ok-turn-in-Line.ensures.at
     (ap stack_of last) goes c.in_ok-replay-in-Line.ensures.shows
@@ -167,7 +167,7 @@ loop-node-preserved t c =
           let shows = λ (left : count rest ≡ c.loop-node.left - 1).
           subst (λ (o : Option Turn). c.loop-node.shown ++ rows c.args.run.kind serve 0 c.loop-node.why (line w.in-Line.rule rest) (c.loop-node.replay.at + 1)
           c.args.entry c.loop-node.opinion old
-          ≡ w.walk_line.new.shown ++ rows_behind c.args.run.kind serve rest (c.loop-node.replay.at + 1 + 1) c.args.entry o new)
+          ≡ w.walk_line.new.shown ++ rows_after c.args.run.kind serve rest (c.loop-node.replay.at + 1 + 1) c.args.entry o new)
           w.in-Some.is (w.in_ok-turn-in-Line.ensures.shows rest left) in
           let further = w.in_ok-turn-in-Line.ensures.at in
           let onward : NextNode = record { opinion = w.in-Some.turn.opinion; skip = w.in-Some.turn.skip } in

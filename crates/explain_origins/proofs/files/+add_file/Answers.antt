@@ -6,7 +6,7 @@ use Rattle.pam_base.specs.declared.fault.NoMemory.{NoMemory}
 use Rattle.explain_origins.proofs.Going.{adds_nothing, going_all, going_in, going_taken, placed_is, too_deep}
 use Rattle.explain_origins.proofs.Since.{adds_since, only_more}
 use Rattle.service_load.specs.declared.rule_file.RuleFile.{RuleFile}
-use Rattle.service_load.specs.Files.{is_in_folder, own_rules, plain_file}
+use Rattle.service_load.specs.Files.{is_in_directory, own_rules, plain_file}
 use Rattle.service_load.specs.Loading.{texts_of}
 use Rattle.explain_origins.specs.contracts.files.add_file.{dyn-1-ghosts}
 use Rattle.explain_origins.specs.contracts.files.add_file.dyn-1 as borrowed
@@ -29,7 +29,7 @@ loop-rule-preserved-in_default-2 g t c =
     c.in_default-2.is c.in_ok-inclusion.ensures in
     record {
       tells = inv.tells;
-      going = λ tells. going_taken at c.args.rule_type c.args.file.now.name (is_in_folder c.args.file.now) c.args.file.now.service _ _ c.rule-item.result _ _ _ _ _ _
+      going = λ tells. going_taken at c.args.rule_type c.args.file.now.name (is_in_directory c.args.file.now) c.args.file.now.service _ _ c.rule-item.result _ _ _ _ _ _
           c.loop-rule-test.true c.rule-item.is c.in_ok-step.ensures taken (inv.going tells);
       stays = inv.stays;
       faults = inv.faults;
@@ -47,7 +47,7 @@ loop-rule-preserved g t c =
     c.in-Some-2.is c.in_ok-inclusion.ensures in
     record {
       tells = c.in_ok-found.ensures.tells ∙ inv.tells;
-      going = λ tells. going_in at c.args.rule_type c.args.file.now.name (is_in_folder c.args.file.now) c.args.file.now.service _ _ c.rule-item.result _ _ _ _ _ _ _ _ _ c.in-Some-2.inclusion
+      going = λ tells. going_in at c.args.rule_type c.args.file.now.name (is_in_directory c.args.file.now) c.args.file.now.service _ _ c.rule-item.result _ _ _ _ _ _ _ _ _ c.in-Some-2.inclusion
           c.loop-rule-test.true c.rule-item.is c.in_ok-step.ensures taken
           (adds_since _ _ _ root first here (c.args.level + 1) c.args.rule_type c.in-Some-2.inclusion.file (inv.stays tells) (c.in_ok-found.ensures.told (inv.tells ∙ tells)))
           c.is_any-any.ensures (inv.going tells);
@@ -61,6 +61,6 @@ returns-clause-told g t c = λ tells.
     let texts = texts_of c.args.root.now first in
     let deeper : List ℕ → Placed = λ name. placed_at texts (c.args.level + 1) c.args.rule_type (plain_file name) in
     let meant = rw c.in-Some.is at (c.in_ok-rules.ensures.told tells) in
-    going_all deeper c.args.rule_type c.args.file.now.name (is_in_folder c.args.file.now) c.args.file.now.service _ _ _ _ _ _
+    going_all deeper c.args.rule_type c.args.file.now.name (is_in_directory c.args.file.now) c.args.file.now.service _ _ _ _ _ _
     (c.loop-rule.invariant.going tells) (drop_of_length-le _ c.loop-rule-test.false)
     (rw c.items-rule-items.ensures (placed_is texts c.args.level c.args.rule_type c.args.file.now (own_rules c.args.file.now.service c.in-Some.rules) c.if-level-gt-MAX_LEVEL.false meant))

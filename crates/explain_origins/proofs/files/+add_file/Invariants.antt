@@ -2,7 +2,7 @@ use Rattle.std.proofs.Common.{◌≡◌, ◌+◌, ◌-◌, List, ℕ, drop, true
 use Rattle.explain_origins.specs.Placed.{Placed}
 use Rattle.explain_origins.specs.Reading.{placed_at}
 use Rattle.explain_origins.proofs.Going.{Going}
-use Rattle.service_load.specs.Files.{is_in_folder, plain_file}
+use Rattle.service_load.specs.Files.{is_in_directory, plain_file}
 use Rattle.service_load.specs.Loading.{OnlyCalls, texts_of}
 use Rattle.explain_origins.specs.contracts.files.add_file.{dyn-1-ghosts}
 use Rattle.explain_origins.specs.contracts.files.add_file.dyn-1 as borrowed
@@ -20,7 +20,7 @@ invariant-loop-rule g l =
     record {
       tells : now.vault_tells l.vault.now.1 ≡ start.vault_tells l.fn.vault.now.1;
       going : start.vault_tells l.fn.vault.now.1 ≡ true →
-          Going deeper l.rule_type l.file.name (is_in_folder l.file) l.file.service l.rule-items (drop l.rule-index l.rule-items) l.fn.origins l.origins l.any;
+          Going deeper l.rule_type l.file.name (is_in_directory l.file) l.file.service l.rule-items (drop l.rule-index l.rule-items) l.fn.origins l.origins l.any;
       stays : start.vault_tells l.fn.vault.now.1 ≡ true → OnlyCalls first (now.vault_holds l.vault.now.1);
       faults : now.vault_faults l.vault.now.1 ≡ start.vault_faults l.fn.vault.now.1;
     }

@@ -13,13 +13,13 @@ use Rattle.handler_chain.proofs.add_list.+add_list.Goals.{in-Line+in_ok-rule-in-
 pub loop-node-init : goal.loop-node-init
 loop-node-init t c =
     let first : c.len.result ≡ length c.args.lines.now.items = search rules in
-    let start : c.len-behind.result ≡ length c.args.positions.now.items = search rules in
+    let start : c.len-past_end.result ≡ length c.args.positions.now.items = search rules in
     let nodes : c.len-left.result ≡ count (stack_of c.args.nodes.now.vec.items) = search (rules, count-stack_of) in
     rw c.deref-node-items.ensures.value
     (adding_start c.args.names.now c.args.level c.args.opens (stack_of c.args.nodes.now.vec.items) c.args.lines.now.items c.args.positions.now.items _ _ c.len.result _ c.in_ok-add_positions.ensures first start nodes c.requires.few c.requires.opens)
 
-pub overflow_add-behind : goal.overflow_add-behind
-overflow_add-behind t c = omega (arith, c.loop-node.invariant.block.room)
+pub overflow_add-past_end : goal.overflow_add-past_end
+overflow_add-past_end t c = omega (arith, c.loop-node.invariant.block.room)
 
 pub overflow_sub-left : goal.overflow_sub-left
 overflow_sub-left t c =

@@ -1,6 +1,6 @@
 use Rattle.std.proofs.Common.{◌≡◌, ◌+◌, ◌∷◌, [], ◌++◌, append_assoc, arith, ap, ◌∙◌, rules, drop}
 use Rattle.control_words.specs.Stack.{lines_in, stack_of}
-use Rattle.handler_chain.specs.Flat.{positions_behind}
+use Rattle.handler_chain.specs.Flat.{positions_after}
 use Rattle.handler_chain.proofs.Peeling.{peeled_line, peeled_sub, IsNext, next_line, next_sub, marked}
 use Rattle.handler_chain.proofs.add_list.add_positions.Goals as goal
 use Rattle.handler_chain.proofs.add_list.add_positions.Goals.{in-Line, in-Sub}
@@ -9,7 +9,7 @@ pub loop-node-init : goal.loop-node-init
 loop-node-init c = record {
   marked =
       let pushed : c.push.new.self.items ≡ c.args.positions.now.items ++ c.args.first ∷ [] = search rules in
-      rw (pushed, c.deref-node-items.ensures.value) (append_assoc c.args.positions.now.items (c.args.first ∷ []) (positions_behind c.args.first (stack_of c.args.nodes.now.vec.items)));
+      rw (pushed, c.deref-node-items.ensures.value) (append_assoc c.args.positions.now.items (c.args.first ∷ []) (positions_after c.args.first (stack_of c.args.nodes.now.vec.items)));
   few = rw c.deref-node-items.ensures.value c.requires.few;
 }
 

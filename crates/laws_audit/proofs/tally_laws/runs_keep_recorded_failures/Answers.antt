@@ -11,7 +11,7 @@ returns-clause-script c = λ path setting n s script alone.
     let run = c.runs_change_files_by_plays.ensures.script setting n s script in (
       run.0,
       run.1,
-      tallies path setting.players alone c.recorded_failures_stand.ensures.one c.written_tallies_are_read.ensures.new c.recorded_failures_stand.ensures.all
+      tallies path setting.players alone c.recorded_failures_are_kept.ensures.one c.written_tallies_are_read.ensures.new c.recorded_failures_are_kept.ensures.all
           s.world.vault.files run.0 (run_lines (line_step setting) n s script).last.world.vault.files run.2,
     )
 
@@ -23,6 +23,6 @@ returns-clause-closings c = λ path setting n s script status alone.
       run.1,
       subst (λ (files : List File). Tallies path setting.players s.world.vault.files run.0 files)
           (sym (c.runs_change_files_by_plays.ensures.closings setting.players status last))
-          (tallies path setting.players alone c.recorded_failures_stand.ensures.one c.written_tallies_are_read.ensures.new c.recorded_failures_stand.ensures.all
+          (tallies path setting.players alone c.recorded_failures_are_kept.ensures.one c.written_tallies_are_read.ensures.new c.recorded_failures_are_kept.ensures.all
           s.world.vault.files run.0 last.world.vault.files run.2),
     )

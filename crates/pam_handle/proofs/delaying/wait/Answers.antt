@@ -7,7 +7,7 @@ use Rattle.pam_handle.proofs.delaying.wait.Goals as goal
 pub returns-in-Some-clause-told : goal.returns-in-Some-clause-told
 returns-in-Some-clause-told g c = λ number is told.
     waited_some c.args.ended.code c.args.delay_on number c.args.waited.now c.asked_of-asked.result _ c.in-Some.wait _ _ (c.asked_of-asked.ensures.told told) (sym (c.wait_by.ensures.wait number is) ∙ c.in-Some.is)
-    (c.rest_for.ensures.told (rw c.asked_of-asked.ensures.tells told) ∙ ap (λ (w : PlainWorld). rested_by (Some c.in-Some.wait) w) (c.asked_of-asked.ensures.drawn told))
+    (c.rest_for.ensures.told (rw c.asked_of-asked.ensures.tells told) ∙ ap (λ (w : PlainWorld). rested_by (Some c.in-Some.wait) w) (c.asked_of-asked.ensures.random_taken told))
 
 pub returns-in-Some-clause-sound : goal.returns-in-Some-clause-sound
 returns-in-Some-clause-sound g c = record {

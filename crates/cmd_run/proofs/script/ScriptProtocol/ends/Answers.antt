@@ -2,8 +2,8 @@ use Rattle.cmd_run.proofs.Concluding.{completes_script, ends_script, reads_scrip
 use Rattle.cmd_run.proofs.script.ScriptProtocol.ends.Goals as goal
 
 pub returns-clause-told : goal.returns-clause-told
-returns-clause-told c = runs_script c.whole_input_is_looked_at.ensures (λ setting. c.calls_stand_for_their_events.ensures)
-    (λ setting code. c.end_stands.ensures)
+returns-clause-told c = runs_script c.whole_input_is_looked_at.ensures (λ setting. c.calls_add_their_events.ensures)
+    (λ setting code. c.end_adds_its_event.ensures)
 
 pub returns-clause-read : goal.returns-clause-read
 returns-clause-read c = reads_script

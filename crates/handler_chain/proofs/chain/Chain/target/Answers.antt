@@ -18,7 +18,7 @@ returns-clause-value c =
     let a = view_answers _ _ _ _ _ _ _ _ c.self.view_is c.self.invariant c.requires c.index-line.ensures in
     elim c.if-n-line.branch [
       | then-n-line w ↦
-          let within : c.index-line.result.now.behind + c.args.n < length c.self.inside.positions.items = omega (arith, a.room, w.if-n-line.true) in
+          let within : c.index-line.result.now.past_end + c.args.n < length c.self.inside.positions.items = omega (arith, a.room, w.if-n-line.true) in
           w.target-is ∙ ap (λ n. Some n) (get_or_read c.self.inside.positions.items _ _ within w.index.ensures 0) ∙ a.near c.args.n w.if-n-line.true
       | else-n-line w ↦ w.target-is ∙ a.far c.args.n w.if-n-line.false
     ]

@@ -5,7 +5,7 @@ use Rattle.pam_base.specs.declared.code.Code.TheVariants.{Abort, SystemErr}
 use Rattle.dispatch_core.specs.Pending.{first_in, past_in, pending_after}
 use Rattle.dispatch_core.specs.pam_room.specs.Module.{notes_of, player_of}
 use Rattle.dispatch_core.specs.pam_room.specs.Plain.{plain_room, plain_world}
-use Rattle.pam_handle.specs.Call.{request_behind}
+use Rattle.pam_handle.specs.Call.{request_after}
 use Rattle.pam_handle.specs.Handle.{PlainHandle}
 use Rattle.pam_handle.specs.Pass.{kept_answers}
 use Rattle.pam_handle.specs.Plain.{pending_of, plain_handle}
@@ -83,7 +83,7 @@ returns g c =
     let give = c.passes-result.ensures.give in
     let stays = rw (ap (λ (k : PlainHandle). k.waited) give.others) at (not_waited _ _ _ _ _ _ _ c.sleep_after.ensures.sound) in
     let new = c.keep_pending.ensures.plain
-    ∙ ap (λ (t : ItemTexts). record mid { room = request_behind paused (room_with t mid.room); pending = pending_after c.args.func later paused; waited = waited }) c.clear_after.ensures
+    ∙ ap (λ (t : ItemTexts). record mid { room = request_after paused (room_with t mid.room); pending = pending_after c.args.func later paused; waited = waited }) c.clear_after.ensures
     ∙ ap (λ (k : PlainHandle). record k { room = room_end c.args.func paused mid.room; pending = pending_after c.args.func later paused; waited = waited }) give.others in
     let rests = not_rested c.passes-result.result c.args.func paused _ c.passes-result.new.world c.passes-result.new.world c.sleep_after.new.world c.code_waited-ended.ensures refl c.sleep_after.ensures.stays in
     record {

@@ -1,6 +1,6 @@
 use Rattle.std.proofs.Common.{sym, refl, ap, arith}
 use Rattle.pam_outside.specs.Memory.{VaultMemory}
-use Rattle.pam_outside.proofs.Putting.{is_within, put_over, put_behind, put_found, put_others}
+use Rattle.pam_outside.proofs.Putting.{is_within, put_over, put_after, put_found, put_others}
 use Rattle.pam_outside.proofs.memory_vault.MemVault.put.Goals as goal
 
 pub index_mut-requires : goal.index_mut-requires
@@ -16,7 +16,7 @@ returns-in-Some-clause-ok c =
 pub returns-in_ok-push-in-None-clause-ok : goal.returns-in_ok-push-in-None-clause-ok
 returns-in_ok-push-in-None-clause-ok c =
     let at = rw (c.in-None.is, c.deref.ensures.value) at c.place_of.ensures in
-    rw (← c.self.view_is, c.in_ok-push-in-None.ensures.items, c.in_ok-from_bytes.ensures, c.in_ok-from_bytes-2.ensures, put_behind c.args.path.now c.args.bytes.now c.self.inside.files.items (sym at)) refl
+    rw (← c.self.view_is, c.in_ok-push-in-None.ensures.items, c.in_ok-from_bytes.ensures, c.in_ok-from_bytes-2.ensures, put_after c.args.path.now c.args.bytes.now c.self.inside.files.items (sym at)) refl
 
 pub returns-in-Some-clause-found : goal.returns-in-Some-clause-found
 returns-in-Some-clause-found c =

@@ -1,5 +1,5 @@
 use Rattle.pam_library.proofs.Neighbours.{slot_alone, outcomes_are}
-use Rattle.pam_library.proofs.laws.places_stand_side_by_side.Goals as goal
+use Rattle.pam_library.proofs.laws.places_go_alone.Goals as goal
 
 pub returns-clause-slot : goal.returns-clause-slot
 returns-clause-slot c = slot_alone

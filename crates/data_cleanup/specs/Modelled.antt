@@ -45,7 +45,7 @@ EachOnce limit ledger data_of = (id : ℕ) → times_filed id (receipts_in ledge
 
 -- The cleanup log and the lists of the transactions, whose numbers are below a limit, are those of these events. A
 -- transaction that is closed has no data.
-pub record StandFor (note : Notes) (limit : ℕ) (ledger : PlainLedger) (lists : Lists)
+pub record ModelsEvents (note : Notes) (limit : ℕ) (ledger : PlainLedger) (lists : Lists)
     (events : List Event) : Type 0 where
   pub births : ledger.births ≡ births_of events
   pub receipts : receipts_in ledger.filed ≡ due note events

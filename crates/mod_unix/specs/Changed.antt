@@ -16,7 +16,7 @@ shadow_path root = path_of root (codes "/etc/shadow")
 
 -- AUTHTOK is a token that the user's entry in shadow accepts; the entries of all others, and all
 -- other files, are as they were.
-pub record TokenStands (root user : List ℕ) (before : List File) (room : SeenRoom)
+pub record TokenIsChanged (root user : List ℕ) (before : List File) (room : SeenRoom)
     (after : List File) : Type 0 where
   pub token : List ℕ
   pub token_is : room.items.auth_tok ≡ Some token
@@ -36,8 +36,8 @@ pub record TokenStands (root user : List ℕ) (before : List File) (room : SeenR
 
 -- The files are as before, since with this flag a token that need not be changed stays; or the
 -- token was changed.
-abbrev pub StaysOrStands : PlainCall → Sight → Played → Type 0
-StaysOrStands call sight played =
+abbrev pub StaysOrIsChanged : PlainCall → Sight → Played → Type 0
+StaysOrIsChanged call sight played =
     ((has_flag call.flags change_expired_authtok ≡ true) × (played.files ≡ sight.files)) ⊎
-    TokenStands sight.root (unwrap_or played.room.items.user []) sight.files played.room
+    TokenIsChanged sight.root (unwrap_or played.room.items.user []) sight.files played.room
     played.files

@@ -1,7 +1,7 @@
 use Rattle.mod_history.proofs.Cutting.{kept_last}
 use Rattle.mod_history.proofs.Doing.{does_one}
 use Rattle.mod_history.proofs.Following.{calls_stand}
-use Rattle.mod_history.proofs.laws.hashes_stand.Goals as goal
+use Rattle.mod_history.proofs.laws.hashes_are_kept.Goals as goal
 
 pub returns-clause-one : goal.returns-clause-one
 returns-clause-one c = λ path call room held sight. does_one path call room held sight

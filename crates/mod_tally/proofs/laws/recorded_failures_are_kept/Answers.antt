@@ -2,7 +2,7 @@ use Rattle.mod_tally.proofs.Doing.{does_one}
 use Rattle.mod_tally.proofs.Following.{calls_count, none_lost}
 use Rattle.mod_tally.proofs.Rereading.{tally-read}
 use Rattle.mod_tally.proofs.Wellformed.{on_file-fits}
-use Rattle.mod_tally.proofs.laws.recorded_failures_stand.Goals as goal
+use Rattle.mod_tally.proofs.laws.recorded_failures_are_kept.Goals as goal
 
 pub returns-clause-one : goal.returns-clause-one
 returns-clause-one c = does_one

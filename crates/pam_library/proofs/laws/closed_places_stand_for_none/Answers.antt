@@ -1,8 +1,0 @@
-use Rattle.pam_library.proofs.Spending.{closed_are_sound, closed_stand_for_none}
-use Rattle.pam_library.proofs.laws.closed_places_stand_for_none.Goals as goal
-
-pub returns-clause-sound : goal.returns-clause-sound
-returns-clause-sound c = closed_are_sound c.growth_holds.ensures c.nothing_grows.ensures c.nothing_is_held.ensures
-
-pub returns-clause-stand : goal.returns-clause-stand
-returns-clause-stand c = closed_stand_for_none c.nothing_moves.ensures c.nothing_stands_for_none.ensures
