@@ -5,7 +5,7 @@ use Rattle.std.proofs.lemmas.Bool.{ltb-false}
 use Rattle.std.proofs.lemmas.Bool.Decides.{nat_tests}
 use Rattle.pam_base.specs.Lines.{last_line}
 use Rattle.account_db.specs.Entries.{entry_in, is_faulty, unless_faulty}
-use Rattle.account_db.proofs.Lacking.{lines_from}
+use Rattle.account_db.proofs.AbsentByteFacts.{lines_from}
 
 module _ {E : Type 0} (form : List ℕ → Option E) where
   -- no line is at fault

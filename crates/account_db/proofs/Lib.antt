@@ -1,9 +1,9 @@
-mod Taking
-mod Reading
-mod Trimming
+mod FirstElementFacts
+mod TextLineFacts
+mod TrailingSpaceFacts
 mod Rows
-mod Placing
-mod Lacking
+mod NewHashBytesFacts
+mod AbsentByteFacts
 mod Faultless
 mod Nine_fields
-mod Renewing
+mod NewHashEntryFacts

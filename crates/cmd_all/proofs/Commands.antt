@@ -33,8 +33,8 @@ use Rattle.cmd_all.specs.Command.{Command, runs, checks, logs_in, generates, tal
 use Rattle.cmd_all.specs.Run.{Completes, IsStatus, ReadsBy, Runs}
 use Rattle.cmd_all.specs.Wire.{IsReadThrough, IsWireStatus, ReadsFramesBy, Serves, WireCompletes}
 use Rattle.cmd_all.proofs.Alone.{is_accepted, is_refused}
-use Rattle.cmd_all.proofs.Telling.{done_of, refused_of, unread_of}
-use Rattle.cmd_all.proofs.Wiring.{answered}
+use Rattle.cmd_all.proofs.RunStatusFacts.{done_of, refused_of, unread_of}
+use Rattle.cmd_all.proofs.WireStatusFacts.{answered}
 
 -- ---- failures
 

@@ -1,8 +1,8 @@
 pub mod Alone
-pub mod Cleaning
+pub mod CleanupRecordFacts
 pub mod Commands
 pub mod LoggingIn
 pub mod Statuses
-pub mod Telling
-pub mod Wiring
+pub mod RunStatusFacts
+pub mod WireStatusFacts
 pub mod Under

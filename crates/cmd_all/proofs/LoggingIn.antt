@@ -22,8 +22,8 @@ use Rattle.cmd_all.specs.CleanedUp.{EndsGenerate, EndsLogin}
 use Rattle.cmd_all.specs.Generate.{GeneratesBy, IsGenerated}
 use Rattle.cmd_all.specs.Login.{IsLogin, ShowsLogin, at_root, entry}
 use Rattle.cmd_all.specs.Opened.{IsOpened}
-use Rattle.cmd_login.proofs.Reporting.{said_unbegun}
-use Rattle.cmd_all.proofs.Telling.{both_left, both_right, both_true}
+use Rattle.cmd_login.proofs.LoginReportFacts.{said_unbegun}
+use Rattle.cmd_all.proofs.RunStatusFacts.{both_left, both_right, both_true}
 
 module _ (root : List ℕ) (setup : Setup) (old : PlainWorld) (s : Seen) (new : PlainWorld) (ends : List PlainSlot) (service : List ℕ) (user : Option (List ℕ))
     (p q : SinkState) where

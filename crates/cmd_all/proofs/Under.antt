@@ -33,7 +33,7 @@ use Rattle.cmd_all.specs.Under.{ReadsOrNot, RunsOrNot, RunsUnder}
 use Rattle.cmd_all.specs.Wire.{ReadsFramesBy, Serves}
 use Rattle.cmd_all.proofs.Alone.{nothing_read}
 use Rattle.cmd_all.proofs.Commands.{run_read_fault, run_write_fault, runs_so, wires_so}
-use Rattle.cmd_all.proofs.Wiring.{completes_by, no_fault_read, no_frame_read, read_by, through}
+use Rattle.cmd_all.proofs.WireStatusFacts.{completes_by, no_fault_read, no_frame_read, read_by, through}
 
 -- ---- a script
 

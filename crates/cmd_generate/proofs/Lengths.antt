@@ -12,7 +12,7 @@ use Rattle.service_load.specs.conf_lex.specs.Answer.{answer_to, answer_unless_nu
 use Rattle.service_load.specs.conf_lex.specs.Lexing.{nul_line}
 use Rattle.service_load.specs.declared.entry.RuleContent.{RuleContent}
 use Rattle.cmd_generate.specs.RandomRules.{HoldsRules, contents_of, service_contents}
-use Rattle.cmd_generate.proofs.Holding.{holds_file, holds_service}
+use Rattle.cmd_generate.proofs.GeneratedRuleFacts.{holds_file, holds_service}
 
 module _ (text : List ℕ) where
   abbrev too_long : Result (List RawRule) LexFault

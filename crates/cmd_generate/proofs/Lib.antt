@@ -1,13 +1,13 @@
-pub mod Proceeding
-pub mod Closing
-pub mod Putting
-pub mod Attempting
-pub mod Writing
-mod Reading
+pub mod CallSequenceFacts
+pub mod FirstSlotFacts
+pub mod FileSequenceFacts
+pub mod LoginAttemptFacts
+pub mod OutputFacts
+mod RuleLineFacts
 mod Lines
-mod Holding
+mod GeneratedRuleFacts
 mod Lengths
-mod Storing
-mod Passing
-mod Loading
+mod StoredFileFacts
+mod LoadSizeFacts
+mod FaultlessLoadFacts
 mod Written

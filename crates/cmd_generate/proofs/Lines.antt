@@ -20,7 +20,7 @@ use Rattle.service_load.specs.declared.entry.RuleContent.TheVariants.{Line}
 use Rattle.service_load.specs.declared.rule_type.RuleType.TheVariants.{Auth}
 use Rattle.service_load.specs.Entry.{entry_of}
 use Rattle.cmd_generate.specs.RandomRules.{action_picked, default_actions, random_content, random_rule, substack_content, success_actions}
-use Rattle.cmd_generate.proofs.Reading.{Ruled, is_feed, is_nul}
+use Rattle.cmd_generate.proofs.RuleLineFacts.{Ruled, is_feed, is_nul}
 
 -- ---- the words of a line
 

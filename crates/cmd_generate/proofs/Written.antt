@@ -18,8 +18,8 @@ use Rattle.cmd_generate.specs.Loads.{IsFree, LoadsAll}
 use Rattle.cmd_generate.specs.Login.{after_start, called, refusal_in, start_call, state_in}
 use Rattle.cmd_generate.specs.Placing.{Placed, placed, with_vault}
 use Rattle.cmd_generate.proofs.Lengths.{all_short}
-use Rattle.cmd_generate.proofs.Loading.{loads}
-use Rattle.cmd_generate.proofs.Storing.{all, stored, vault_with}
+use Rattle.cmd_generate.proofs.FaultlessLoadFacts.{loads}
+use Rattle.cmd_generate.proofs.StoredFileFacts.{all, stored, vault_with}
 
 -- a file store without calls that are set to fail
 as_it_is : (v : VaultState) (files : List File) (locks : Locks) → v.files ≡ files → v.locks ≡ locks → v.fails ≡ [] → v ≡ vault_with files locks v.calls

@@ -1,9 +1,9 @@
 mod Rows
-pub mod Following
-pub mod Proceeding
-pub mod Answering
-pub mod Coursing
-pub mod Closing
-pub mod Coming
-pub mod Showing
-pub mod Reporting
+pub mod CallLineFacts
+pub mod CallSequenceFacts
+pub mod LoginCallFacts
+pub mod MiddleCallFacts
+pub mod TransactionEndFacts
+pub mod WholeLoginFacts
+pub mod LoginOutputFacts
+pub mod LoginReportFacts

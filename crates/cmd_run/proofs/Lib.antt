@@ -1,24 +1,24 @@
 mod Rows
 pub mod Lowest
-pub mod Serving
-pub mod Scripting
-pub mod Asking
-pub mod Reporting
-pub mod Parting
-pub mod Proceeding
-pub mod Going
-pub mod Finishing
+pub mod ItemEffectFacts
+pub mod LineEffectFacts
+pub mod ItemRequestFacts
+pub mod EndReportFacts
+pub mod ClosingLineFacts
+pub mod CallSequenceFacts
+pub mod RunPartFacts
+pub mod RunEndFacts
 pub mod Wholly
 pub mod Filed
-pub mod Concluding
-pub mod Isolating
-pub mod Joining
-pub mod Departing
+pub mod ScriptRunFacts
+pub mod IsolatedRunFacts
+pub mod ScriptLineFacts
+pub mod TwoRunsEndFacts
 pub mod Beside
-pub mod Happening
-pub mod Walking
-pub mod Cutting
-pub mod Consuming
-pub mod Making
-mod Refusing
+pub mod RunEventFacts
+pub mod ServedItemFacts
+pub mod StoppedRunFacts
+pub mod StreamBytesFacts
+pub mod CallReportFacts
+mod RefusedLineFacts
 mod Filewise

@@ -17,7 +17,7 @@ use Rattle.cmd_run.specs.Reported.{wrapped_closing, wrapped_closings}
 use Rattle.cmd_run.specs.Run.{EndsTo, EndsWith}
 use Rattle.cmd_run.specs.Script.{as_it_is}
 use Rattle.cmd_run.specs.Whole.{ending_status, stop_status, last_line, last_words, script_last, StopsIn, StopsClosing, RunsScript}
-use Rattle.cmd_run.proofs.Asking.{AllLooked}
+use Rattle.cmd_run.proofs.ItemRequestFacts.{AllLooked}
 use Rattle.cmd_run.proofs.Lowest.{none_left}
 
 -- lines that are written as they are

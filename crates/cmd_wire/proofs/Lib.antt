@@ -1,5 +1,5 @@
-pub mod Framing
-pub mod Concluding
-pub mod Asking
-pub mod Wording
+pub mod FrameEffectFacts
+pub mod FrontEndRunFacts
+pub mod FrameRequestFacts
+pub mod TakenBytesFacts
 pub mod Wholly

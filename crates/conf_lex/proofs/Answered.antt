@@ -7,7 +7,7 @@ use Rattle.conf_lex.specs.declared.token.RawRule.{RawRule}
 use Rattle.conf_lex.specs.declared.token.LexFault.{LexFault}
 use Rattle.conf_lex.specs.Lexing.{Gives, nul_line, before_nul, answer_at}
 use Rattle.conf_lex.specs.Answer.{answer_to}
-use Rattle.conf_lex.proofs.Moving.{nul_none, before_whole}
+use Rattle.conf_lex.proofs.NulByteFacts.{nul_none, before_whole}
 
 pub answer_long : (text : List ℕ) → 65536 < length text → answer_to text ≡ Err (record { line = 0; kind = FileTooLong })
 unfolding answer_to

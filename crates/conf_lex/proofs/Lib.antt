@@ -1,9 +1,9 @@
 mod Rows
 pub mod Once
 pub mod Every
-pub mod Taking
+pub mod TextUnitFacts
 pub mod TakingPieces
-pub mod Moving
-pub mod Answering
-pub mod Deciding
+pub mod NulByteFacts
+pub mod JoinedLineFacts
+pub mod FirstFaultFacts
 pub mod Answered

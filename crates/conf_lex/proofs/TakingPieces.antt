@@ -16,7 +16,7 @@ use Rattle.conf_lex.specs.Rules.{newlines}
 use Rattle.conf_lex.specs.Lexing.{begins_white, TakesJoin, TakesUnits, TakesPiece, TakesPieces, found_tokens, found_open}
 use Rattle.conf_lex.proofs.Once.{both, either, white_cases, goes_on_facts}
 use Rattle.conf_lex.proofs.Every.{which, unit_end, and_true}
-use Rattle.conf_lex.proofs.Taking.{newlines-append, no_newline, join_newline}
+use Rattle.conf_lex.proofs.TextUnitFacts.{newlines-append, no_newline, join_newline}
 
 pub join_piece : (taken : Bool) (before after : List ℕ) (m n : ℕ) → TakesJoin taken before after m n → taken ≡ true → TakesPiece founds.Blank before after m n
 join_piece false before after m n t e = absurd cc

@@ -1,7 +1,7 @@
 mod Rows
 pub mod Ready
-pub mod Taking
-pub mod Fitting
-pub mod Typing
-pub mod Conversing
-pub mod Answering
+pub mod FirstReplyFacts
+pub mod QueueReplyFacts
+pub mod TypedReplyFacts
+pub mod ExchangeFacts
+pub mod NoReplyFacts

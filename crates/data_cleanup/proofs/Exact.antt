@@ -13,7 +13,7 @@ use Rattle.data_cleanup.specs.declared.receipt.Filed.{Filed}
 use Rattle.data_cleanup.specs.Holding.{births_since, data_held}
 use Rattle.data_cleanup.specs.Modelled.{EachOnce, receipts_in, times_filed, times_held}
 use Rattle.data_cleanup.proofs.FiledOnce.{none_unfiled}
-use Rattle.data_cleanup.proofs.Naming.{by_test}
+use Rattle.data_cleanup.proofs.DataNameFacts.{by_test}
 
 unfiled_none : (id : ℕ) (fs : List Filed) → list_any (eqb id) (filed_ids fs) ≡ false → times_filed id (receipts_in fs) ≡ 0
 unfiled_none id [] e = refl

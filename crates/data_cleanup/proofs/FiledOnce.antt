@@ -10,9 +10,9 @@ use Rattle.data_cleanup.specs.Grows.{AreSwept, replacements}
 use Rattle.data_cleanup.specs.declared.datum.Birth.{Birth}
 use Rattle.data_cleanup.specs.declared.receipt.Filed.{Filed}
 use Rattle.data_cleanup.specs.Modelled.{receipts_in, times_filed}
-use Rattle.data_cleanup.proofs.Naming.{by_test}
+use Rattle.data_cleanup.proofs.DataNameFacts.{by_test}
 use Rattle.data_cleanup.proofs.Every.{every, every-append}
-use Rattle.data_cleanup.proofs.Tidying.{each_placed}
+use Rattle.data_cleanup.proofs.RecordOrderFacts.{each_placed}
 
 pub none_unfiled : (id : ℕ) (fs : List Filed) → times_filed id (receipts_in fs) ≡ 0 → list_any (eqb id) (filed_ids fs) ≡ false
 none_unfiled id [] e = refl

@@ -9,11 +9,11 @@ use Rattle.data_cleanup.specs.Grows.{IsOf, with_births}
 use Rattle.data_cleanup.specs.declared.datum.Birth.{Birth}
 use Rattle.data_cleanup.specs.Kept.{IsOfHandle}
 use Rattle.data_cleanup.proofs.Lists.{GrowsLive, HeldLive}
-use Rattle.data_cleanup.proofs.Naming.{by_test}
+use Rattle.data_cleanup.proofs.DataNameFacts.{by_test}
 use Rattle.data_cleanup.proofs.Every.{every, both, every-append, every-back}
-use Rattle.data_cleanup.proofs.Counting.{none_held}
+use Rattle.data_cleanup.proofs.DataCountFacts.{none_held}
 use Rattle.data_cleanup.proofs.OnceMore.{nothing_below, fresh_numbers, once_growth, once_end}
-use Rattle.data_cleanup.proofs.Tidying.{numbered_late, each_placed}
+use Rattle.data_cleanup.proofs.RecordOrderFacts.{numbered_late, each_placed}
 use Rattle.data_cleanup.proofs.Exact.{open_lists}
 
 -- no two records have the same id

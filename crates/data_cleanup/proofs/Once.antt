@@ -8,12 +8,12 @@ use Rattle.data_cleanup.specs.Due.{Event, birth, due, ends}
 use Rattle.data_cleanup.specs.declared.datum.Birth.{Birth}
 use Rattle.data_cleanup.specs.Holding.{data_held, receipts, replaced_data}
 use Rattle.data_cleanup.specs.Modelled.{AreBelow, births_of, handle_of, times_filed, times_held}
-use Rattle.data_cleanup.proofs.Looking.{law_births, law_end}
-use Rattle.data_cleanup.proofs.Counting.{times-with_births, times-reverse, filed-append, filed-receipts, times-numbered, numbered-back, data_held-moves, none_held}
+use Rattle.data_cleanup.proofs.NewestFirstFacts.{law_births, law_end}
+use Rattle.data_cleanup.proofs.DataCountFacts.{times-with_births, times-reverse, filed-append, filed-receipts, times-numbered, numbered-back, data_held-moves, none_held}
 use Rattle.data_cleanup.proofs.Every.{every-front, every-back}
-use Rattle.data_cleanup.proofs.Standing.{births_of-births, births_of-end}
+use Rattle.data_cleanup.proofs.LatestDataFacts.{births_of-births, births_of-end}
 use Rattle.data_cleanup.proofs.OnceMore.{nothing_below}
-use Rattle.data_cleanup.proofs.Keeping.{data_held-births, data_held-other, data_held-ended, data_held-other_ended}
+use Rattle.data_cleanup.proofs.EventModelFacts.{data_held-births, data_held-other, data_held-ended, data_held-other_ended}
 
 abbrev Once : Notes → ℕ → List Event → Type 0
 Once note limit events = AreNumbered 0 (births_of events) → AreBelow limit events

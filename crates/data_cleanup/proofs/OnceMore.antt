@@ -9,8 +9,8 @@ use Rattle.data_cleanup.specs.declared.datum.Birth.{Birth}
 use Rattle.data_cleanup.specs.Holding.{receipts, replaced_data}
 use Rattle.data_cleanup.specs.Modelled.{EachOnce, receipts_in, times_filed}
 use Rattle.data_cleanup.proofs.Lists.{GrowsLive}
-use Rattle.data_cleanup.proofs.Counting.{times-with_births, times-reverse, filed-append, filed-receipts, times-numbered, numbered-back, data_held-moves}
-use Rattle.data_cleanup.proofs.Tidying.{swept_receipts, tidied_receipts}
+use Rattle.data_cleanup.proofs.DataCountFacts.{times-with_births, times-reverse, filed-append, filed-receipts, times-numbered, numbered-back, data_held-moves}
+use Rattle.data_cleanup.proofs.RecordOrderFacts.{swept_receipts, tidied_receipts}
 
 pub nothing_below : (id n : ℕ) → n ≡ 0 → n ≡ (if ltb id 0 then 1 else 0)
 nothing_below id n e = grind arith

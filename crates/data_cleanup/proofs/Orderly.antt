@@ -14,8 +14,8 @@ use Rattle.data_cleanup.specs.Modelled.{Lists, ModelsEvents}
 use Rattle.data_cleanup.proofs.Every.{every, every-append, every-reverse}
 use Rattle.data_cleanup.proofs.OnceMore.{fresh_numbers}
 use Rattle.data_cleanup.proofs.FiledOnce.{replaced_later, swept_low, swept_within}
-use Rattle.data_cleanup.proofs.Standing.{held_latest}
-use Rattle.data_cleanup.proofs.Tidying.{all_tidy_more, end_tidy, growth_tidy, numbered_late}
+use Rattle.data_cleanup.proofs.LatestDataFacts.{held_latest}
+use Rattle.data_cleanup.proofs.RecordOrderFacts.{all_tidy_more, end_tidy, growth_tidy, numbered_late}
 
 pub tidy_on_growth : (note : Notes) (modules : ℕ) (old new : PlainDataList) (before after : PlainLedger)
     → Tidy note before → AreLatest before.births old → Grows note modules old before new after → IsSound after.births after.filed → AreNumbered 0 after.births

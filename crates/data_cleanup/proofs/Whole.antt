@@ -12,9 +12,9 @@ use Rattle.data_cleanup.specs.Modelled.{Lists, ModelsEvents, clean_list}
 use Rattle.data_cleanup.specs.Kept.{AreHeld}
 use Rattle.data_cleanup.specs.Moves.{Moves}
 use Rattle.data_cleanup.proofs.Lists.{StandLive, HeldLive, grows_live}
-use Rattle.data_cleanup.proofs.Naming.{by_test}
-use Rattle.data_cleanup.proofs.Counting.{same_below}
-use Rattle.data_cleanup.proofs.Keeping.{stand_at_first, stand_on_growth, stand_on_end}
+use Rattle.data_cleanup.proofs.DataNameFacts.{by_test}
+use Rattle.data_cleanup.proofs.DataCountFacts.{same_below}
+use Rattle.data_cleanup.proofs.EventModelFacts.{stand_at_first, stand_on_growth, stand_on_end}
 use Rattle.data_cleanup.proofs.Held.{held_at_first, held_on_growth, held_on_end, held_ready}
 
 abbrev live_of : Lists → ℕ → List PlainDatum

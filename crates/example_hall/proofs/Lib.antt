@@ -1,1 +1,1 @@
-pub mod Emptying
+pub mod EmptyHallFacts

@@ -1,3 +1,3 @@
-pub mod Loading
-pub mod Giving
-pub mod Leaving
+pub mod ReportOutputFacts
+pub mod OutputFacts
+pub mod ExitStatusFacts

@@ -1,2 +1,2 @@
-pub mod Showing
-pub mod Changing
+pub mod WalkRowFacts
+pub mod ChauthtokTextFacts

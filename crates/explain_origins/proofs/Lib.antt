@@ -1,6 +1,6 @@
-pub mod Failing
-pub mod Forgetting
-pub mod Going
-pub mod Stepping
+pub mod FailedAccessFacts
+pub mod PlacelessStackFacts
+pub mod FileRuleFacts
+pub mod SingleRuleFacts
 pub mod Since
 pub mod Texts

@@ -6,7 +6,7 @@ use Rattle.explain_lines.specs.declared.origin.Origin.{Origin}
 use Rattle.explain_lines.specs.Origins.{Sources}
 use Rattle.explain_origins.specs.Placed.{Placed, is_nothing, places, placed_from, placed_if, sources_at}
 use Rattle.explain_origins.specs.Reading.{Adds, placed_at}
-use Rattle.explain_origins.proofs.Going.{nothing_there}
+use Rattle.explain_origins.proofs.FileRuleFacts.{nothing_there}
 use Rattle.service_load.specs.declared.rule_file.RuleFile.{RuleFile}
 use Rattle.service_load.specs.declared.rule_type.RuleType.{RuleType}
 use Rattle.service_load.specs.declared.rule_type.RuleType.TheVariants.{Auth, Account, Password, Session}

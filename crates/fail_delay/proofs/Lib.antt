@@ -1,3 +1,3 @@
 mod Rows
 mod Longest
-mod Spreading
+mod DelaySpreadFacts

@@ -1,3 +1,3 @@
-pub mod Keeping
-pub mod Seeing
-pub mod Spelling
+pub mod CutFrameFacts
+pub mod FirstFrameFacts
+pub mod SpelledStepFacts

@@ -6,7 +6,7 @@ use Rattle.handler_chain.specs.declared.chain_line.ChainLine.{ChainLine}
 use Rattle.handler_chain.specs.FlatLines.{FlatLine, flat_lines, lines_in_first, level_at, opens_at, end_at, target_at, rule_at, module_at, module_of, no_rule}
 use Rattle.handler_chain.specs.Flat.{IsChainLine, AreLines, IsFlat}
 use Rattle.handler_chain.specs.Chain.{ChainView}
-use Rattle.handler_chain.proofs.Standing.{flat_lines-count, at_line-stands, line_within}
+use Rattle.handler_chain.proofs.StackLineFacts.{flat_lines-count, at_line-stands, line_within}
 
 are-count : (names : List (List ℕ)) (positions : List ℕ) (i : ℕ) (ss : List FlatLine) (es : List ChainLine) → AreLines names positions i ss es
     → length es ≡ length ss

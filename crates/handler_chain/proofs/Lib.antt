@@ -1,16 +1,16 @@
 mod WalkRows
 pub mod Negativity
-pub mod Following
-pub mod Keeping
+pub mod CachedRouteFacts
+pub mod CachedCodeFacts
 pub mod Complete
-pub mod Serving
-pub mod Resuming
+pub mod ServedLineFacts
+pub mod ResumedPassFacts
 pub mod PathLaws
-pub mod Retelling
-pub mod Straying
+pub mod ReplayedWalkFacts
+pub mod IncompleteWalkFacts
 mod Rows
-pub mod Listing
-pub mod Peeling
-pub mod Adding
-pub mod Standing
+pub mod NodeListFacts
+pub mod RestOfStackFacts
+pub mod AddedNodeFacts
+pub mod StackLineFacts
 pub mod Found

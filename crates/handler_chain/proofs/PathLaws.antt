@@ -7,10 +7,10 @@ use Rattle.handler_chain.specs.Walk.{Walked}
 use Rattle.handler_chain.specs.Route.{KeptAnswers, route_from, route}
 use Rattle.handler_chain.specs.Pass.{PassState, serving, pass_state, kept_in, places_of, pass_after}
 use Rattle.handler_chain.specs.PathLaw.{KeepsComplete, KeepsRoute, Follows, FollowsKeep, FollowsRoute, FindsKept}
-use Rattle.handler_chain.proofs.Following.{Goes, along}
-use Rattle.handler_chain.proofs.Keeping.{kept-places}
+use Rattle.handler_chain.proofs.CachedRouteFacts.{Goes, along}
+use Rattle.handler_chain.proofs.CachedCodeFacts.{kept-places}
 use Rattle.handler_chain.proofs.Complete.{on_first, has_all}
-use Rattle.handler_chain.proofs.Serving.{seen, Any_at, Any, Below, Agrees, follow_tells, keep_tells, keep_finds}
+use Rattle.handler_chain.proofs.ServedLineFacts.{seen, Any_at, Any, Below, Agrees, follow_tells, keep_tells, keep_finds}
 
 pub keeps_route : (State : Type 0) → KeepsRoute State
 keeps_route State before answering stack past s = λ runs.

@@ -1,2 +1,2 @@
-mod Aging
-mod Calling
+mod EntryAgeFacts
+mod AcctMgmtFacts

@@ -1,4 +1,4 @@
-mod Looking
+mod UserLookupFacts
 mod Shells
 mod Nologin
 mod Securetty

@@ -18,7 +18,7 @@ use Rattle.mod_lists.specs.ListSettings.{PlainSettings, list_item_of, sense_of, 
 use Rattle.mod_lists.specs.Listfile.{at_once, file_verdict, checks_list, checks_listed_user, code_for_values, error_answer, is_listed}
 use Rattle.mod_lists.specs.Listfile.{is_succeed, text_value, text_values, verdict}
 use Rattle.laws_check.specs.Listfile.{AllowedAreNamed, IsNamed}
-use Rattle.laws_check.proofs.Looking.{holds, user_given}
+use Rattle.laws_check.proofs.UserLookupFacts.{holds, user_given}
 
 error_by : (b : Bool) → b ≡ false → (if b then returns.Success else returns.ServiceErr) ≡ returns.Success → ⊥
 error_by true b e = true≢false b

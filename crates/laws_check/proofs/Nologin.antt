@@ -19,7 +19,7 @@ use Rattle.module_acts.specs.Uncheck.{code_unchecked}
 use Rattle.mod_lists.specs.Nologin.{after_notice, notice_for_account, admits_root_only, checks_notice, notice_limit, or_etc, plain_answer, reads_notice}
 use Rattle.laws_check.specs.Account.{HasAccount}
 use Rattle.laws_check.specs.Nologin.{IsRoot, NoNotice, OnlyRootGoesOn}
-use Rattle.laws_check.proofs.Looking.{absent, account_found, user_given}
+use Rattle.laws_check.proofs.UserLookupFacts.{absent, account_found, user_given}
 
 -- a code that lets the login go on is none of these
 record GoesOn (code : Code) : Type 0 where

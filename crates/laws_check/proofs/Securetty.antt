@@ -21,7 +21,7 @@ use Rattle.module_acts.specs.Uncheck.{code_unchecked}
 use Rattle.mod_history.specs.Securetty.{terminal_for_account, terminal_code, checks_if_root, looks_up_terminal, checks_terminal, is_secure, terminal_name}
 use Rattle.laws_check.specs.Account.{HasAccount}
 use Rattle.laws_check.specs.Securetty.{IsSecure, MayLogIn, RootIsThere}
-use Rattle.laws_check.proofs.Looking.{absent, account_found, holds, user_given}
+use Rattle.laws_check.proofs.UserLookupFacts.{absent, account_found, holds, user_given}
 
 -- ---- a prompt leaves TTY as it is
 

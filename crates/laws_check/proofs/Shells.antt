@@ -17,7 +17,7 @@ use Rattle.module_acts.specs.Uncheck.{code_unchecked}
 use Rattle.mod_lists.specs.Shells.{checks_login_shell, checks_shell, is_listed, list_code, login_shell}
 use Rattle.laws_check.specs.Account.{HasAccount}
 use Rattle.laws_check.specs.Shells.{HasListedShell, ShellIsListed}
-use Rattle.laws_check.proofs.Looking.{account_found, holds, user_given}
+use Rattle.laws_check.proofs.UserLookupFacts.{account_found, holds, user_given}
 
 listed_by : (b : Bool) → (if b then returns.Success else returns.AuthErr) ≡ returns.Success → b ≡ true
 listed_by true e = refl

@@ -27,7 +27,7 @@ use Rattle.module_acts.specs.Uncheck.{code_unchecked}
 use Rattle.mod_history.specs.Wheel.{code_of_entry, group_code, member_code, unless_tested, checks_user, checks_wheel, code_by_groups}
 use Rattle.mod_history.specs.Wheel.{code_by_passwds, is_passed_over, unknown_if_none, wheel_group}
 use Rattle.laws_check.specs.Wheel.{InWheel, OnlyMembersGoOn}
-use Rattle.laws_check.proofs.Looking.{holds, user_given}
+use Rattle.laws_check.proofs.UserLookupFacts.{holds, user_given}
 
 -- a code that lets the login go on is none of these
 record GoesOn (code : Code) : Type 0 where

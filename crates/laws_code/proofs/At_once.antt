@@ -10,7 +10,7 @@ use Rattle.mod_basic.specs.Rootok.{rootok_code, rootok_plays}
 use Rattle.laws_code.specs.Codes.{deny_codes, permit_codes, rootok_codes}
 use Rattle.laws_code.specs.Returns.{IsOneOf, ReturnsOf}
 use Rattle.laws_code.specs.Succeeds.{DenyNeverSucceeds, RootokSucceedsForRoot}
-use Rattle.laws_code.proofs.Giving.{either}
+use Rattle.laws_code.proofs.ModuleCodeFacts.{either}
 
 pub permits : ReturnsOf permit_plays permit_codes
 permits call room held sight = inl refl

@@ -19,7 +19,7 @@ use Rattle.mod_env.specs.Env.{entry_in, env_plays, is_zero, looks_if, puts_all, 
 use Rattle.mod_env.specs.Env.{sets_by, sets_variable, text_in}
 use Rattle.laws_code.specs.Codes.{env_codes, env_sets}
 use Rattle.laws_code.specs.Returns.{IsOneOf, ReturnsOf}
-use Rattle.laws_code.proofs.Giving.{Gives, answering, finding, reading, seeing_items}
+use Rattle.laws_code.proofs.ModuleCodeFacts.{Gives, answering, finding, reading, seeing_items}
 
 module _ (P : Code → Type 0) where
   putting : (text : List ℕ) (act : Act) → Gives P act → Gives P (puts_env text act)

@@ -1,10 +1,10 @@
-mod Giving
+mod ModuleCodeFacts
 mod At_once
-mod Checking
-mod Listing
+mod UserCheckFacts
+mod ConditionCodeFacts
 mod Environment
-mod Tallying
+mod FaillockCodeFacts
 mod Passwords
-mod Changing
-mod Remembering
-mod Anything
+mod UnixCodeFacts
+mod PwhistoryCodeFacts
+mod DebugCodeFacts

@@ -25,7 +25,7 @@ use Rattle.mod_unix.specs.Authenticate.{judge_account, keeps_for_setcred, try_fi
 use Rattle.mod_unix.specs.Look.{after_passwd, shadow_if_x, field_among, field_in, field_or_missing, is_x, looks, shadow_in}
 use Rattle.mod_unix.specs.Verify.{hash_compared, hash_verified, is_locked, verified}
 use Rattle.laws_code.specs.Returns.{IsOneOf}
-use Rattle.laws_code.proofs.Giving.{Gives, answering, asking, asking_token, delaying, either, keeping, reading, seeing_clock, seeing_items}
+use Rattle.laws_code.proofs.ModuleCodeFacts.{Gives, answering, asking, asking_token, delaying, either, keeping, reading, seeing_clock, seeing_items}
 
 -- ---- what is known of a password
 

@@ -1,4 +1,4 @@
-mod Noting
-mod Measuring
-mod Bounding
+mod DigestTextFacts
+mod TextLengthFacts
+mod RoundBoundFacts
 mod Rows

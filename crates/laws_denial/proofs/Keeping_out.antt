@@ -26,8 +26,8 @@ use Rattle.laws_lock.specs.Locked.{IsLocked}
 use Rattle.laws_denial.specs.Kept_out.{EachLine, IsGate, IsOther, LockedIsKeptOut, Suits}
 use Rattle.laws_denial.specs.Leaving.{LeavesUserAndFiles, LeftAlone}
 use Rattle.laws_denial.specs.NoWay.{NoWayNoSuccess}
-use Rattle.laws_denial.proofs.Gating.{locked_is_refused}
-use Rattle.laws_denial.proofs.Walking.{LineGives, all_good}
+use Rattle.laws_denial.proofs.LockedUserFacts.{locked_is_refused}
+use Rattle.laws_denial.proofs.PossibleCodeFacts.{LineGives, all_good}
 
 pub no_way : (State : Type 0) → NoWayNoSuccess State
 no_way State possible stack kept answering past s way_less = λ are succeeds.

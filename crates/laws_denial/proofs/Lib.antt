@@ -3,7 +3,7 @@ mod Lists
 mod Passwords
 mod Terminals
 mod Others
-mod Gating
-mod Walking
+mod LockedUserFacts
+mod PossibleCodeFacts
 mod Keeping_out
-mod Authenticating
+mod AuthenticateCodeFacts

@@ -1,4 +1,4 @@
-mod Listing
-mod Ending
-mod Calling
+mod LineRowFacts
+mod RowStateFacts
+mod CallTextFacts
 mod Rows

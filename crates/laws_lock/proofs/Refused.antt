@@ -20,7 +20,7 @@ use Rattle.mod_tally.specs.Faillock.{faillock_plays, tally_name}
 use Rattle.mod_tally.specs.Settings.{settings_of, task_among, task_word}
 use Rattle.laws_lock.specs.Denied.{IsFaillock}
 use Rattle.laws_lock.specs.Usual.{AuthfailRecords, CanRecord, RefusedIsRecorded, one_more}
-use Rattle.laws_lock.proofs.Reaching.{three_lines}
+use Rattle.laws_lock.proofs.UsualStackFacts.{three_lines}
 
 -- an answer with its code
 with_code : (a : Answered State) (code : Code) → a.answer ≡ code → a ≡ record { answer = code; state = a.state }

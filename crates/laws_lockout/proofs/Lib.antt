@@ -1,4 +1,4 @@
-mod Keeping
+mod KeptStackFacts
 mod Within
-mod Leading
-mod Denying
+mod UserFileFacts
+mod LockoutDenialFacts

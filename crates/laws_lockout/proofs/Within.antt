@@ -21,7 +21,7 @@ use Rattle.mod_tally.specs.Faillock.{faillock_plays}
 use Rattle.mod_tally.specs.Settings.{settings_of}
 use Rattle.laws_lockout.specs.Calls.{FindsSuch, StepsAsk}
 use Rattle.laws_lockout.specs.Within.{AllCountWithin, CountsWithin, EachRule}
-use Rattle.laws_lockout.proofs.Keeping.{AllHave, HasIf, have_at, step_has}
+use Rattle.laws_lockout.proofs.KeptStackFacts.{AllHave, HasIf, have_at, step_has}
 
 -- ---- a line of a stack
 

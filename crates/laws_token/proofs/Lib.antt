@@ -1,1 +1,1 @@
-mod Clearing
+mod ClearedTokenFacts

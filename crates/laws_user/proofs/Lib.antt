@@ -1,8 +1,8 @@
-mod Looking
-mod Asking
-mod Owning
-mod Walking
-mod Lining
-mod Calling
-mod Sparing
-mod Interfering
+mod AlikeModuleFacts
+mod UserItemFacts
+mod OwnEntryModuleFacts
+mod AlikeWalkFacts
+mod AlikeLineFacts
+mod AlikeCallFacts
+mod OwnEntryCallFacts
+mod OtherUserFacts

@@ -10,18 +10,18 @@ use Rattle.handler_chain.specs.Pass.{Answering, PassState, Visit, answers_of, ke
 use Rattle.handler_chain.specs.Route.{KeptAnswers, route_from}
 use Rattle.handler_chain.specs.Walk.{Walked}
 use Rattle.handler_chain.proofs.Complete.{has_all}
-use Rattle.handler_chain.proofs.Following.{Goes, along}
+use Rattle.handler_chain.proofs.CachedRouteFacts.{Goes, along}
 use Rattle.handler_chain.proofs.Negativity.{negative_opinion}
 use Rattle.handler_chain.proofs.PathLaws.{keeps_complete}
-use Rattle.handler_chain.proofs.Serving.{Agrees, Any, Any_at, Below, follow_tells, keep_finds, keep_tells, seen}
+use Rattle.handler_chain.proofs.ServedLineFacts.{Agrees, Any, Any_at, Below, follow_tells, keep_finds, keep_tells, seen}
 use Rattle.laws_stack.specs.Counted.{is_other}
-use Rattle.laws_stack.proofs.Counting.{counted_failure_denies}
+use Rattle.laws_stack.proofs.CountedCodeFacts.{counted_failure_denies}
 use Rattle.stack_ways.specs.declared.way.Way.{Way}
 use Rattle.stack_ways.specs.Laws.{ArePossible, IsRunAgain}
 use Rattle.stack_ways.specs.MayEnd.{CodesOf}
 use Rattle.stack_ways.specs.Ways.{WaysOf}
 use Rattle.stack_ways.proofs.Again.{cached_runs}
-use Rattle.stack_ways.proofs.Granting.{by_code}
+use Rattle.stack_ways.proofs.SuccessStateFacts.{by_code}
 use Rattle.stack_ways.proofs.Realised.{is_run}
 use Rattle.laws_way.specs.Cached.{CachedBy, CachedGrantedBy}
 

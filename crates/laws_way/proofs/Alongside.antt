@@ -13,7 +13,7 @@ use Rattle.handler_chain.specs.Route.{KeptAnswers}
 use Rattle.handler_chain.specs.Walk.{Next, Served, Walked, after, halted, new_or_overrun, next_of, onward, stop, walk, walked}
 use Rattle.stack_ways.specs.Laws.{ArePossible}
 use Rattle.stack_ways.specs.Ways.{IsListed}
-use Rattle.stack_ways.proofs.Granting.{by_code}
+use Rattle.stack_ways.proofs.SuccessStateFacts.{by_code}
 use Rattle.stack_ways.proofs.Realised.{lists_all}
 use Rattle.laws_way.specs.Loose.{LooseEndsByWays, LooseGoesAsFirst, LooseGrantedBy}
 use Rattle.laws_way.proofs.Beside.{Beside, acted_beside, last_beside, next_same, same_beside, undenied}

@@ -1,9 +1,9 @@
 mod Beside
 mod Alongside
 mod Again
-mod Changing
-mod Calling
-mod Telling
-mod Tracing
+mod TokenChangeFacts
+mod CallCodeFacts
+mod TracedRunFacts
+mod CallTraceFacts
 mod Rows
-mod Resuming
+mod ResumedCallFacts

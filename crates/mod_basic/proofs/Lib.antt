@@ -1,2 +1,2 @@
-mod Probing
+mod ProbeStateFacts
 mod Rows

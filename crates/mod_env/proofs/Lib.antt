@@ -1,6 +1,6 @@
-mod Putting
-mod Collecting
-mod Respelling
+mod EnvironmentStepFacts
+mod FoundSoFarFacts
+mod SpelledVariableFacts
 mod Spelled
-mod Settling
+mod SetVariableFacts
 mod Rows

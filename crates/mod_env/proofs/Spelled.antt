@@ -21,7 +21,7 @@ use Rattle.mod_env.specs.Value.{Next, broken, pieces_from_next, closed, ended, p
 use Rattle.mod_env.specs.Conf as conf
 use Rattle.mod_env.specs.Conf.{values_of}
 use Rattle.mod_env.specs.Spelling.{Follows, Given, IsPassedOver, SpellsConf, SpellsEntry, SpellsLines, SpellsPiece, SpellsPlace, SpellsQuoted, SpellsSetting, SpellsSettings, SpellsValue, SpellsWord, is_end, opens, quotes, values_after, word_of}
-use Rattle.mod_env.proofs.Respelling.{both, none_before, opened, quoted, some_marks}
+use Rattle.mod_env.proofs.SpelledVariableFacts.{both, none_before, opened, quoted, some_marks}
 
 -- ---- the first place
 

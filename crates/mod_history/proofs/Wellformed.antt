@@ -4,7 +4,7 @@ use Rattle.std.specs.List.{AllByRecursion, onto_first, slice_split}
 use Rattle.pam_base.specs.Bytes.{has_byte}
 use Rattle.pam_base.specs.Lines.{Cut, cut, last_line, lines_of, onto}
 use Rattle.pam_base.specs.Parts.{parts_of}
-use Rattle.pam_base.proofs.Cutting.{either}
+use Rattle.pam_base.proofs.TextPartFacts.{either}
 use Rattle.mod_history.specs.declared.history.Remembered.{Remembered}
 use Rattle.mod_history.specs.History.{IsHistory, IsLine, IsPart, all_in, are_distinct, history_of, if_distinct, put_before, part_in, remembered_in, with_hashes, with_parts}
 use Rattle.mod_history.specs.Standing.{history_on_file}

@@ -13,7 +13,7 @@ use Rattle.mod_tally.specs.declared.tally.Version.TheVariants.{One, Two}
 use Rattle.mod_tally.specs.Source.{put_before, unspelled}
 use Rattle.mod_tally.specs.Tally.{IsFailure, all_in, failures_of_version, cut_at, failure_in, failures_of, in_lines, is_kind, moment_of, unknown_at, version_of, with_moment, with_origin, with_source}
 use Rattle.mod_tally.specs.Recorded.{failures_on_file}
-use Rattle.mod_tally.proofs.Unspelling.{unspelled-exact}
+use Rattle.mod_tally.proofs.UniqueSpellingFacts.{unspelled-exact}
 
 both : (a b : Bool) → (a && b) ≡ true → (a ≡ true) × (b ≡ true)
 both true b e = (refl, e)

@@ -1,6 +1,6 @@
-mod Looking
-pub mod Acting
-mod Carrying
-mod Refusing
+mod ReadResultFacts
+pub mod FileStepFacts
+mod TransactionStepFacts
+mod ReturnedResultFacts
 mod Talks_on
-mod Deciding
+mod DecisionFacts

@@ -1,4 +1,4 @@
-pub mod Cutting
-pub mod Finding
-pub mod Numbering
-pub mod Reading
+pub mod TextPartFacts
+pub mod BytePositionFacts
+pub mod CodeNumberFacts
+pub mod TextLineFacts

@@ -8,7 +8,7 @@ use Rattle.pam_library.specs.Slots.{PlainSlot, slot_at, with_slot}
 use Rattle.pam_library.specs.SlotStep.{slot_step}
 use Rattle.pam_library.specs.Step.{Stepped, stepped, stepped_at}
 use Rattle.pam_library.specs.SideBySide.{Met, own_steps, slots_after, outcomes_on, alone, outcomes_alone}
-use Rattle.pam_library.proofs.Placing.{slot_at-with_slot_same, slot_at-with_slot_other}
+use Rattle.pam_library.proofs.SlotNumberFacts.{slot_at-with_slot_same, slot_at-with_slot_other}
 
 module _ (players : List Player) (number_of : Code → ℕ → ℕ) where
   -- a step by the slot of its number

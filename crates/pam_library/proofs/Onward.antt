@@ -24,7 +24,7 @@ use Rattle.pam_library.specs.Sound.{IsPlaced}
 use Rattle.pam_library.specs.AnyWorld.{AnswersBy, CanAnswer, CountsRefusal, Fails, GetsItem, StackFails, StackStops, StopsBy, is_code, refusal}
 use Rattle.pam_library.specs.InPlace.{CalledInSlot}
 use Rattle.pam_library.specs.Traced.{stack_of}
-use Rattle.pam_library.proofs.Tracing.{traced_before}
+use Rattle.pam_library.proofs.CallTraceFacts.{traced_before}
 use Rattle.pam_library.proofs.Within.{failed_by}
 
 stack_fails : (func : Func) (h : PlainHandle) (new : PlainSlot) → StackFails func (opened (all_told h)) new → StackFails func (opened h) new

@@ -35,8 +35,8 @@ use Rattle.pam_library.specs.Alike.{Cleaned, IsRecordedAt, datum_without_id, rec
 use Rattle.pam_library.specs.Outcome.{answers_only}
 use Rattle.pam_library.specs.Slots.{PlainSlot, closed, opened, is_open}
 use Rattle.pam_library.specs.SlotStep.{SlotStepped, answered, closed_step, ended, filed_in, is_refused_for_flags, offered, open_step, opened_by, other_pending, slot_step, stack_step, succeeded, told_by, unless_pending}
-use Rattle.pam_library.proofs.Looking.{CountsTwins, LookTwins, StopTwins, loaded_twins, quiet_with_calls}
-use Rattle.pam_library.proofs.Recording.{cleanings, cleanings_without_ids, filed_of_births, filed_own, no_cleanings_of_another, receipts_filed, turned_recorded, turned_without_ids}
+use Rattle.pam_library.proofs.SameFilesLoadFacts.{CountsTwins, LookTwins, StopTwins, loaded_twins, quiet_with_calls}
+use Rattle.pam_library.proofs.RecordedDataFacts.{cleanings, cleanings_without_ids, filed_of_births, filed_own, no_cleanings_of_another, receipts_filed, turned_recorded, turned_without_ids}
 use Rattle.pam_library.proofs.Twins.{Kept, KeptIn, RecordedIn, Touches, Twins, touched}
 use Rattle.pam_library.proofs.Twofold.{CalledTwins, stack_call_goes}
 
@@ -253,7 +253,7 @@ module _ (n number : ℕ) (first second : PlainWorld) where
     start_as found stacks u = let s = started_by begun found stacks u in opened_by (names_of players) conv (filed_in u) s.world s.answer
 
     called_so_often : (start : PlainWorld) (u : PlainWorld) (calls : ℕ) → KeptIn n number start u
-        → Rattle.pam_library.proofs.Looking.QuietAt u.vault.fails calls → Kept n number start (record u.vault { calls = calls }) u.clock u.process
+        → Rattle.pam_library.proofs.SameFilesLoadFacts.QuietAt u.vault.fails calls → Kept n number start (record u.vault { calls = calls }) u.clock u.process
     called_so_often start u calls k quiet = record {
       quiet = quiet_with_calls u.vault calls quiet;
       clock_is = k.clock_is;

@@ -20,10 +20,10 @@ use Rattle.pam_handle.specs.pam_room.specs.Module.{Played, Player, Plays, after_
 use Rattle.pam_handle.specs.pam_room.specs.Serve.{Answered, answer_or_incomplete, at_work, played_by, serve_line, served, served_by, swept, visited}
 use Rattle.pam_handle.specs.pam_room.specs.State.{PlainProcess, PlainRoom, PlainWorld, State, scene_in, with_scene}
 use Rattle.pam_library.specs.Alike.{AreRecorded, Cleaned, IsOfBirth, IsRecorded, NoCallFails, Shown, births_on, data_without_ids, receipts_on, room_without_ids, shown_to}
-use Rattle.pam_library.proofs.Forgetting.{births_added, named_without_ids, none_of_another, set_without_ids, unnumbered}
+use Rattle.pam_library.proofs.DataWithoutIdFacts.{births_added, named_without_ids, none_of_another, set_without_ids, unnumbered}
 use Rattle.pam_library.proofs.Quiet.{quiet_after, quiet_with_files}
-use Rattle.pam_library.proofs.Recording.{IsOwnFiled, cleanings, cleanings_without_ids, filed_of_births, filed_own, no_cleanings_of_another, receipts_filed, receipts_stay, set_recorded, still_of_births, still_own}
-use Rattle.pam_library.proofs.Timing.{draws_pass}
+use Rattle.pam_library.proofs.RecordedDataFacts.{IsOwnFiled, cleanings, cleanings_without_ids, filed_of_births, filed_own, no_cleanings_of_another, receipts_filed, receipts_stay, set_recorded, still_of_births, still_own}
+use Rattle.pam_library.proofs.ModuleTimeFacts.{draws_pass}
 
 -- n is the number for which the two runs are compared, `number` that of the call
 module _ (n number : ℕ) where

@@ -21,7 +21,7 @@ use Rattle.pam_library.specs.SlotStep.{SlotStepped, SlotStepsAs, filed_in, open_
 use Rattle.pam_library.specs.AnyWorld.{AnswersBy, CanAnswer, Fails, SpendsAt, StopsBy, is_free, refusal}
 use Rattle.pam_library.specs.InPlace.{CalledInSlot, StaysInside}
 use Rattle.pam_library.specs.Traced.{TracesIn}
-use Rattle.pam_library.proofs.Spending.{NothingGrows}
+use Rattle.pam_library.proofs.SlotChangeFacts.{NothingGrows}
 
 -- the calls that concern only the transaction itself
 abbrev pub is_inside : AppCall → Bool

@@ -1,7 +1,7 @@
-mod Telling
+mod ModelledObjectFacts
 mod Notes
-mod Serving
+mod ModuleRunFacts
 mod Prompts
-mod Setting
+mod SetDataFacts
 mod Parts
-mod Staying
+mod SameFilesFacts

@@ -11,7 +11,7 @@ use Rattle.pam_wire.specs.Frame.{IsFrame, AreBytes, has_frame, body_of, frame_of
 use Rattle.pam_wire.specs.Read.{step_in, step_by, step_of, first_frame_of}
 use Rattle.pam_wire.specs.Stream.{next_in, next_by, next_of, AreFramesOf, HasNoFrame}
 use Rattle.pam_wire.specs.Laws.{ReadsTable, HasOneFrame, IsOneStep, BeginsNoOther, HasOneReading}
-use Rattle.pam_wire.proofs.Framing.{step-read, body-size, sized-whole, frame-read, frame-written, same_step}
+use Rattle.pam_wire.proofs.FrameBytesFacts.{step-read, body-size, sized-whole, frame-read, frame-written, same_step}
 
 -- ---- what is read of some bytes is the step of a frame
 

@@ -1,9 +1,9 @@
 mod Rows
 pub mod Rests
-pub mod Framing
-pub mod Opening
+pub mod FrameBytesFacts
+pub mod IncompleteFrameFacts
 pub mod Lawful
-pub mod Giving
-pub mod Settling
-pub mod Fitting
-mod Wanting
+pub mod FedBytesFacts
+pub mod BytePrefixFacts
+pub mod ValidStepFacts
+mod StepAllocationFacts

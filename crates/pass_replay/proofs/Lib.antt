@@ -1,8 +1,8 @@
-pub mod Dropping
-pub mod Telling
-pub mod Keeping
-pub mod Peeling
-pub mod Serving
-pub mod Walking
-pub mod Finishing
-pub mod Calling
+pub mod ListRestFacts
+pub mod RecordedLineFacts
+pub mod CodeCellFacts
+pub mod RestOfStackFacts
+pub mod ReplayedLineFacts
+pub mod NodeWalkFacts
+pub mod PassResultFacts
+pub mod OnePassFacts

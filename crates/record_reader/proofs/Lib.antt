@@ -1,11 +1,11 @@
 pub mod Taken
-pub mod Running
-pub mod Serving
-pub mod Turning
-pub mod Going
+pub mod ItemSequenceFacts
+pub mod AppliedItemFacts
+pub mod ItemTurnFacts
+pub mod TurnSequenceFacts
 pub mod Wholly
 mod Rows
-pub mod Looking
+pub mod SeenLineFacts
 pub mod Running_lines
-pub mod Refusing
-pub mod Keeping
+pub mod RefusedLineFacts
+pub mod CutLineFacts

@@ -19,9 +19,9 @@ use Rattle.report_lines.specs.Line.{Cleanup, Told, told_message, told_visit, tol
 use Rattle.report_lines.specs.Says.{bare_told}
 use Rattle.report_lines.specs.Words.{before_space, after_space, last_word, before_last, guessed_number, guessed_status, unquoted, guessed_code, guessed_style, guessed_fault}
 use Rattle.report_lines.specs.Guess.{guessed_message, guessed_seen, guessed_cleanup, guessed_wait, guessed_told, guessed_by, guessed_shown, answer_by, by_keyword, has_form}
-use Rattle.report_lines.proofs.Cutting.{before_space-word, after_space-word, before_space-all, after_space-all, cut_again, last_word-cut, before_last-cut}
+use Rattle.report_lines.proofs.WordCutFacts.{before_space-word, after_space-word, before_space-all, after_space-all, cut_again, last_word-cut, before_last-cut}
 use Rattle.report_lines.proofs.Numbers.{Numeral, writes, numbered, Status, status_read}
-use Rattle.report_lines.proofs.Unquoting.{unquoted-quoted, quoted-append}
+use Rattle.report_lines.proofs.QuotedTextFacts.{unquoted-quoted, quoted-append}
 use Rattle.report_lines.proofs.Known.{KnownCode, known_code, KnownFault, known_fault, KnownStyle, known_style, known_func}
 
 -- ---- the words of a form

@@ -1,11 +1,11 @@
-mod Padding
-pub mod Cutting
+mod StatusPaddingFacts
+pub mod WordCutFacts
 pub mod Numbers
-pub mod Unquoting
+pub mod QuotedTextFacts
 pub mod Known
 pub mod Forms
-pub mod Reading
-pub mod Printing
+pub mod LineFormFacts
+pub mod NewlineFacts
 pub mod Commands
 pub mod Tested
 mod Rows

@@ -14,7 +14,7 @@ use Rattle.std.proofs.lemmas.List.Sums.{fold-append}
 use Rattle.pam_base.specs.Bytes.{has_byte}
 use Rattle.report_lines.specs.Line.{number_words, status_words}
 use Rattle.report_lines.specs.Words.{guessed_number, guessed_status}
-use Rattle.report_lines.proofs.Cutting.{has-append}
+use Rattle.report_lines.proofs.WordCutFacts.{has-append}
 
 -- ---- decimal digits
 

@@ -1,2 +1,2 @@
 mod Rows
-mod Lining
+mod ReportLineFacts

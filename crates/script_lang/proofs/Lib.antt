@@ -1,7 +1,7 @@
 pub mod Decimals
 pub mod Digits
-pub mod Fitting
-pub mod Numbering
-pub mod Reading
+pub mod ValidStepFacts
+pub mod TransactionNumberFacts
+pub mod StepLineFacts
 pub mod Rows
 pub mod Words

@@ -1,9 +1,9 @@
 mod Rows
 pub mod CheckingLemmas
 pub mod KindLemmas
-pub mod Opening
-pub mod Listing
-pub mod Expanding
-pub mod Filling
-pub mod Treeing
-pub mod Counting
+pub mod OpenedFileFacts
+pub mod NodeListFacts
+pub mod FileEntryFacts
+pub mod FourStackFacts
+pub mod StackTreeFacts
+pub mod CallCountFacts

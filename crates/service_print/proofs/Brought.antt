@@ -15,7 +15,7 @@ use Rattle.service_load.specs.FirstFault.{Counts, Stop, going_on, asked, absent_
 use Rattle.service_load.specs.Order.{Opener, as_service, as_other, as_last, by_rule, Item, begin, opening, checked, made, items, other_opener, tree_items}
 use Rattle.service_load.specs.Tree.{serves, nodes, tree_of}
 use Rattle.service_print.specs.Printed.{subs_in}
-use Rattle.service_print.proofs.Standing.{look-append}
+use Rattle.service_print.proofs.PrintedStackFacts.{look-append}
 use Rattle.service_print.proofs.Returned.{openings_for}
 use Rattle.service_print.proofs.Meant.{Meaning, nothing, a_line, an_include, a_substack, meant_nodes, meant_items, nodes_from, items_from}
 use Rattle.service_print.proofs.Taken.{Reading, good_rule}

@@ -12,7 +12,7 @@ use Rattle.pam_outside.specs.Paths.{root_before, path_of}
 use Rattle.service_print.specs.declared.file.File.{File}
 use Rattle.service_print.specs.Printed.{numbered, subs_in, substack_files, all_substack_files}
 use Rattle.service_print.specs.Reload.{placed_file}
-use Rattle.service_print.proofs.Adding.{length-substack_files}
+use Rattle.service_print.proofs.PrintedNodeFacts.{length-substack_files}
 use Rattle.service_print.proofs.Understood.{in_the_directory}
 
 -- ---- names

@@ -9,7 +9,7 @@ use Rattle.service_print.specs.declared.file.File.{File}
 use Rattle.service_print.specs.Tokens.{ended, text_of}
 use Rattle.service_print.specs.Printed.{subs_in, list_lines, substack_files, all_lines, all_substack_files, service_text, printed}
 use Rattle.service_print.specs.Filling.{empty_file}
-use Rattle.service_print.proofs.Adding.{length-substack_files}
+use Rattle.service_print.proofs.PrintedNodeFacts.{length-substack_files}
 
 pub text_of-append : (lines more : List (List ℕ)) → text_of (lines ++ more) ≡ text_of lines ++ text_of more
 text_of-append [] more = refl

@@ -1,9 +1,9 @@
 mod Keywords
-pub mod Entering
-pub mod Appending
-pub mod Adding
-pub mod Peeling
-pub mod Lining
+pub mod ControlEntryFacts
+pub mod AppendedTextFacts
+pub mod PrintedNodeFacts
+pub mod RestOfStackFacts
+pub mod LineFieldFacts
 pub mod FourStacks
 pub mod Rows
 pub mod Spelled
@@ -14,7 +14,7 @@ pub mod Fielded
 pub mod Meant
 pub mod Understood
 pub mod Stacked
-pub mod Standing
+pub mod PrintedStackFacts
 pub mod Found
 pub mod Segments
 pub mod Returned
@@ -23,4 +23,4 @@ pub mod Taken
 pub mod Known
 pub mod Brought
 pub mod Loadable
-pub mod Calling
+pub mod LoadCallFacts

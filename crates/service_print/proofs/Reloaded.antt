@@ -26,7 +26,7 @@ use Rattle.service_load.specs.Tree.{tree}
 use Rattle.service_print.specs.declared.file.File.{File}
 use Rattle.service_print.specs.Printed.{numbered, subs_in, substack_files, all_lines, all_substack_files, service_text, printed}
 use Rattle.service_print.specs.Reload.{LoadsTo, placed_file, HoldsJust, is_short, IsLowerName}
-use Rattle.service_print.proofs.Adding.{length-substack_files}
+use Rattle.service_print.proofs.PrintedNodeFacts.{length-substack_files}
 use Rattle.service_print.proofs.Lexed.{OneReading}
 use Rattle.service_print.proofs.Understood.{IsServiceName, in_the_directory}
 use Rattle.service_print.proofs.Found.{path_in, found_first, found_later, service_apart, Numbered, all_numbered, AllThere, texts_in, all_found}

@@ -15,7 +15,7 @@ use Rattle.service_load.specs.Tree.{nodes, tree_of, tree}
 use Rattle.service_print.specs.Printed.{subs_in}
 use Rattle.service_print.proofs.Understood.{AllWritable, in_the_directory}
 use Rattle.service_print.proofs.Stacked.{IsFile, file_nodes}
-use Rattle.service_print.proofs.Standing.{Stand, stack_stands, Passes, counts_with, pass-append, pass_none, pass_file, pass_stack}
+use Rattle.service_print.proofs.PrintedStackFacts.{Stand, stack_stands, Passes, counts_with, pass-append, pass_none, pass_file, pass_stack}
 use Rattle.service_print.proofs.Segments.{all_meanings, part_of}
 
 -- the conditions under which four stacks can be printed and load again

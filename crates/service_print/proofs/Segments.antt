@@ -20,7 +20,7 @@ use Rattle.service_print.proofs.Lexed.{Fields, tokens_in, line_text, lines_text,
 use Rattle.service_print.proofs.Meant.{Meaning, is_meant, meant_nodes, meant_items}
 use Rattle.service_print.proofs.Understood.{AllWritable, IsServiceName, in_the_directory}
 use Rattle.service_print.proofs.Stacked.{fields_from, meanings_from, AreLines, stack_lines, lines-append, stack_meant, meanings_nodes, meanings_items, lines_sound, lines_text_is, IsFile, is_file}
-use Rattle.service_print.proofs.Standing.{Stand}
+use Rattle.service_print.proofs.PrintedStackFacts.{Stand}
 use Rattle.service_print.proofs.Found.{AllThere, there-parts}
 
 -- ---- short files have short lines

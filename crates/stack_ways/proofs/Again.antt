@@ -10,8 +10,8 @@ use Rattle.handler_chain.proofs.PathLaws.{follows_keep}
 use Rattle.stack_ways.specs.MayEnd.{CodesOf, mark_of, marks_of}
 use Rattle.stack_ways.specs.Laws.{CachedRunsGoByWays, GrantedRunsAgain, IsRunAgain}
 use Rattle.stack_ways.specs.Ways.{IsListed}
-use Rattle.stack_ways.proofs.Gathering.{none_in}
-use Rattle.stack_ways.proofs.Granting.{by_code}
+use Rattle.stack_ways.proofs.WayListFacts.{none_in}
+use Rattle.stack_ways.proofs.SuccessStateFacts.{by_code}
 use Rattle.stack_ways.proofs.Realised.{lists_all}
 
 marked_here : (b : Bool) (x place : ℕ) → Contains (if b then x ∷ [] else []) place → Contains (x ∷ []) place

@@ -1,1 +1,1 @@
-mod Widening
+mod AddedSubstackFacts

@@ -1,4 +1,4 @@
-pub mod Loading
-pub mod Giving
-pub mod Leaving
-pub mod Telling
+pub mod ServiceOutputFacts
+pub mod OutputFacts
+pub mod ExitStatusFacts
+pub mod TableOutputFacts

@@ -1,1 +1,1 @@
-pub mod Rowing
+pub mod NodeRowFacts

@@ -1,4 +1,4 @@
-use Rattle.example_hall.proofs.Emptying.{fewer_are_open}
+use Rattle.example_hall.proofs.EmptyHallFacts.{fewer_are_open}
 use Rattle.example_hall.proofs.close_all.Goals as goal
 
 pub loop-number-smaller : goal.loop-number-smaller

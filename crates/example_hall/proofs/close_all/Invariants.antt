@@ -1,4 +1,4 @@
-use Rattle.example_hall.proofs.Emptying.{open_count}
+use Rattle.example_hall.proofs.EmptyHallFacts.{open_count}
 use Rattle.pam_library.specs.Seen.{IsSoundIn}
 use Rattle.pam_library.specs.contracts.session.SessionTold.TheImpl as session_told
 use Rattle.example_hall.proofs.close_all.Given as goal

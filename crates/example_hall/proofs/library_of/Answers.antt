@@ -1,4 +1,4 @@
-use Rattle.example_hall.proofs.Emptying.{sound_at_first}
+use Rattle.example_hall.proofs.EmptyHallFacts.{sound_at_first}
 use Rattle.example_hall.proofs.library_of.Goals as goal
 
 pub returns : goal.returns

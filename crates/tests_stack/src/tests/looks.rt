@@ -40,7 +40,7 @@ fn one_line(alloc: Global) -> Result<Nodes, NoMemory>
 }
 
 // Adds such a list as a substack.
-#[tactic(auto, using(crate::proofs::Widening::lines_after, crate::proofs::Widening::depth_after))]
+#[tactic(auto, using(crate::proofs::AddedSubstackFacts::lines_after, crate::proofs::AddedSubstackFacts::depth_after))]
 fn add_substack(alloc: Global, nodes: &mut Nodes) -> Result<(), NoMemory>
     ensures lines { OnOk result (lines_in (stack_of nodes.new.vec.items)
         ≡ lines_in (stack_of nodes.old.vec.items) + 1) }

@@ -1,7 +1,7 @@
 use Rattle.std.proofs.Common.{arith, refl, sym}
 use Rattle.account_db.specs.Entries.{entries_of}
-use Rattle.account_db.proofs.Taking.{none_left, taken}
-use Rattle.account_db.proofs.Reading.{at_fault, ended, few_lines}
+use Rattle.account_db.proofs.FirstElementFacts.{none_left, taken}
+use Rattle.account_db.proofs.TextLineFacts.{at_fault, ended, few_lines}
 use Rattle.account_db.proofs.entry.check_lines.Goals as goal
 
 pub overflow_add-number : goal.overflow_add-number

@@ -1,6 +1,6 @@
 use Rattle.std.proofs.Common.{length}
 use Rattle.pam_base.specs.Lines.{lines_of}
-use Rattle.account_db.proofs.Reading.{SoFar}
+use Rattle.account_db.proofs.TextLineFacts.{SoFar}
 use Rattle.account_db.proofs.entry.check_lines.Given as goal
 
 abbrev pub invariant-loop-line : goal.invariant-loop-line

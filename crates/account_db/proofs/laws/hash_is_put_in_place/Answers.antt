@@ -1,4 +1,4 @@
-use Rattle.account_db.proofs.Placing.{placed}
+use Rattle.account_db.proofs.NewHashBytesFacts.{placed}
 use Rattle.account_db.proofs.laws.hash_is_put_in_place.Goals as goal
 
 pub returns : goal.returns

@@ -1,4 +1,4 @@
-use Rattle.account_db.proofs.Renewing.{others_entries, read_again, users_entry}
+use Rattle.account_db.proofs.NewHashEntryFacts.{others_entries, read_again, users_entry}
 use Rattle.account_db.proofs.laws.new_hash_is_read.Goals as goal
 
 pub returns-clause-read : goal.returns-clause-read

@@ -1,7 +1,7 @@
 use Rattle.std.proofs.Common.{rules}
 use Rattle.account_db.specs.Parts.{fields_of}
 use Rattle.account_db.specs.Replace.{changed_line}
-use Rattle.account_db.proofs.Taking.{dropped_more}
+use Rattle.account_db.proofs.FirstElementFacts.{dropped_more}
 use Rattle.account_db.proofs.replace.changed_line.Goals as goal
 
 pub loop-preserved : goal.loop-preserved

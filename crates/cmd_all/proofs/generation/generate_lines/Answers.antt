@@ -2,9 +2,9 @@ use Rattle.std.proofs.Common.{ap, inr, refl, Err}
 use Rattle.record_reader.specs.declared.ending.Stop.TheVariants.{NoMemory}
 use Rattle.cmd_all.specs.Exit.{exit_status}
 use Rattle.cmd_all.proofs.Alone.{nothing_written}
-use Rattle.cmd_all.proofs.Cleaning.{cleaned_up, nothing_to_clean, proceeds_too}
+use Rattle.cmd_all.proofs.CleanupRecordFacts.{cleaned_up, nothing_to_clean, proceeds_too}
 use Rattle.cmd_all.proofs.LoggingIn.{ends_generate, generated}
-use Rattle.cmd_all.proofs.Telling.{both_left, both_right, both_true}
+use Rattle.cmd_all.proofs.RunStatusFacts.{both_left, both_right, both_true}
 use Rattle.cmd_all.proofs.generation.generate_lines.Goals as goal
 
 pub returns-in-Err-clause-generate : goal.returns-in-Err-clause-generate

@@ -1,8 +1,8 @@
 use Rattle.std.proofs.Common.{◌∙◌, ap, refl}
 use Rattle.cmd_all.specs.Exit.{exit_status}
-use Rattle.cmd_all.proofs.Cleaning.{cleaned_at, nothing_since}
+use Rattle.cmd_all.proofs.CleanupRecordFacts.{cleaned_at, nothing_since}
 use Rattle.cmd_all.proofs.LoggingIn.{ends_login, logs_in_not, logs_in_so}
-use Rattle.cmd_all.proofs.Telling.{both_left, both_right}
+use Rattle.cmd_all.proofs.RunStatusFacts.{both_left, both_right}
 use Rattle.cmd_all.proofs.login.log_in.Goals as goal
 
 pub library_under-requires : goal.library_under-requires

@@ -1,4 +1,4 @@
-use Rattle.cmd_all.proofs.Telling.{both_right, none_open_at_first, sound_at_first, stand_at_first}
+use Rattle.cmd_all.proofs.RunStatusFacts.{both_right, none_open_at_first, sound_at_first, stand_at_first}
 use Rattle.cmd_all.proofs.opening.library_of.Goals as goal
 
 pub returns-clause-first : goal.returns-clause-first

@@ -1,6 +1,6 @@
 use Rattle.std.proofs.Common.{ap, refl, sym, ◌∙◌}
 use Rattle.cmd_all.specs.Exit.{exit_status}
-use Rattle.cmd_all.proofs.Cleaning.{cleaned_as, nothing_cleaned, nothing_to_clean}
+use Rattle.cmd_all.proofs.CleanupRecordFacts.{cleaned_as, nothing_cleaned, nothing_to_clean}
 use Rattle.cmd_all.proofs.Commands.{audit_asked, audit_not_two, check_asked, check_is_other, generate_asked, generate_is_other}
 use Rattle.cmd_all.proofs.Commands.{goes_reading, goes_unread, login_asked, login_is_other, not_read, run_asked, run_not_two, tally_asked}
 use Rattle.cmd_all.proofs.Commands.{tally_is_other, wire_asked, wire_not_two}

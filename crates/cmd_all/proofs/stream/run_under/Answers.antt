@@ -1,8 +1,8 @@
 use Rattle.std.proofs.Common.{◌∙◌, inl, inr, [], Err, refl, sym, append-nil}
 use Rattle.record_reader.specs.declared.ending.Stop.TheVariants.{NoMemory}
 use Rattle.cmd_all.proofs.Alone.{nothing_written}
-use Rattle.cmd_all.proofs.Cleaning.{cleaned_at, nothing_since}
-use Rattle.cmd_all.proofs.Telling.{begun, both_left, both_right, both_true, reports_as}
+use Rattle.cmd_all.proofs.CleanupRecordFacts.{cleaned_at, nothing_since}
+use Rattle.cmd_all.proofs.RunStatusFacts.{begun, both_left, both_right, both_true, reports_as}
 use Rattle.cmd_all.proofs.stream.run_under.Goals as goal
 
 pub returns-in-Err-clause-under : goal.returns-in-Err-clause-under

@@ -1,6 +1,6 @@
 use Rattle.std.proofs.Common.{◌∙◌, ◌≤◌, length, arith}
 use Rattle.std.proofs.lemmas.Grind.{common_steps}
-use Rattle.cmd_audit.proofs.Taking.{taken_all, taken_more}
+use Rattle.cmd_audit.proofs.TranscriptPieceFacts.{taken_all, taken_more}
 use Rattle.cmd_audit.proofs.transcript.read_transcript.Goals as goal
 
 pub returns-in_err-read_more-clause-takes : goal.returns-in_err-read_more-clause-takes

@@ -1,5 +1,5 @@
 use Rattle.std.proofs.Common.{refl}
-use Rattle.cmd_check.proofs.Checking.{configured}
+use Rattle.cmd_check.proofs.CheckedConfigFacts.{configured}
 use Rattle.cmd_check.proofs.finding.find.Goals as goal
 
 pub returns-in_ok-configuration-in-Ok-clause-told : goal.returns-in_ok-configuration-in-Ok-clause-told

@@ -2,9 +2,9 @@ use Rattle.std.proofs.Common.{refl, ◌∙◌}
 use Rattle.cmd_run.specs.pam_room.specs.Plain.{plain_world}
 use Rattle.cmd_run.specs.pam_room.specs.State.{PlainWorld}
 use Rattle.cmd_run.specs.State.{state_of}
-use Rattle.cmd_generate.proofs.Attempting.{all_placed, not_begun, not_generated, not_placed, vault_of}
-use Rattle.cmd_generate.proofs.Closing.{both_tell, login_unbegun}
-use Rattle.cmd_run.proofs.Going.{went_on, went_quietly}
+use Rattle.cmd_generate.proofs.LoginAttemptFacts.{all_placed, not_begun, not_generated, not_placed, vault_of}
+use Rattle.cmd_generate.proofs.FirstSlotFacts.{both_tell, login_unbegun}
+use Rattle.cmd_run.proofs.RunPartFacts.{went_on, went_quietly}
 use Rattle.cmd_generate.proofs.generating.attempt.Goals as goal
 
 pub returns-in_err-set_process-clause-went : goal.returns-in_err-set_process-clause-went

@@ -1,5 +1,5 @@
-use Rattle.cmd_run.proofs.Going.{went_so}
-use Rattle.cmd_generate.proofs.Writing.{ends_by, finds}
+use Rattle.cmd_run.proofs.RunPartFacts.{went_so}
+use Rattle.cmd_generate.proofs.OutputFacts.{ends_by, finds}
 use Rattle.cmd_generate.proofs.generating.find.Goals as goal
 
 pub returns-clause-told : goal.returns-clause-told

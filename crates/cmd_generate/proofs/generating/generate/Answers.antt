@@ -1,4 +1,4 @@
-use Rattle.cmd_generate.proofs.Writing.{generates_all, generates_cut, generates_none, writes_front, writes_none}
+use Rattle.cmd_generate.proofs.OutputFacts.{generates_all, generates_cut, generates_none, writes_front, writes_none}
 use Rattle.cmd_generate.proofs.generating.generate.Goals as goal
 
 pub returns-in-Err-clause-told : goal.returns-in-Err-clause-told

@@ -1,4 +1,4 @@
-use Rattle.cmd_generate.proofs.Holding.{holds_file, holds_service}
+use Rattle.cmd_generate.proofs.GeneratedRuleFacts.{holds_file, holds_service}
 use Rattle.cmd_generate.proofs.laws.generated_files_are_read.Goals as goal
 
 pub returns-clause-files : goal.returns-clause-files

@@ -1,5 +1,5 @@
-use Rattle.cmd_generate.proofs.Closing.{tries_both, tries_not, tries_stopped}
-use Rattle.cmd_run.proofs.Going.{still_told, went_on}
+use Rattle.cmd_generate.proofs.FirstSlotFacts.{tries_both, tries_not, tries_stopped}
+use Rattle.cmd_run.proofs.RunPartFacts.{still_told, went_on}
 use Rattle.cmd_generate.proofs.login.attempt.Goals as goal
 
 pub returns-in-Err-clause-told : goal.returns-in-Err-clause-told

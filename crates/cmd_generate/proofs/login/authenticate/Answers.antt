@@ -1,8 +1,8 @@
 use Rattle.std.proofs.Common.{refl}
-use Rattle.cmd_generate.proofs.Closing.{authenticate_failed, authenticates}
-use Rattle.cmd_run.proofs.Going.{went_once}
-use Rattle.cmd_run.proofs.Serving.{failed_place, failed_stack}
-use Rattle.cmd_generate.proofs.Proceeding.{authenticate_ends_none}
+use Rattle.cmd_generate.proofs.FirstSlotFacts.{authenticate_failed, authenticates}
+use Rattle.cmd_run.proofs.RunPartFacts.{went_once}
+use Rattle.cmd_run.proofs.ItemEffectFacts.{failed_place, failed_stack}
+use Rattle.cmd_generate.proofs.CallSequenceFacts.{authenticate_ends_none}
 use Rattle.cmd_generate.proofs.login.authenticate.Goals as goal
 
 pub apply-requires-clause-fit : goal.apply-requires-clause-fit

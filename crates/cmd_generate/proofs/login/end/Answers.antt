@@ -1,7 +1,7 @@
 use Rattle.std.proofs.Common.{refl}
-use Rattle.cmd_generate.proofs.Closing.{end_is_free, end_stays_inside, ended_is_closed, state_is}
-use Rattle.cmd_run.proofs.Going.{went_once}
-use Rattle.cmd_generate.proofs.Proceeding.{end_ends}
+use Rattle.cmd_generate.proofs.FirstSlotFacts.{end_is_free, end_stays_inside, ended_is_closed, state_is}
+use Rattle.cmd_run.proofs.RunPartFacts.{went_once}
+use Rattle.cmd_generate.proofs.CallSequenceFacts.{end_ends}
 use Rattle.cmd_generate.proofs.login.end.Goals as goal
 
 pub unwrap-outcome-requires : goal.unwrap-outcome-requires

@@ -1,6 +1,6 @@
 use Rattle.std.proofs.Common.{◌∙◌}
-use Rattle.cmd_generate.proofs.Closing.{came, first_closed, none_open}
-use Rattle.cmd_run.proofs.Going.{went_on, went_so}
+use Rattle.cmd_generate.proofs.FirstSlotFacts.{came, first_closed, none_open}
+use Rattle.cmd_run.proofs.RunPartFacts.{went_on, went_so}
 use Rattle.cmd_generate.proofs.login.log_in.Goals as goal
 
 pub returns-clause-told : goal.returns-clause-told

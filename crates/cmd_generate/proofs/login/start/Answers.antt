@@ -1,8 +1,8 @@
 use Rattle.std.proofs.Common.{refl}
-use Rattle.cmd_generate.proofs.Closing.{start_failed, start_unbegun, starts_done, starts_refused}
-use Rattle.cmd_run.proofs.Going.{went_nowhere, went_once}
-use Rattle.cmd_run.proofs.Serving.{failed_place, failed_stack}
-use Rattle.cmd_generate.proofs.Proceeding.{start_ends_none}
+use Rattle.cmd_generate.proofs.FirstSlotFacts.{start_failed, start_unbegun, starts_done, starts_refused}
+use Rattle.cmd_run.proofs.RunPartFacts.{went_nowhere, went_once}
+use Rattle.cmd_run.proofs.ItemEffectFacts.{failed_place, failed_stack}
+use Rattle.cmd_generate.proofs.CallSequenceFacts.{start_ends_none}
 use Rattle.cmd_generate.proofs.login.start.Goals as goal
 
 pub apply-requires-clause-fit : goal.apply-requires-clause-fit

@@ -2,7 +2,7 @@ use Rattle.std.proofs.Common.{◌+◌, List, ap, ◌∙◌, drop}
 use Rattle.pam_outside.specs.Files.{VaultState}
 use Rattle.random_config.specs.declared.files.RandomFile.{RandomFile}
 use Rattle.cmd_generate.specs.Placing.{placed}
-use Rattle.cmd_generate.proofs.Putting.{goes_on, next_file, some_after, stops_at}
+use Rattle.cmd_generate.proofs.FileSequenceFacts.{goes_on, next_file, some_after, stops_at}
 use Rattle.cmd_generate.proofs.placing.place_files.Goals as goal
 
 pub returns-in-Err-clause-told : goal.returns-in-Err-clause-told

@@ -1,7 +1,7 @@
 use Rattle.std.proofs.Common.{[], refl}
-use Rattle.cmd_login.proofs.Coming.{denial_cut, denial_unwritten, denial_written}
-use Rattle.cmd_login.proofs.Showing.{shows_front, shows_none, shows_whole}
-use Rattle.cmd_login.proofs.Reporting.{reports_front, reports_none, reports_whole}
+use Rattle.cmd_login.proofs.WholeLoginFacts.{denial_cut, denial_unwritten, denial_written}
+use Rattle.cmd_login.proofs.LoginOutputFacts.{shows_front, shows_none, shows_whole}
+use Rattle.cmd_login.proofs.LoginReportFacts.{reports_front, reports_none, reports_whole}
 use Rattle.cmd_login.proofs.attempt.deny.Goals as goal
 
 pub returns-in-Err-clause-told : goal.returns-in-Err-clause-told

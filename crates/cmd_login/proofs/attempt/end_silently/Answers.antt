@@ -1,7 +1,7 @@
 use Rattle.std.proofs.Common.{refl}
-use Rattle.cmd_run.proofs.Going.{went_once, went_so}
-use Rattle.cmd_run.proofs.Proceeding.{call_ends}
-use Rattle.cmd_login.proofs.Proceeding.{end_ends_as}
+use Rattle.cmd_run.proofs.RunPartFacts.{went_once, went_so}
+use Rattle.cmd_run.proofs.CallSequenceFacts.{call_ends}
+use Rattle.cmd_login.proofs.CallSequenceFacts.{end_ends_as}
 use Rattle.cmd_login.proofs.attempt.end_silently.Goals as goal
 
 pub returns-clause-went : goal.returns-clause-went

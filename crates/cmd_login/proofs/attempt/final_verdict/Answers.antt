@@ -1,11 +1,11 @@
 use Rattle.std.proofs.Common.{ap, ◌∙◌}
 use Rattle.cmd_run.specs.pam_library.specs.declared.outcome.Answer.{Answer}
 use Rattle.cmd_login.specs.Login.{end_call}
-use Rattle.cmd_login.proofs.Coming.{comes_stopped, ends_denied, made_as}
-use Rattle.cmd_run.proofs.Going.{went_so}
-use Rattle.cmd_login.proofs.Proceeding.{end_ends_as}
-use Rattle.cmd_login.proofs.Showing.{end_said, shows_then}
-use Rattle.cmd_login.proofs.Reporting.{said_denial, said_end_stopped, said_passed}
+use Rattle.cmd_login.proofs.WholeLoginFacts.{comes_stopped, ends_denied, made_as}
+use Rattle.cmd_run.proofs.RunPartFacts.{went_so}
+use Rattle.cmd_login.proofs.CallSequenceFacts.{end_ends_as}
+use Rattle.cmd_login.proofs.LoginOutputFacts.{end_said, shows_then}
+use Rattle.cmd_login.proofs.LoginReportFacts.{said_denial, said_end_stopped, said_passed}
 use Rattle.cmd_login.proofs.attempt.final_verdict.Goals as goal
 
 pub returns-in-Err-clause-told : goal.returns-in-Err-clause-told

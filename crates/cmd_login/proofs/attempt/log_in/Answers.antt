@@ -1,9 +1,9 @@
 use Rattle.std.proofs.Common.{Err, ◌∙◌, refl}
-use Rattle.cmd_login.proofs.Coming.{logs_on, logs_stopped}
-use Rattle.cmd_run.proofs.Going.{still_told, went_on, went_so}
-use Rattle.cmd_login.proofs.Proceeding.{no_end, own_end}
-use Rattle.cmd_login.proofs.Showing.{end_said, shows_stop, shows_then}
-use Rattle.cmd_login.proofs.Reporting.{said_calls, said_course_stopped}
+use Rattle.cmd_login.proofs.WholeLoginFacts.{logs_on, logs_stopped}
+use Rattle.cmd_run.proofs.RunPartFacts.{still_told, went_on, went_so}
+use Rattle.cmd_login.proofs.CallSequenceFacts.{no_end, own_end}
+use Rattle.cmd_login.proofs.LoginOutputFacts.{end_said, shows_stop, shows_then}
+use Rattle.cmd_login.proofs.LoginReportFacts.{said_calls, said_course_stopped}
 use Rattle.cmd_login.proofs.attempt.log_in.Goals as goal
 
 pub returns-in-Err-clause-told : goal.returns-in-Err-clause-told

@@ -1,8 +1,8 @@
 use Rattle.std.proofs.Common.{◌∙◌}
-use Rattle.cmd_login.proofs.Closing.{closed_if_ended, none_left}
-use Rattle.cmd_login.proofs.Coming.{logs_in}
-use Rattle.cmd_run.proofs.Going.{went_on, went_so}
-use Rattle.cmd_login.proofs.Proceeding.{closing_end_as}
+use Rattle.cmd_login.proofs.TransactionEndFacts.{closed_if_ended, none_left}
+use Rattle.cmd_login.proofs.WholeLoginFacts.{logs_in}
+use Rattle.cmd_run.proofs.RunPartFacts.{went_on, went_so}
+use Rattle.cmd_login.proofs.CallSequenceFacts.{closing_end_as}
 use Rattle.cmd_login.proofs.attempt.login.Goals as goal
 
 pub returns-clause-told : goal.returns-clause-told

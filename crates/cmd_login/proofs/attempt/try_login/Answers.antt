@@ -1,10 +1,10 @@
 use Rattle.std.proofs.Common.{Ok, Err, sym, ◌∙◌}
 use Rattle.cmd_login.specs.declared.attempt.Verdict.TheVariants.{Refused}
-use Rattle.cmd_login.proofs.Coming.{comes_on, comes_refused, comes_start_stopped, comes_unbegun, made_as}
-use Rattle.cmd_run.proofs.Going.{still_told, went_nowhere, went_on, went_so}
-use Rattle.cmd_login.proofs.Proceeding.{start_no_end}
-use Rattle.cmd_login.proofs.Showing.{end_said, refused_said, shows_none, shows_so, shows_stop, shows_then, shows_verdict}
-use Rattle.cmd_login.proofs.Reporting.{said_login, said_refused, said_start_stopped, said_unbegun}
+use Rattle.cmd_login.proofs.WholeLoginFacts.{comes_on, comes_refused, comes_start_stopped, comes_unbegun, made_as}
+use Rattle.cmd_run.proofs.RunPartFacts.{still_told, went_nowhere, went_on, went_so}
+use Rattle.cmd_login.proofs.CallSequenceFacts.{start_no_end}
+use Rattle.cmd_login.proofs.LoginOutputFacts.{end_said, refused_said, shows_none, shows_so, shows_stop, shows_then, shows_verdict}
+use Rattle.cmd_login.proofs.LoginReportFacts.{said_login, said_refused, said_start_stopped, said_unbegun}
 use Rattle.cmd_login.proofs.attempt.try_login.Goals as goal
 
 pub returns-in-Err-clause-told : goal.returns-in-Err-clause-told

@@ -1,10 +1,10 @@
 use Rattle.std.proofs.Common.{sym, ◌∙◌}
 use Rattle.std.proofs.lemmas.List.{nil_from_length}
-use Rattle.cmd_login.proofs.Coursing.{runs_none, told_denied, told_not_due, told_on, told_stopped}
-use Rattle.cmd_run.proofs.Going.{still_told, went_nowhere, went_on, went_so}
-use Rattle.cmd_login.proofs.Proceeding.{stack_no_end}
-use Rattle.cmd_login.proofs.Showing.{shows_nothing, shows_stop}
-use Rattle.cmd_login.proofs.Reporting.{said_denied, said_none, said_not_due, said_on, said_stopped}
+use Rattle.cmd_login.proofs.MiddleCallFacts.{runs_none, told_denied, told_not_due, told_on, told_stopped}
+use Rattle.cmd_run.proofs.RunPartFacts.{still_told, went_nowhere, went_on, went_so}
+use Rattle.cmd_login.proofs.CallSequenceFacts.{stack_no_end}
+use Rattle.cmd_login.proofs.LoginOutputFacts.{shows_nothing, shows_stop}
+use Rattle.cmd_login.proofs.LoginReportFacts.{said_denied, said_none, said_not_due, said_on, said_stopped}
 use Rattle.cmd_login.proofs.course.+go_through.Goals as goal
 
 pub returns-in_default-clause-told : goal.returns-in_default-clause-told

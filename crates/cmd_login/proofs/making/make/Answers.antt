@@ -1,6 +1,6 @@
 use Rattle.std.proofs.Common.{ap, refl}
 use Rattle.cmd_run.specs.pam_room.specs.declared.process.Process.{Process}
-use Rattle.cmd_run.proofs.Going.{went_on, went_quietly}
+use Rattle.cmd_run.proofs.RunPartFacts.{went_on, went_quietly}
 use Rattle.cmd_login.proofs.making.make.Goals as goal
 
 pub make_now-requires-clause-sound : goal.make_now-requires-clause-sound

@@ -1,10 +1,10 @@
 use Rattle.std.proofs.Common.{refl}
-use Rattle.cmd_run.proofs.Serving.{failed_place, failed_stack}
-use Rattle.cmd_login.proofs.Answering.{call_cut, call_failed, call_unwritten, call_written}
-use Rattle.cmd_run.proofs.Going.{went_once}
-use Rattle.cmd_run.proofs.Proceeding.{call_ends}
-use Rattle.cmd_login.proofs.Showing.{shows_front, shows_none, shows_whole}
-use Rattle.cmd_login.proofs.Reporting.{by_outcome, possible, reports_front, reports_none, reports_whole}
+use Rattle.cmd_run.proofs.ItemEffectFacts.{failed_place, failed_stack}
+use Rattle.cmd_login.proofs.LoginCallFacts.{call_cut, call_failed, call_unwritten, call_written}
+use Rattle.cmd_run.proofs.RunPartFacts.{went_once}
+use Rattle.cmd_run.proofs.CallSequenceFacts.{call_ends}
+use Rattle.cmd_login.proofs.LoginOutputFacts.{shows_front, shows_none, shows_whole}
+use Rattle.cmd_login.proofs.LoginReportFacts.{by_outcome, possible, reports_front, reports_none, reports_whole}
 use Rattle.cmd_login.proofs.making.make_now.Goals as goal
 
 pub returns-in-Err-clause-told : goal.returns-in-Err-clause-told

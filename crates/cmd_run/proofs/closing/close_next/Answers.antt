@@ -1,6 +1,6 @@
 use Rattle.std.proofs.Common.{ap, length}
 use Rattle.report_step.specs.dispatch_core.specs.Lines.{names_of}
-use Rattle.cmd_run.proofs.Reporting.{one_stopped, one_unwritten, one_written, none_left}
+use Rattle.cmd_run.proofs.EndReportFacts.{one_stopped, one_unwritten, one_written, none_left}
 use Rattle.cmd_run.proofs.closing.close_next.Goals as goal
 
 pub returns-in_default-clause-told : goal.returns-in_default-clause-told

@@ -1,6 +1,6 @@
 use Rattle.std.proofs.Common.{refl, ◌∙◌}
-use Rattle.cmd_run.proofs.Going.{went_nowhere, went_on}
-use Rattle.cmd_run.proofs.Reporting.{none_yet, one_more, stops_in_one}
+use Rattle.cmd_run.proofs.RunPartFacts.{went_nowhere, went_on}
+use Rattle.cmd_run.proofs.EndReportFacts.{none_yet, one_more, stops_in_one}
 use Rattle.cmd_run.proofs.closing.close_open.Goals as goal
 
 pub loop-stop-init : goal.loop-stop-init

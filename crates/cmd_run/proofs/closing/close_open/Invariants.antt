@@ -2,7 +2,7 @@ use Rattle.std.proofs.Common.{◌≡◌, true}
 use Rattle.cmd_run.specs.Ends.{IsStatusOf}
 use Rattle.cmd_run.specs.Closings.{open_count}
 use Rattle.cmd_run.specs.Seen.{Seen, Went, state}
-use Rattle.cmd_run.proofs.Reporting.{ClosesSome}
+use Rattle.cmd_run.proofs.EndReportFacts.{ClosesSome}
 use Rattle.report_step.specs.pam_library.specs.contracts.session.SessionTold.TheImpl as session_told
 use Rattle.cmd_run.proofs.closing.close_open.Given as goal
 

@@ -1,5 +1,5 @@
 use Rattle.std.proofs.Common.{refl, sym, ◌∙◌}
-use Rattle.cmd_run.proofs.Going.{went_nowhere, went_on}
+use Rattle.cmd_run.proofs.RunPartFacts.{went_nowhere, went_on}
 use Rattle.cmd_run.proofs.Lowest.{none_left, one_then}
 use Rattle.cmd_run.proofs.closing.close_silently.Goals as goal
 

@@ -1,7 +1,7 @@
 use Rattle.std.proofs.Common.{refl}
 use Rattle.cmd_run.proofs.Lowest.{some_ends, none_stays, receipts_by}
-use Rattle.cmd_run.proofs.Going.{went_once}
-use Rattle.cmd_run.proofs.Proceeding.{closing_ends}
+use Rattle.cmd_run.proofs.RunPartFacts.{went_once}
+use Rattle.cmd_run.proofs.CallSequenceFacts.{closing_ends}
 use Rattle.cmd_run.proofs.closing.end_next.Goals as goal
 
 pub returns-clause-some : goal.returns-clause-some

@@ -1,12 +1,12 @@
 use Rattle.std.proofs.Common.{append-nil, sym, [], ◌∙◌, Some, None, Ok, Err, refl, ap, arith}
 use Rattle.record_reader.specs.declared.ending.Stop.TheVariants.{NoMemory}
 use Rattle.record_reader.specs.Turns.{has_read_fault}
-use Rattle.cmd_run.proofs.Asking.{asks_before, leads_nowhere, leads_on}
-use Rattle.cmd_run.proofs.Making.{made_broken, made_err_as, made_none, made_ok_as, made_on}
-use Rattle.cmd_run.proofs.Going.{still_told, went_nowhere, went_on, went_so}
-use Rattle.cmd_run.proofs.Proceeding.{nothing_done}
-use Rattle.cmd_run.proofs.Walking.{broken_off, broken_on, nothing_served, served_on, served_to}
-use Rattle.cmd_run.proofs.Consuming.{err_then, err_unwritten, ok_then, ok_unwritten, takes_none, takes_on}
+use Rattle.cmd_run.proofs.ItemRequestFacts.{asks_before, leads_nowhere, leads_on}
+use Rattle.cmd_run.proofs.CallReportFacts.{made_broken, made_err_as, made_none, made_ok_as, made_on}
+use Rattle.cmd_run.proofs.RunPartFacts.{still_told, went_nowhere, went_on, went_so}
+use Rattle.cmd_run.proofs.CallSequenceFacts.{nothing_done}
+use Rattle.cmd_run.proofs.ServedItemFacts.{broken_off, broken_on, nothing_served, served_on, served_to}
+use Rattle.cmd_run.proofs.StreamBytesFacts.{err_then, err_unwritten, ok_then, ok_unwritten, takes_none, takes_on}
 use Rattle.cmd_run.proofs.items.serve_items.Goals as goal
 
 pub returns-in-Err-clause-serves : goal.returns-in-Err-clause-serves

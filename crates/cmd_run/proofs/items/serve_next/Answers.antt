@@ -1,10 +1,10 @@
 use Rattle.std.proofs.Common.{[], Some, None, Ok, Err, refl, ap, ◌∙◌}
-use Rattle.cmd_run.proofs.Asking.{item_asks, item_asks_first, item_first, item_leads, rest_asks, rest_asks_first, rest_is}
-use Rattle.cmd_run.proofs.Walking.{broken_off, none_served, one_served, refused_served}
-use Rattle.cmd_run.proofs.Going.{went_nowhere, went_so}
-use Rattle.cmd_run.proofs.Proceeding.{proceeds_so}
-use Rattle.cmd_run.proofs.Making.{made_err_as, made_none, made_ok_as}
-use Rattle.cmd_run.proofs.Consuming.{err_as, ok_as, ok_unwritten, takes}
+use Rattle.cmd_run.proofs.ItemRequestFacts.{item_asks, item_asks_first, item_first, item_leads, rest_asks, rest_asks_first, rest_is}
+use Rattle.cmd_run.proofs.ServedItemFacts.{broken_off, none_served, one_served, refused_served}
+use Rattle.cmd_run.proofs.RunPartFacts.{went_nowhere, went_so}
+use Rattle.cmd_run.proofs.CallSequenceFacts.{proceeds_so}
+use Rattle.cmd_run.proofs.CallReportFacts.{made_err_as, made_none, made_ok_as}
+use Rattle.cmd_run.proofs.StreamBytesFacts.{err_as, ok_as, ok_unwritten, takes}
 use Rattle.cmd_run.proofs.items.serve_next.Goals as goal
 
 pub returns-in-Err-clause-told : goal.returns-in-Err-clause-told

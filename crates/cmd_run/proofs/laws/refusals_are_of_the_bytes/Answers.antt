@@ -1,4 +1,4 @@
-use Rattle.cmd_run.proofs.Refusing.{bytes_agree}
+use Rattle.cmd_run.proofs.RefusedLineFacts.{bytes_agree}
 use Rattle.cmd_run.proofs.laws.refusals_are_of_the_bytes.Goals as goal
 
 pub returns : goal.returns

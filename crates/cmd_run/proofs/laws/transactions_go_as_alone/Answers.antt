@@ -1,6 +1,6 @@
-use Rattle.cmd_run.proofs.Parting.{closings_are, goes_as_alone}
-use Rattle.cmd_run.proofs.Isolating.{texts_are, words_are}
-use Rattle.cmd_run.proofs.Joining.{script_lines}
+use Rattle.cmd_run.proofs.ClosingLineFacts.{closings_are, goes_as_alone}
+use Rattle.cmd_run.proofs.IsolatedRunFacts.{texts_are, words_are}
+use Rattle.cmd_run.proofs.ScriptLineFacts.{script_lines}
 use Rattle.cmd_run.proofs.laws.transactions_go_as_alone.Goals as goal
 
 pub returns : goal.returns

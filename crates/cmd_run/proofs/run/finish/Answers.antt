@@ -1,5 +1,5 @@
 use Rattle.std.proofs.Common.{◌∙◌, sym}
-use Rattle.cmd_run.proofs.Finishing.{last_cut, last_unwritten, last_written, nothing_last, stopped_closing}
+use Rattle.cmd_run.proofs.RunEndFacts.{last_cut, last_unwritten, last_written, nothing_last, stopped_closing}
 use Rattle.cmd_run.proofs.run.finish.Goals as goal
 
 pub returns-in-Err-clause-told : goal.returns-in-Err-clause-told

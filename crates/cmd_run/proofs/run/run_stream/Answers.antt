@@ -1,9 +1,9 @@
 use Rattle.std.proofs.Common.{◌∙◌, Ok, Err, refl, ap, arith}
 use Rattle.pam_base.specs.Code.{number_of}
-use Rattle.cmd_run.proofs.Consuming.{script_stopped}
+use Rattle.cmd_run.proofs.StreamBytesFacts.{script_stopped}
 use Rattle.cmd_run.proofs.Filed.{no_data}
-use Rattle.cmd_run.proofs.Finishing.{run_written, runs_out, stops_early, stops_late}
-use Rattle.cmd_run.proofs.Going.{went_on, went_so}
+use Rattle.cmd_run.proofs.RunEndFacts.{run_written, runs_out, stops_early, stops_late}
+use Rattle.cmd_run.proofs.RunPartFacts.{went_on, went_so}
 use Rattle.cmd_run.proofs.run.run_stream.Goals as goal
 
 pub returns-in-Err-clause-ran : goal.returns-in-Err-clause-ran

@@ -1,6 +1,6 @@
 use Rattle.std.proofs.Common.{◌∙◌, refl, ap}
 use Rattle.report_step.specs.pam_room.specs.declared.process.Process.{Process}
-use Rattle.cmd_run.proofs.Going.{went_on, went_quietly}
+use Rattle.cmd_run.proofs.RunPartFacts.{went_on, went_quietly}
 use Rattle.cmd_run.proofs.serve.serve.Goals as goal
 
 pub serve_now-requires : goal.serve_now-requires

@@ -1,11 +1,11 @@
 use Rattle.std.proofs.Common.{Ok, refl, ap}
 use Rattle.std.proofs.lemmas.Bool.{and_parts}
 use Rattle.report_step.specs.pam_room.specs.declared.process.Process.{Process}
-use Rattle.cmd_run.proofs.Going.{went_as_asked, went_nowhere, went_quietly}
-use Rattle.cmd_run.proofs.Proceeding.{receipts_stay}
-use Rattle.cmd_run.proofs.Consuming.{all_written, err_unwritten, ok_unwritten, part_written, reads_accepted, reads_refused, reads_stopped, reads_unbegun}
-use Rattle.cmd_run.proofs.Making.{made_broken, made_cut, made_none, made_one}
-use Rattle.cmd_run.proofs.Serving.{accepted, called_item, failed_call, failed_place, failed_stack, refused, report_stopped}
+use Rattle.cmd_run.proofs.RunPartFacts.{went_as_asked, went_nowhere, went_quietly}
+use Rattle.cmd_run.proofs.CallSequenceFacts.{receipts_stay}
+use Rattle.cmd_run.proofs.StreamBytesFacts.{all_written, err_unwritten, ok_unwritten, part_written, reads_accepted, reads_refused, reads_stopped, reads_unbegun}
+use Rattle.cmd_run.proofs.CallReportFacts.{made_broken, made_cut, made_none, made_one}
+use Rattle.cmd_run.proofs.ItemEffectFacts.{accepted, called_item, failed_call, failed_place, failed_stack, refused, report_stopped}
 use Rattle.cmd_run.proofs.serve.serve_now.Goals as goal
 
 pub returns-in-Err-Named-clause-told : goal.returns-in-Err-Named-clause-told

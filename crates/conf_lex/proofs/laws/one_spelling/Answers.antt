@@ -1,4 +1,4 @@
-use Rattle.conf_lex.proofs.Deciding.{one_spelling}
+use Rattle.conf_lex.proofs.FirstFaultFacts.{one_spelling}
 use Rattle.conf_lex.proofs.laws.one_spelling.Goals as goal
 
 pub returns : goal.returns

@@ -1,5 +1,5 @@
 use Rattle.std.proofs.Common.{rules}
-use Rattle.conf_lex.proofs.Moving.{escape_before}
+use Rattle.conf_lex.proofs.NulByteFacts.{escape_before}
 use Rattle.conf_lex.proofs.prefix.is_escape.Goals as goal
 
 pub returns-in_default : goal.returns-in_default

@@ -1,5 +1,5 @@
 use Rattle.std.proofs.Common.{rules}
-use Rattle.conf_lex.proofs.Moving.{join_before}
+use Rattle.conf_lex.proofs.NulByteFacts.{join_before}
 use Rattle.conf_lex.proofs.prefix.join_length.Goals as goal
 
 pub returns-in_default : goal.returns-in_default

@@ -1,7 +1,7 @@
 use Rattle.std.proofs.Common.{refl, ◌∙◌}
 use Rattle.pam_base.specs.declared.fault.FaultKind.TheVariants.{FileTooLong, NulByte}
-use Rattle.conf_lex.proofs.Moving.{nul_none, before_whole, nul_place}
-use Rattle.conf_lex.proofs.Deciding.{nul_here, nul_given, nul_first, gives_read, gives_tokens, gives_spelled, gives_fault, gives_first, gives_long, gives_nul}
+use Rattle.conf_lex.proofs.NulByteFacts.{nul_none, before_whole, nul_place}
+use Rattle.conf_lex.proofs.FirstFaultFacts.{nul_here, nul_given, nul_first, gives_read, gives_tokens, gives_spelled, gives_fault, gives_first, gives_long, gives_nul}
 use Rattle.conf_lex.proofs.Answered.{answer_long, answer_nul, answer_lines}
 use Rattle.conf_lex.proofs.service_file.rules.Goals as goal
 

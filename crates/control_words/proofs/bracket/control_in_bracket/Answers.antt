@@ -3,8 +3,8 @@ use Rattle.std.proofs.lemmas.Bool.{eqb-true}
 use Rattle.std.proofs.lemmas.Bool.Decides.{nat_tests}
 use Rattle.control_words.specs.Bracket.{fault_of_entry}
 use Rattle.control_words.specs.Entries.{ControlPair, after_space, entries_in, first_entry}
-use Rattle.control_words.proofs.Cutting.{entries-after_space, entries-first, none-left, rest-shorter, starts, starts-after_space}
-use Rattle.control_words.proofs.Filling.{filled-all, filled-fault, filled-more, filled-none}
+use Rattle.control_words.proofs.FirstEntryFacts.{entries-after_space, entries-first, none-left, rest-shorter, starts, starts-after_space}
+use Rattle.control_words.proofs.ControlTableFacts.{filled-all, filled-fault, filled-more, filled-none}
 use Rattle.control_words.proofs.bracket.control_in_bracket.Goals as goal
 
 pub loop-rest-init : goal.loop-rest-init

@@ -1,7 +1,7 @@
 use Rattle.std.proofs.Common.{◌≡◌, true, length}
 use Rattle.control_words.specs.Entries.{entries_in}
-use Rattle.control_words.proofs.Cutting.{starts}
-use Rattle.control_words.proofs.Filling.{Filled}
+use Rattle.control_words.proofs.FirstEntryFacts.{starts}
+use Rattle.control_words.proofs.ControlTableFacts.{Filled}
 use Rattle.control_words.proofs.bracket.control_in_bracket.Given as goal
 
 abbrev pub invariant-loop-rest : goal.invariant-loop-rest

@@ -1,4 +1,4 @@
-use Rattle.conv_port.proofs.Answering.{again, gone, waiting, never_gone}
+use Rattle.conv_port.proofs.NoReplyFacts.{again, gone, waiting, never_gone}
 use Rattle.conv_port.proofs.laws.exchange_without_replies.Goals as goal
 
 pub returns-clause-again : goal.returns-clause-again

@@ -1,5 +1,5 @@
 use Rattle.std.proofs.Common.{rules, arith}
-use Rattle.conv_port.proofs.Taking.{one_more, next_of}
+use Rattle.conv_port.proofs.FirstReplyFacts.{one_more, next_of}
 use Rattle.conv_port.proofs.queue.take_replies.Goals as goal
 
 pub loop-message-preserved : goal.loop-message-preserved

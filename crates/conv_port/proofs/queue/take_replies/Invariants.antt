@@ -1,6 +1,6 @@
 use Rattle.std.proofs.Common.{◌≡◌, ◌≤◌, length, drop}
 use Rattle.std.specs.Vec.{vec_len, vec_capacity}
-use Rattle.conv_port.proofs.Taking.{IsTaking}
+use Rattle.conv_port.proofs.FirstReplyFacts.{IsTaking}
 use Rattle.conv_port.proofs.queue.take_replies.Given as goal
 
 abbrev pub invariant-loop-message : goal.invariant-loop-message

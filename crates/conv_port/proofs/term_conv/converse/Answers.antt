@@ -1,6 +1,6 @@
 use Rattle.std.proofs.Common.{arith}
-use Rattle.conv_port.proofs.Taking.{next_of, none_after}
-use Rattle.conv_port.proofs.Conversing.{one_more, all_replies}
+use Rattle.conv_port.proofs.FirstReplyFacts.{next_of, none_after}
+use Rattle.conv_port.proofs.ExchangeFacts.{one_more, all_replies}
 use Rattle.conv_port.proofs.term_conv.converse.Goals as goal
 
 pub loop-message-preserved : goal.loop-message-preserved

@@ -1,5 +1,5 @@
 use Rattle.std.proofs.Common.{drop}
-use Rattle.conv_port.proofs.Conversing.{IsConversing}
+use Rattle.conv_port.proofs.ExchangeFacts.{IsConversing}
 use Rattle.conv_port.proofs.term_conv.converse.Given as goal
 
 abbrev pub invariant-loop-message : goal.invariant-loop-message

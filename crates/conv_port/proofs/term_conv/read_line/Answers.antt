@@ -1,5 +1,5 @@
 use Rattle.std.proofs.Common.{arith, ◌≡◌, length}
-use Rattle.conv_port.proofs.Typing.{line_ended, line_full, line_at_end, positive}
+use Rattle.conv_port.proofs.TypedReplyFacts.{line_ended, line_full, line_at_end, positive}
 use Rattle.conv_port.proofs.term_conv.read_line.Goals as goal
 
 pub returns-in-Some-eq10-clause-typed : goal.returns-in-Some-eq10-clause-typed

@@ -1,4 +1,4 @@
-use Rattle.data_cleanup.proofs.Looking.{law_births}
+use Rattle.data_cleanup.proofs.NewestFirstFacts.{law_births}
 use Rattle.data_cleanup.proofs.due_laws.births_make_due.Goals as goal
 
 pub returns : goal.returns

@@ -1,4 +1,4 @@
-use Rattle.data_cleanup.proofs.Looking.{law_end}
+use Rattle.data_cleanup.proofs.NewestFirstFacts.{law_end}
 use Rattle.data_cleanup.proofs.due_laws.end_makes_due.Goals as goal
 
 pub returns : goal.returns

@@ -1,4 +1,4 @@
-use Rattle.data_cleanup.proofs.Cleaning.{begins}
+use Rattle.data_cleanup.proofs.CleanupRecordFacts.{begins}
 use Rattle.data_cleanup.proofs.laws.cleanup_begins.Goals as goal
 
 pub returns : goal.returns

@@ -1,4 +1,4 @@
-use Rattle.data_cleanup.proofs.Cleaning.{ends}
+use Rattle.data_cleanup.proofs.CleanupRecordFacts.{ends}
 use Rattle.data_cleanup.proofs.laws.cleanup_ends.Goals as goal
 
 pub returns : goal.returns

@@ -1,4 +1,4 @@
-use Rattle.data_cleanup.proofs.Cleaning.{goes_on}
+use Rattle.data_cleanup.proofs.CleanupRecordFacts.{goes_on}
 use Rattle.data_cleanup.proofs.laws.cleanup_goes_on.Goals as goal
 
 pub returns : goal.returns

@@ -1,4 +1,4 @@
-use Rattle.data_cleanup.proofs.Growing.{grows_transitive}
+use Rattle.data_cleanup.proofs.GrowthFacts.{grows_transitive}
 use Rattle.data_cleanup.proofs.laws.growth_is_transitive.Goals as goal
 
 pub returns : goal.returns

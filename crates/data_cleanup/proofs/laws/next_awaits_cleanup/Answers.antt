@@ -1,4 +1,4 @@
-use Rattle.data_cleanup.proofs.Cleaning.{next_awaits, others_await}
+use Rattle.data_cleanup.proofs.CleanupRecordFacts.{next_awaits, others_await}
 use Rattle.data_cleanup.proofs.laws.next_awaits_cleanup.Goals as goal
 
 pub returns-clause-next : goal.returns-clause-next

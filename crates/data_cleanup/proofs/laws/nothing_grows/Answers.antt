@@ -1,4 +1,4 @@
-use Rattle.data_cleanup.proofs.Growing.{grows_none}
+use Rattle.data_cleanup.proofs.GrowthFacts.{grows_none}
 use Rattle.data_cleanup.proofs.laws.nothing_grows.Goals as goal
 
 pub returns : goal.returns

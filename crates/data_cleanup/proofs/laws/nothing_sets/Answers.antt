@@ -1,4 +1,4 @@
-use Rattle.data_cleanup.proofs.Setting.{sets_none}
+use Rattle.data_cleanup.proofs.ReplacedDataFacts.{sets_none}
 use Rattle.data_cleanup.proofs.laws.nothing_sets.Goals as goal
 
 pub returns : goal.returns

@@ -1,4 +1,4 @@
-use Rattle.data_cleanup.proofs.Cleaning.{await_reverse, newest_first}
+use Rattle.data_cleanup.proofs.CleanupRecordFacts.{await_reverse, newest_first}
 use Rattle.data_cleanup.proofs.laws.reversed_await_cleanup.Goals as goal
 
 pub returns-clause-reversed : goal.returns-clause-reversed

@@ -1,4 +1,4 @@
-use Rattle.data_cleanup.proofs.Setting.{sets_await}
+use Rattle.data_cleanup.proofs.ReplacedDataFacts.{sets_await}
 use Rattle.data_cleanup.proofs.laws.set_data_await_cleanup.Goals as goal
 
 pub returns : goal.returns

@@ -1,4 +1,4 @@
-use Rattle.data_cleanup.proofs.Setting.{sets_grow}
+use Rattle.data_cleanup.proofs.ReplacedDataFacts.{sets_grow}
 use Rattle.data_cleanup.proofs.laws.swept_setting_grows.Goals as goal
 
 pub returns : goal.returns

@@ -1,7 +1,7 @@
 use Rattle.std.proofs.Common.{◌≡◌, ◌≢◌, ◌+◌, ◌<◌, ◌&&◌, inl, inr, true, false, nat_le, nat_lt, length, ◌∙◌, arith}
 use Rattle.std.proofs.lemmas.Bool.{cases_lt}
 use Rattle.std.proofs.lemmas.Bool.Decides.{nat_tests}
-use Rattle.dispatch_core.proofs.Entering.{entry_at-set_same, entry_at-set_other}
+use Rattle.dispatch_core.proofs.EntryStateFacts.{entry_at-set_same, entry_at-set_other}
 use Rattle.dispatch_core.proofs.entry_states.enter_lists.Goals as goal
 
 pub loop-k-preserved : goal.loop-k-preserved

@@ -1,4 +1,4 @@
-use Rattle.dispatch_core.proofs.Sounding.{sound_more}
+use Rattle.dispatch_core.proofs.RealObjectFacts.{sound_more}
 use Rattle.dispatch_core.proofs.laws.soundness_is_transitive.Goals as goal
 
 pub returns : goal.returns

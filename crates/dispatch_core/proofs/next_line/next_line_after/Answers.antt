@@ -1,6 +1,6 @@
 use Rattle.std.proofs.Common.{◌≡◌, sym, ◌∙◌, ap}
 use Rattle.handler_chain.specs.FlatLines.{end_at}
-use Rattle.dispatch_core.proofs.Turning.{jumped_near, jumped_far, ended_at, goes_ahead}
+use Rattle.dispatch_core.proofs.IndexTurnFacts.{jumped_near, jumped_far, ended_at, goes_ahead}
 use Rattle.dispatch_core.proofs.next_line.next_line_after.Goals as goal
 
 pub returns-in-Some-clause-leads : goal.returns-in-Some-clause-leads

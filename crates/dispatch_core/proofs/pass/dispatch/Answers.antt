@@ -4,9 +4,9 @@ use Rattle.pam_room.specs.State.{PlainRoom}
 use Rattle.handler_chain.specs.declared.pass_kind.PassKind.TheVariants.{Keep}
 use Rattle.dispatch_core.specs.Passes.{by_place}
 use Rattle.dispatch_core.proofs.Progress.{first_cells-held, first_cells-open}
-use Rattle.dispatch_core.proofs.Reaching.{stopped_as}
-use Rattle.dispatch_core.proofs.Sounding.{ready_same, sound_same}
-use Rattle.dispatch_core.proofs.Tracing.{pass_leaves, pass_stops, pass_traced}
+use Rattle.dispatch_core.proofs.PassProgressFacts.{stopped_as}
+use Rattle.dispatch_core.proofs.RealObjectFacts.{ready_same, sound_same}
+use Rattle.dispatch_core.proofs.PassTraceFacts.{pass_leaves, pass_stops, pass_traced}
 use Rattle.dispatch_core.proofs.pass.dispatch.Goals as goal
 
 pub walk-ended-requires-clause-cells : goal.walk-ended-requires-clause-cells

@@ -12,15 +12,15 @@ use Rattle.dispatch_core.specs.Index.{GoesOn, walk_on}
 use Rattle.dispatch_core.specs.Lines.{answers_by}
 use Rattle.dispatch_core.specs.Passes.{answer_in, by_place, taken_with}
 use Rattle.dispatch_core.specs.Paths.{HasPaths}
-use Rattle.dispatch_core.proofs.Turning.{begun, ended_at_last}
-use Rattle.dispatch_core.proofs.Pathing.{paths_ahead}
+use Rattle.dispatch_core.proofs.IndexTurnFacts.{begun, ended_at_last}
+use Rattle.dispatch_core.proofs.LinePathFacts.{paths_ahead}
 use Rattle.dispatch_core.proofs.Progress.{nothing_yet, one_more, lines_kept-more, held-more, lines_kept-empty}
-use Rattle.dispatch_core.proofs.Ending.{walks_off, walks_to, turn_more}
-use Rattle.dispatch_core.proofs.Sounding.{sound_none}
-use Rattle.dispatch_core.proofs.Taking.{put_off, taken}
-use Rattle.dispatch_core.proofs.Reaching.{far_first, far_later, stops_later}
-use Rattle.dispatch_core.proofs.Telling.{both_tell}
-use Rattle.dispatch_core.proofs.Tracing.{traced_ended, traced_first, traced_later, traced_put_off}
+use Rattle.dispatch_core.proofs.LastTurnFacts.{walks_off, walks_to, turn_more}
+use Rattle.dispatch_core.proofs.RealObjectFacts.{sound_none}
+use Rattle.dispatch_core.proofs.LineTurnFacts.{put_off, taken}
+use Rattle.dispatch_core.proofs.PassProgressFacts.{far_first, far_later, stops_later}
+use Rattle.dispatch_core.proofs.StillModelledFacts.{both_tell}
+use Rattle.dispatch_core.proofs.PassTraceFacts.{traced_ended, traced_first, traced_later, traced_put_off}
 use Rattle.dispatch_core.proofs.pass.walk.Goals as goal
 
 pub loop-walker-init : goal.loop-walker-init

@@ -12,8 +12,8 @@ use Rattle.dispatch_core.specs.Lines.{answers_by}
 use Rattle.dispatch_core.specs.Passes.{by_place}
 use Rattle.dispatch_core.specs.Paths.{HasPaths}
 use Rattle.dispatch_core.proofs.Progress.{Progress}
-use Rattle.dispatch_core.proofs.Reaching.{Far}
-use Rattle.dispatch_core.proofs.Tracing.{Traced}
+use Rattle.dispatch_core.proofs.PassProgressFacts.{Far}
+use Rattle.dispatch_core.proofs.PassTraceFacts.{Traced}
 use Rattle.dispatch_core.proofs.pass.walk.Given as goal
 
 -- the walk from here on goes where the whole walk goes

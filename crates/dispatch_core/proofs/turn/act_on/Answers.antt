@@ -2,7 +2,7 @@ use Rattle.std.proofs.Common.{subst}
 use Rattle.pam_base.specs.declared.code.Code.{Code}
 use Rattle.dispatch_core.specs.Index.{GoesOn}
 use Rattle.dispatch_core.specs.Passes.{by_place}
-use Rattle.dispatch_core.proofs.Reaching.{goes_by}
+use Rattle.dispatch_core.proofs.PassProgressFacts.{goes_by}
 use Rattle.dispatch_core.proofs.turn.act_on.Goals as goal
 
 pub returns-clause-line : goal.returns-clause-line

@@ -3,7 +3,7 @@ use Rattle.pam_base.specs.declared.code.Code.{Code}
 use Rattle.handler_chain.specs.declared.pass_kind.PassKind.{PassKind}
 use Rattle.handler_chain.specs.Pass.{decides}
 use Rattle.dispatch_core.specs.Passes.{by_place}
-use Rattle.dispatch_core.proofs.Keeping.{by_place-next}
+use Rattle.dispatch_core.proofs.CachedCodeFacts.{by_place-next}
 use Rattle.dispatch_core.proofs.turn.decide.Goals as goal
 
 pub returns-in-Follow : goal.returns-in-Follow

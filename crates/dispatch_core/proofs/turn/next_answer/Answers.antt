@@ -9,9 +9,9 @@ use Rattle.handler_chain.specs.Pass.{AnswersAs}
 use Rattle.dispatch_core.specs.AnswersSoFar.{AnswersView}
 use Rattle.dispatch_core.specs.Failing.{visited_at}
 use Rattle.dispatch_core.specs.Lines.{answers_by}
-use Rattle.dispatch_core.proofs.Asking.{gives_off, gives_on}
-use Rattle.dispatch_core.proofs.Lining.{few_modules, line_answered, line_at_work, line_broken, line_visited, module_there}
-use Rattle.dispatch_core.proofs.Sounding.{sound_none, sound_unrun}
+use Rattle.dispatch_core.proofs.LineRunFacts.{gives_off, gives_on}
+use Rattle.dispatch_core.proofs.LineCodeFacts.{few_modules, line_answered, line_at_work, line_broken, line_visited, module_there}
+use Rattle.dispatch_core.proofs.RealObjectFacts.{sound_none, sound_unrun}
 use Rattle.dispatch_core.proofs.turn.next_answer.Goals as goal
 
 pub serve_line-requires-clause-there : goal.serve_line-requires-clause-there

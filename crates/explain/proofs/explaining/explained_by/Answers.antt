@@ -2,7 +2,7 @@ use Rattle.session_audit.specs.pass_replay.specs.Retold.{stacks_in}
 use Rattle.session_audit.specs.service_load.specs.Load.{directory_exists}
 use Rattle.session_audit.specs.service_load.specs.Loading.{texts_of}
 use Rattle.explain_origins.specs.Placed.{sources_at}
-use Rattle.explain.proofs.Loading.{shows_with, told_with}
+use Rattle.explain.proofs.ReportOutputFacts.{shows_with, told_with}
 use Rattle.explain.proofs.explaining.explained_by.Goals as goal
 
 pub returns-clause-told : goal.returns-clause-told

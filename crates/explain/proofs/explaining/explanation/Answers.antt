@@ -1,6 +1,6 @@
 use Rattle.std.proofs.Common.{◌∙◌}
 use Rattle.session_audit.specs.pass_replay.specs.Retold.{stacks_in}
-use Rattle.explain.proofs.Loading.{loaded_shows, loaded_so, refused_shows, refused_so}
+use Rattle.explain.proofs.ReportOutputFacts.{loaded_shows, loaded_so, refused_shows, refused_so}
 use Rattle.explain.proofs.explaining.explanation.Goals as goal
 
 pub returns-in-Ok-clause-told : goal.returns-in-Ok-clause-told

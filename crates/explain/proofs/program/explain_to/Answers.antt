@@ -1,6 +1,6 @@
 use Rattle.explain.specs.Program.{asked_of}
-use Rattle.explain.proofs.Giving.{ends_so}
-use Rattle.explain.proofs.Leaving.{by_no_usage, by_no_write_fault, by_unread, by_usage, by_write_fault}
+use Rattle.explain.proofs.OutputFacts.{ends_so}
+use Rattle.explain.proofs.ExitStatusFacts.{by_no_usage, by_no_write_fault, by_unread, by_usage, by_write_fault}
 use Rattle.explain.proofs.program.explain_to.Goals as goal
 
 pub returns-in-Ok-clause-told : goal.returns-in-Ok-clause-told

@@ -1,4 +1,4 @@
-use Rattle.explain.proofs.Giving.{given_by, shown_input}
+use Rattle.explain.proofs.OutputFacts.{given_by, shown_input}
 use Rattle.explain.proofs.program.explained_input.Goals as goal
 
 pub returns-clause-told : goal.returns-clause-told

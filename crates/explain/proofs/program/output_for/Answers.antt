@@ -1,6 +1,6 @@
 use Rattle.explain.specs.Program.{asked_of}
-use Rattle.explain.proofs.Giving.{given_for, usage_given}
-use Rattle.explain.proofs.Leaving.{asked_causes, usage_causes}
+use Rattle.explain.proofs.OutputFacts.{given_for, usage_given}
+use Rattle.explain.proofs.ExitStatusFacts.{asked_causes, usage_causes}
 use Rattle.explain.proofs.program.output_for.Goals as goal
 
 pub returns-in-Some-clause-told : goal.returns-in-Some-clause-told

@@ -5,7 +5,7 @@ use Rattle.pass_replay.specs.Held.{held_of}
 use Rattle.pass_replay.specs.Kept.{kept_answers}
 use Rattle.pass_replay.specs.Retold.{stacks_in}
 use Rattle.pass_replay.specs.Told.{visits_in}
-use Rattle.explain_calls.proofs.Changing.{both_left}
+use Rattle.explain_calls.proofs.ChauthtokTextFacts.{both_left}
 use Rattle.explain_calls.proofs.calls.write_change.Goals as goal
 
 pub returns-in-None : goal.returns-in-None

@@ -1,8 +1,8 @@
 use Rattle.std.proofs.Common.{List, ◌+◌, ◌<◌, ◌≤◌, arith, ap}
 use Rattle.control_words.specs.declared.nodes.Node.{Node}
 use Rattle.control_words.specs.Stack.{depth, lines_in, stack_of}
-use Rattle.pass_replay.proofs.Peeling.{peeled_line, peeled_sub}
-use Rattle.explain_calls.proofs.Showing.{over_line, over_sub}
+use Rattle.pass_replay.proofs.RestOfStackFacts.{peeled_line, peeled_sub}
+use Rattle.explain_calls.proofs.WalkRowFacts.{over_line, over_sub}
 use Rattle.explain_calls.proofs.walk.+pass_over.Goals as goal
 use Rattle.explain_calls.proofs.walk.+pass_over.Goals.{in-Line+in_ok-of-in-Line+in_ok-push-in-Line, in-Sub+in_ok-last-in-Sub}
 

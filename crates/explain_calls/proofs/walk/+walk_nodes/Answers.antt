@@ -9,12 +9,12 @@ use Rattle.handler_chain.specs.Walk.{Serving, walk}
 use Rattle.pass_replay.specs.Kept.{kept_answers}
 use Rattle.pass_replay.specs.declared.next_node.NextNode.{NextNode}
 use Rattle.pass_replay.specs.Walk.{WalkEnds, state_in}
-use Rattle.pass_replay.proofs.Peeling.{few_there, peeled, peeled_line, peeled_sub, some_left}
-use Rattle.pass_replay.proofs.Walking.{sub_put_off, walking_line, walking_skip, walking_sub}
+use Rattle.pass_replay.proofs.RestOfStackFacts.{few_there, peeled, peeled_line, peeled_sub, some_left}
+use Rattle.pass_replay.proofs.NodeWalkFacts.{sub_put_off, walking_line, walking_skip, walking_sub}
 use Rattle.explain_calls.specs.declared.turn.Turn.{Turn}
 use Rattle.explain_calls.specs.Rows.{rows, rows_after}
 use Rattle.explain_calls.specs.Walk.{after_turn}
-use Rattle.explain_calls.proofs.Showing.{few_left, last_are, showing_line, showing_skip, showing_sub, showing_waits, sub_waits}
+use Rattle.explain_calls.proofs.WalkRowFacts.{few_left, last_are, showing_line, showing_skip, showing_sub, showing_waits, sub_waits}
 use Rattle.explain_calls.proofs.walk.+walk_nodes.Goals as goal
 use Rattle.explain_calls.proofs.walk.+walk_nodes.Goals.{then-skip-gt0+in_ok-replay, else-skip-gt0+in-Line+in_ok-turn-in-Line+in-Some}
 use Rattle.explain_calls.proofs.walk.+walk_nodes.Goals.{else-skip-gt0+in-Sub+in_ok-inside-in-Sub+in-Some-2}

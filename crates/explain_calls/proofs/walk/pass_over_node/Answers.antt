@@ -1,8 +1,8 @@
 use Rattle.std.proofs.Common.{◌+◌, List, ap, arith}
 use Rattle.control_words.specs.declared.nodes.Node.{Node}
 use Rattle.control_words.specs.Stack.{lines_in, stack_of}
-use Rattle.pass_replay.proofs.Peeling.{lines_sub}
-use Rattle.explain_calls.proofs.Showing.{over_node_sub}
+use Rattle.pass_replay.proofs.RestOfStackFacts.{lines_sub}
+use Rattle.explain_calls.proofs.WalkRowFacts.{over_node_sub}
 use Rattle.explain_calls.proofs.walk.pass_over_node.Goals as goal
 
 pub pass_over-requires : goal.pass_over-requires

@@ -10,11 +10,11 @@ use Rattle.handler_chain.specs.Route.{KeptAnswers}
 use Rattle.handler_chain.specs.Walk.{ServedAs, Serving, next_of}
 use Rattle.pass_replay.specs.Kept.{kept_answers}
 use Rattle.pass_replay.specs.Walk.{state_in}
-use Rattle.pass_replay.proofs.Walking.{line_goes}
+use Rattle.pass_replay.proofs.NodeWalkFacts.{line_goes}
 use Rattle.explain_lines.specs.declared.row.Fate.TheVariants.{Ran, Waits}
 use Rattle.explain_lines.specs.Rows.{row_of}
 use Rattle.explain_calls.specs.Rows.{why_by}
-use Rattle.explain_calls.proofs.Showing.{runs, waits}
+use Rattle.explain_calls.proofs.WalkRowFacts.{runs, waits}
 use Rattle.explain_calls.proofs.walk.walk_line.Goals as goal
 
 pub returns-in_default-clause-shows : goal.returns-in_default-clause-shows

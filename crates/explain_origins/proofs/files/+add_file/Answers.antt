@@ -3,7 +3,7 @@ use Rattle.explain_origins.specs.Placed.{Placed}
 use Rattle.explain_origins.specs.declared.files.Inclusion.{Inclusion}
 use Rattle.explain_origins.specs.Reading.{Takes, placed_at}
 use Rattle.pam_base.specs.declared.fault.NoMemory.{NoMemory}
-use Rattle.explain_origins.proofs.Going.{adds_nothing, going_all, going_in, going_taken, placed_is, too_deep}
+use Rattle.explain_origins.proofs.FileRuleFacts.{adds_nothing, going_all, going_in, going_taken, placed_is, too_deep}
 use Rattle.explain_origins.proofs.Since.{adds_since, only_more}
 use Rattle.service_load.specs.declared.rule_file.RuleFile.{RuleFile}
 use Rattle.service_load.specs.Files.{is_in_directory, own_rules, plain_file}

@@ -1,7 +1,7 @@
 use Rattle.std.proofs.Common.{◌≡◌, ◌+◌, ◌-◌, List, ℕ, drop, true}
 use Rattle.explain_origins.specs.Placed.{Placed}
 use Rattle.explain_origins.specs.Reading.{placed_at}
-use Rattle.explain_origins.proofs.Going.{Going}
+use Rattle.explain_origins.proofs.FileRuleFacts.{Going}
 use Rattle.service_load.specs.Files.{is_in_directory, plain_file}
 use Rattle.service_load.specs.Loading.{OnlyCalls, texts_of}
 use Rattle.explain_origins.specs.contracts.files.add_file.{dyn-1-ghosts}

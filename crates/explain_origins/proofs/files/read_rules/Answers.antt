@@ -1,6 +1,6 @@
 use Rattle.std.proofs.Common.{ℕ, List, ap, ◌∙◌}
 use Rattle.pam_outside.specs.Paths.{path_of}
-use Rattle.explain_origins.proofs.Failing.{failing_last}
+use Rattle.explain_origins.proofs.FailedAccessFacts.{failing_last}
 use Rattle.explain_origins.proofs.Texts.{long_held, none_held}
 use Rattle.explain_origins.proofs.files.read_rules.Goals as goal
 

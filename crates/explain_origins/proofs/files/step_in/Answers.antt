@@ -1,4 +1,4 @@
-use Rattle.explain_origins.proofs.Stepping.{meant_ok}
+use Rattle.explain_origins.proofs.SingleRuleFacts.{meant_ok}
 use Rattle.explain_origins.proofs.files.step_in.Goals as goal
 
 pub returns-in-Some : goal.returns-in-Some

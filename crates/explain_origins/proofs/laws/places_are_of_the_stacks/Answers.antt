@@ -1,5 +1,5 @@
 use Rattle.std.specs.Prelude.{codes}
-use Rattle.explain_origins.proofs.Forgetting.{places_each, tree_forgotten}
+use Rattle.explain_origins.proofs.PlacelessStackFacts.{places_each, tree_forgotten}
 use Rattle.explain_origins.proofs.laws.places_are_of_the_stacks.Goals as goal
 use Rattle.service_load.specs.Files.{service_file}
 

@@ -1,4 +1,4 @@
-use Rattle.explain_origins.proofs.Failing.{failing_last}
+use Rattle.explain_origins.proofs.FailedAccessFacts.{failing_last}
 use Rattle.explain_origins.proofs.sources.directory_exists.Goals as goal
 
 pub returns-clause-planned : goal.returns-clause-planned

@@ -1,5 +1,5 @@
 use Rattle.std.proofs.Common.{sym, ◌∙◌}
-use Rattle.explain_origins.proofs.Stepping.{at_include, none_ok, of_type_ok, to_ok}
+use Rattle.explain_origins.proofs.SingleRuleFacts.{at_include, none_ok, of_type_ok, to_ok}
 use Rattle.explain_origins.proofs.step.step_by_type.Goals as goal
 
 pub returns-then-is_include : goal.returns-then-is_include

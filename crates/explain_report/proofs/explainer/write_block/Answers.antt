@@ -5,7 +5,7 @@ use Rattle.report_lines.specs.Form.{result_of}
 use Rattle.session_audit.specs.Checked.{told_in}
 use Rattle.session_audit.specs.Fits.{SlotLog, visits_told}
 use Rattle.explain_report.specs.Report.{block_text}
-use Rattle.explain_report.proofs.Explaining.{at_place}
+use Rattle.explain_report.proofs.ReportTextFacts.{at_place}
 use Rattle.explain_report.proofs.explainer.write_block.Goals as goal
 
 pub returns : goal.returns

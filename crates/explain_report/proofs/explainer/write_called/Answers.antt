@@ -4,7 +4,7 @@ use Rattle.pass_replay.specs.Held.{held_of}
 use Rattle.pass_replay.specs.Retold.{stacks_in}
 use Rattle.session_audit.specs.Checked.{told_in}
 use Rattle.session_audit.specs.Fits.{visits_told}
-use Rattle.explain_report.proofs.Explaining.{call_goes, call_refused}
+use Rattle.explain_report.proofs.ReportTextFacts.{call_goes, call_refused}
 use Rattle.explain_report.proofs.explainer.write_called.Goals as goal
 
 pub returns-then-is_refused_change : goal.returns-then-is_refused_change

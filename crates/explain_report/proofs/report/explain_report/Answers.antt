@@ -6,9 +6,9 @@ use Rattle.pass_replay.specs.Retold.{stacks_in}
 use Rattle.report_lines.specs.Guess.{read_line}
 use Rattle.report_lines.specs.Says.{Says, bare}
 use Rattle.session_audit.specs.Checked.{bare_lines}
-use Rattle.session_audit.proofs.Cutting.{line_left, part_left}
+use Rattle.session_audit.proofs.RestOfTextFacts.{line_left, part_left}
 use Rattle.explain_report.specs.Report.{Takes, left_of}
-use Rattle.explain_report.proofs.Explaining.{nothing_left}
+use Rattle.explain_report.proofs.ReportTextFacts.{nothing_left}
 use Rattle.explain_report.proofs.report.explain_report.Goals as goal
 
 pub returns-then-not-goes_on : goal.returns-then-not-goes_on

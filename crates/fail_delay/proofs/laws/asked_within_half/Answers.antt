@@ -1,4 +1,4 @@
-use Rattle.fail_delay.proofs.Spreading.{word_for}
+use Rattle.fail_delay.proofs.DelaySpreadFacts.{word_for}
 use Rattle.fail_delay.proofs.laws.asked_within_half.Goals as goal
 
 pub returns-clause-each : goal.returns-clause-each

@@ -1,4 +1,4 @@
-use Rattle.frame_stream.proofs.Spelling.{all_looked}
+use Rattle.frame_stream.proofs.SpelledStepFacts.{all_looked}
 use Rattle.frame_stream.proofs.laws.all_are_looked_at.Goals as goal
 
 pub returns : goal.returns

@@ -1,4 +1,4 @@
-use Rattle.frame_stream.proofs.Spelling.{bytes_spell}
+use Rattle.frame_stream.proofs.SpelledStepFacts.{bytes_spell}
 use Rattle.frame_stream.proofs.laws.bytes_spell_steps.Goals as goal
 
 pub returns : goal.returns

@@ -1,4 +1,4 @@
-use Rattle.frame_stream.proofs.Spelling.{run_is_of_steps, served_are_steps}
+use Rattle.frame_stream.proofs.SpelledStepFacts.{run_is_of_steps, served_are_steps}
 use Rattle.frame_stream.proofs.laws.runs_are_of_steps.Goals as goal
 
 pub returns-clause-run : goal.returns-clause-run

@@ -1,4 +1,4 @@
-use Rattle.frame_stream.proofs.Seeing.{steps_looked}
+use Rattle.frame_stream.proofs.FirstFrameFacts.{steps_looked}
 use Rattle.frame_stream.proofs.laws.steps_are_looked_at.Goals as goal
 
 pub returns : goal.returns

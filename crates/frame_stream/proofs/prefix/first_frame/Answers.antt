@@ -1,7 +1,7 @@
 use Rattle.std.proofs.Common.{◌≡◌, ◌<◌, length, rules}
 use Rattle.pam_wire.specs.declared.prefix.FirstFrame.TheVariants.{Open, OutOfRange, Whole}
 use Rattle.pam_wire.specs.Read.{first_frame_of}
-use Rattle.frame_stream.proofs.Keeping.{empty_front, many_front, open_front, out_front, frame_front}
+use Rattle.frame_stream.proofs.CutFrameFacts.{empty_front, many_front, open_front, out_front, frame_front}
 use Rattle.frame_stream.proofs.prefix.first_frame.Goals as goal
 
 pub returns-then-is_empty : goal.returns-then-is_empty

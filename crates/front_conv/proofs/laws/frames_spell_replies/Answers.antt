@@ -1,4 +1,4 @@
-use Rattle.front_conv.proofs.Spelling.{only_spelled, texts_spelled}
+use Rattle.front_conv.proofs.ReplyBytesFacts.{only_spelled, texts_spelled}
 use Rattle.front_conv.proofs.laws.frames_spell_replies.Goals as goal
 
 pub returns-clause-texts : goal.returns-clause-texts

@@ -1,12 +1,12 @@
 use Rattle.std.proofs.Common.{ℕ, List, rules, arith, ◌≡◌, ◌≤◌, ◌<◌, length, drop, ap, ◌∙◌, sym, refl, drop_of_length-le, length-drop}
 use Rattle.control_words.specs.Stack.{stack_of, lines_in, count, depth}
 use Rattle.control_words.specs.declared.nodes.Node.{Line}
-use Rattle.handler_chain.proofs.Listing.{count-stack_of}
+use Rattle.handler_chain.proofs.NodeListFacts.{count-stack_of}
 use Rattle.handler_chain.specs.FlatLines.{module_of, number_of_name}
 use Rattle.control_words.specs.Module.{name_of_module}
 use Rattle.control_words.specs.declared.nodes.Rule.{Rule}
-use Rattle.handler_chain.proofs.Peeling.{peeled_line, peeled_sub}
-use Rattle.handler_chain.proofs.Adding.{adding_start, adding_line, adding_sub, adding_end, pending_some, pending_none}
+use Rattle.handler_chain.proofs.RestOfStackFacts.{peeled_line, peeled_sub}
+use Rattle.handler_chain.proofs.AddedNodeFacts.{adding_start, adding_line, adding_sub, adding_end, pending_some, pending_none}
 use Rattle.handler_chain.proofs.add_list.+add_list.Goals as goal
 use Rattle.handler_chain.proofs.add_list.+add_list.Goals.{in-Line+in_ok-rule-in-Line+in_ok-push-in-Line, in-Sub+in_ok-add_list-in-Sub+then-len-before, in-Sub+in_ok-add_list-in-Sub+else-len-before}
 

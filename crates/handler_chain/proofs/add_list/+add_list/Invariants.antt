@@ -1,6 +1,6 @@
 use Rattle.std.proofs.Common.{drop}
 use Rattle.control_words.specs.Stack.{stack_of, depth}
-use Rattle.handler_chain.proofs.Adding.{IsAdding}
+use Rattle.handler_chain.proofs.AddedNodeFacts.{IsAdding}
 use Rattle.handler_chain.proofs.add_list.+add_list.Given as goal
 
 abbrev pub decreases-add_list : goal.decreases-add_list

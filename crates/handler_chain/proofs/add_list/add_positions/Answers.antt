@@ -1,7 +1,7 @@
 use Rattle.std.proofs.Common.{◌≡◌, ◌+◌, ◌∷◌, [], ◌++◌, append_assoc, arith, ap, ◌∙◌, rules, drop}
 use Rattle.control_words.specs.Stack.{lines_in, stack_of}
 use Rattle.handler_chain.specs.Flat.{positions_after}
-use Rattle.handler_chain.proofs.Peeling.{peeled_line, peeled_sub, IsNext, next_line, next_sub, marked}
+use Rattle.handler_chain.proofs.RestOfStackFacts.{peeled_line, peeled_sub, IsNext, next_line, next_sub, marked}
 use Rattle.handler_chain.proofs.add_list.add_positions.Goals as goal
 use Rattle.handler_chain.proofs.add_list.add_positions.Goals.{in-Line, in-Sub}
 

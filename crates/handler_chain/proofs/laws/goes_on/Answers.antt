@@ -1,4 +1,4 @@
-use Rattle.handler_chain.proofs.Resuming.{goes_on}
+use Rattle.handler_chain.proofs.ResumedPassFacts.{goes_on}
 use Rattle.handler_chain.proofs.laws.goes_on.Goals as goal
 
 pub returns : goal.returns

@@ -1,4 +1,4 @@
-use Rattle.handler_chain.proofs.Retelling.{retells}
+use Rattle.handler_chain.proofs.ReplayedWalkFacts.{retells}
 use Rattle.handler_chain.proofs.laws.retells.Goals as goal
 
 pub returns : goal.returns

@@ -1,6 +1,6 @@
 use Rattle.std.proofs.Common.{◌<◌, arith, ap}
 use Rattle.control_words.specs.Stack.{lines_in, stack_of, depth}
-use Rattle.handler_chain.proofs.Peeling.{peeled_line, peeled_sub}
+use Rattle.handler_chain.proofs.RestOfStackFacts.{peeled_line, peeled_sub}
 use Rattle.handler_chain.proofs.line_count.+line_count.Goals as goal
 use Rattle.handler_chain.proofs.line_count.+line_count.Goals.{in-Line, in-Sub}
 

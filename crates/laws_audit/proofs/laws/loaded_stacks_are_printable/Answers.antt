@@ -1,4 +1,4 @@
-use Rattle.laws_audit.proofs.Loading.{loaded_printable}
+use Rattle.laws_audit.proofs.PrintableLoadFacts.{loaded_printable}
 use Rattle.laws_audit.proofs.laws.loaded_stacks_are_printable.Goals as goal
 
 pub returns : goal.returns

@@ -1,6 +1,6 @@
 use Rattle.session_audit.specs.Sound.{ArePrintable}
 use Rattle.laws_audit.specs.Loaded.{AreLoaded}
-use Rattle.laws_audit.proofs.Ending.{runs_fit}
+use Rattle.laws_audit.proofs.WholeReportFacts.{runs_fit}
 use Rattle.laws_audit.proofs.laws.runs_fit.Goals as goal
 
 pub returns-clause-printed : goal.returns-clause-printed

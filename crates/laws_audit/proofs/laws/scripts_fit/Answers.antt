@@ -1,6 +1,6 @@
 use Rattle.session_audit.specs.Sound.{ArePrintable}
 use Rattle.laws_audit.specs.Loaded.{AreLoaded}
-use Rattle.laws_audit.proofs.Ending.{scripts_fit}
+use Rattle.laws_audit.proofs.WholeReportFacts.{scripts_fit}
 use Rattle.laws_audit.proofs.laws.scripts_fit.Goals as goal
 
 pub returns-clause-printed : goal.returns-clause-printed

@@ -1,4 +1,4 @@
-use Rattle.laws_audit.proofs.Stepping.{steps_fit}
+use Rattle.laws_audit.proofs.LibraryStepFacts.{steps_fit}
 use Rattle.laws_audit.proofs.laws.steps_fit.Goals as goal
 
 pub returns : goal.returns

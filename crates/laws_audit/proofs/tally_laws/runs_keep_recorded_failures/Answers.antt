@@ -3,7 +3,7 @@ use Rattle.pam_outside.specs.Files.{File}
 use Rattle.record_reader.specs.LineRun.{run_lines}
 use Rattle.cmd_run.specs.Step.{line_step}
 use Rattle.laws_audit.specs.Tallied.{Tallies}
-use Rattle.laws_audit.proofs.Tallying.{tallies}
+use Rattle.laws_audit.proofs.FaillockLineFacts.{tallies}
 use Rattle.laws_audit.proofs.tally_laws.runs_keep_recorded_failures.Goals as goal
 
 pub returns-clause-script : goal.returns-clause-script

@@ -1,4 +1,4 @@
-use Rattle.laws_code.proofs.Tallying.{tallies}
+use Rattle.laws_code.proofs.FaillockCodeFacts.{tallies}
 use Rattle.laws_code.proofs.laws.faillock_returns.Goals as goal
 
 pub returns : goal.returns

@@ -1,4 +1,4 @@
-use Rattle.laws_code.proofs.Listing.{lists}
+use Rattle.laws_code.proofs.ConditionCodeFacts.{lists}
 use Rattle.laws_code.proofs.laws.listfile_returns.Goals as goal
 
 pub returns : goal.returns

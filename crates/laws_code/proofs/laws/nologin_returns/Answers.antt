@@ -1,4 +1,4 @@
-use Rattle.laws_code.proofs.Checking.{nologins}
+use Rattle.laws_code.proofs.UserCheckFacts.{nologins}
 use Rattle.laws_code.proofs.laws.nologin_returns.Goals as goal
 
 pub returns : goal.returns

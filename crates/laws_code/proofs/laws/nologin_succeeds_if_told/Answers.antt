@@ -1,4 +1,4 @@
-use Rattle.laws_code.proofs.Checking.{told}
+use Rattle.laws_code.proofs.UserCheckFacts.{told}
 use Rattle.laws_code.proofs.laws.nologin_succeeds_if_told.Goals as goal
 
 pub returns : goal.returns

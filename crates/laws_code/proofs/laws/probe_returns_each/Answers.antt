@@ -1,4 +1,4 @@
-use Rattle.laws_code.proofs.Anything.{probes}
+use Rattle.laws_code.proofs.DebugCodeFacts.{probes}
 use Rattle.laws_code.proofs.laws.probe_returns_each.Goals as goal
 
 pub returns : goal.returns

@@ -1,4 +1,4 @@
-use Rattle.laws_code.proofs.Remembering.{histories}
+use Rattle.laws_code.proofs.PwhistoryCodeFacts.{histories}
 use Rattle.laws_code.proofs.laws.pwhistory_returns.Goals as goal
 
 pub returns : goal.returns

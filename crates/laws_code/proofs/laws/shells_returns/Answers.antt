@@ -1,4 +1,4 @@
-use Rattle.laws_code.proofs.Checking.{shells_so}
+use Rattle.laws_code.proofs.UserCheckFacts.{shells_so}
 use Rattle.laws_code.proofs.laws.shells_returns.Goals as goal
 
 pub returns : goal.returns

@@ -1,4 +1,4 @@
-use Rattle.laws_code.proofs.Listing.{conditions}
+use Rattle.laws_code.proofs.ConditionCodeFacts.{conditions}
 use Rattle.laws_code.proofs.laws.succeed_if_returns.Goals as goal
 
 pub returns : goal.returns

@@ -1,4 +1,4 @@
-use Rattle.laws_cost.proofs.Noting.{hash_is_of_digests, no_digest_is_left_out}
+use Rattle.laws_cost.proofs.DigestTextFacts.{hash_is_of_digests, no_digest_is_left_out}
 use Rattle.laws_cost.proofs.laws.digests_make_the_hash.Goals as goal
 
 pub returns-clause-hash : goal.returns-clause-hash

@@ -1,5 +1,5 @@
-use Rattle.laws_cost.proofs.Bounding.{rounds_are_bounded}
-use Rattle.laws_cost.proofs.Noting.{digests_by_rounds}
+use Rattle.laws_cost.proofs.RoundBoundFacts.{rounds_are_bounded}
+use Rattle.laws_cost.proofs.DigestTextFacts.{digests_by_rounds}
 use Rattle.laws_cost.proofs.laws.rounds_give_the_number_of_digests.Goals as goal
 
 pub returns-clause-number : goal.returns-clause-number

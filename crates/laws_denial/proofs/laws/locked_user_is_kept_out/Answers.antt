@@ -1,4 +1,4 @@
-use Rattle.laws_denial.proofs.Authenticating.{not_authenticated}
+use Rattle.laws_denial.proofs.AuthenticateCodeFacts.{not_authenticated}
 use Rattle.laws_denial.proofs.Keeping_out.{kept_out}
 use Rattle.laws_denial.proofs.laws.locked_user_is_kept_out.Goals as goal
 

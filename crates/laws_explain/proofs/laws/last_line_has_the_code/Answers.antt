@@ -1,5 +1,5 @@
-use Rattle.laws_explain.proofs.Calling.{calls_end_with_their_code, fitting_calls_end_with_their_code}
-use Rattle.laws_explain.proofs.Ending.{runs_end_with_their_code}
+use Rattle.laws_explain.proofs.CallTextFacts.{calls_end_with_their_code, fitting_calls_end_with_their_code}
+use Rattle.laws_explain.proofs.RowStateFacts.{runs_end_with_their_code}
 use Rattle.laws_explain.proofs.laws.last_line_has_the_code.Goals as goal
 
 pub returns-clause-runs : goal.returns-clause-runs

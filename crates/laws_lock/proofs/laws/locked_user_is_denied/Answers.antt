@@ -1,4 +1,4 @@
-use Rattle.laws_lock.proofs.Denying.{denied}
+use Rattle.laws_lock.proofs.FirstGateFacts.{denied}
 use Rattle.laws_lock.proofs.laws.locked_user_is_denied.Goals as goal
 
 pub returns : goal.returns

@@ -1,4 +1,4 @@
-use Rattle.laws_lockout.proofs.Denying.{lock_out}
+use Rattle.laws_lockout.proofs.LockoutDenialFacts.{lock_out}
 use Rattle.laws_lockout.proofs.laws.wrong_passwords_lock_out.Goals as goal
 
 pub returns : goal.returns

@@ -1,5 +1,5 @@
 use Rattle.laws_module.proofs.Alike.{others_dont_matter_unless_changed}
-use Rattle.laws_module.proofs.Changing.{others_dont_matter_to_change}
+use Rattle.laws_module.proofs.UnixChangeFacts.{others_dont_matter_to_change}
 use Rattle.laws_module.proofs.laws.other_entries_dont_matter.Goals as goal
 
 pub returns-clause-unless_changed : goal.returns-clause-unless_changed

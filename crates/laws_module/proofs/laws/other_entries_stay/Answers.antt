@@ -1,4 +1,4 @@
-use Rattle.laws_module.proofs.Sparing.{files_stay, other_entries_stay}
+use Rattle.laws_module.proofs.UnchangedEntryFacts.{files_stay, other_entries_stay}
 use Rattle.laws_module.proofs.laws.other_entries_stay.Goals as goal
 
 pub returns-clause-entries : goal.returns-clause-entries

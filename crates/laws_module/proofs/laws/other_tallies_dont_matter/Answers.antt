@@ -1,4 +1,4 @@
-use Rattle.laws_module.proofs.Tallying.{other_files, other_tallies}
+use Rattle.laws_module.proofs.FaillockFileFacts.{other_files, other_tallies}
 use Rattle.laws_module.proofs.laws.other_tallies_dont_matter.Goals as goal
 
 pub returns-clause-same : goal.returns-clause-same

@@ -1,4 +1,4 @@
-use Rattle.laws_stack.proofs.Granting.{failed_line_denies, failed_required_denies}
+use Rattle.laws_stack.proofs.DecisiveLineFacts.{failed_line_denies, failed_required_denies}
 use Rattle.laws_stack.proofs.laws.failed_line_denies.Goals as goal
 
 pub returns-clause-line : goal.returns-clause-line

@@ -1,4 +1,4 @@
-use Rattle.laws_token.proofs.Clearing.{earlier_dont_matter}
+use Rattle.laws_token.proofs.ClearedTokenFacts.{earlier_dont_matter}
 use Rattle.laws_token.proofs.laws.earlier_tokens_dont_matter.Goals as goal
 
 pub returns : goal.returns

@@ -1,4 +1,4 @@
-use Rattle.laws_user.proofs.Interfering.{calls_dont_matter}
+use Rattle.laws_user.proofs.OtherUserFacts.{calls_dont_matter}
 use Rattle.laws_user.proofs.laws.other_calls_dont_matter.Goals as goal
 
 pub returns : goal.returns

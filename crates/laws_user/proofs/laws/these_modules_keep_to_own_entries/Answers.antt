@@ -1,4 +1,4 @@
-use Rattle.laws_user.proofs.Owning.{these_keep}
+use Rattle.laws_user.proofs.OwnEntryModuleFacts.{these_keep}
 use Rattle.laws_user.proofs.laws.these_modules_keep_to_own_entries.Goals as goal
 
 pub returns : goal.returns

@@ -1,5 +1,5 @@
-use Rattle.laws_user.proofs.Calling.{calls_alike}
-use Rattle.laws_user.proofs.Sparing.{writes_own}
+use Rattle.laws_user.proofs.AlikeCallFacts.{calls_alike}
+use Rattle.laws_user.proofs.OwnEntryCallFacts.{writes_own}
 use Rattle.laws_user.proofs.laws.users_dont_matter_to_calls.Goals as goal
 
 pub returns-clause-same : goal.returns-clause-same

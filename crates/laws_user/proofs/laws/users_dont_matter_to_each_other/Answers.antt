@@ -1,4 +1,4 @@
-use Rattle.laws_user.proofs.Looking.{users_dont_matter}
+use Rattle.laws_user.proofs.AlikeModuleFacts.{users_dont_matter}
 use Rattle.laws_user.proofs.laws.users_dont_matter_to_each_other.Goals as goal
 
 pub returns : goal.returns

@@ -1,4 +1,4 @@
-use Rattle.laws_way.proofs.Calling.{authentication_caches, calls_granted_by, session_caches}
+use Rattle.laws_way.proofs.CallCodeFacts.{authentication_caches, calls_granted_by, session_caches}
 use Rattle.laws_way.proofs.laws.calls_succeed_by_listed_ways.Goals as goal
 
 pub returns-clause-pass : goal.returns-clause-pass

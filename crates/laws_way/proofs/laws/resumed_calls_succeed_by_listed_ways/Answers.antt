@@ -1,4 +1,4 @@
-use Rattle.laws_way.proofs.Resuming.{left_by_trace, resumed_calls, resumed_changes, resumed_updates}
+use Rattle.laws_way.proofs.ResumedCallFacts.{left_by_trace, resumed_calls, resumed_changes, resumed_updates}
 use Rattle.laws_way.proofs.laws.resumed_calls_succeed_by_listed_ways.Goals as goal
 
 pub returns-clause-pass : goal.returns-clause-pass

@@ -1,4 +1,4 @@
-use Rattle.laws_way.proofs.Changing.{failed_check_ends, left_in, token_changed, token_updated}
+use Rattle.laws_way.proofs.TokenChangeFacts.{failed_check_ends, left_in, token_changed, token_updated}
 use Rattle.laws_way.proofs.laws.token_is_changed_by_a_listed_way.Goals as goal
 
 pub returns-clause-changed : goal.returns-clause-changed

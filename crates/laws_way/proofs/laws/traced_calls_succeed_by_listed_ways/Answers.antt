@@ -1,4 +1,4 @@
-use Rattle.laws_way.proofs.Tracing.{traced_authentication, traced_calls, traced_changes, traced_closing, traced_credentials, traced_session}
+use Rattle.laws_way.proofs.CallTraceFacts.{traced_authentication, traced_calls, traced_changes, traced_closing, traced_credentials, traced_session}
 use Rattle.laws_way.proofs.laws.traced_calls_succeed_by_listed_ways.Goals as goal
 
 pub returns-clause-pass : goal.returns-clause-pass

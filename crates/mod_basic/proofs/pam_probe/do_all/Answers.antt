@@ -2,7 +2,7 @@ use Rattle.std.proofs.Common.{◌∙◌, rules, ap}
 use Rattle.data_cleanup.specs.DataList.{PlainDataList}
 use Rattle.pam_room.specs.declared.transaction.Transaction.{Transaction}
 use Rattle.mod_basic.specs.Request.{plain_request, request_of}
-use Rattle.mod_basic.proofs.Probing.{first_of, gone_on, said_on}
+use Rattle.mod_basic.proofs.ProbeStateFacts.{first_of, gone_on, said_on}
 use Rattle.mod_basic.proofs.pam_probe.do_all.Goals as goal
 
 pub returns-in_err-do_request-clause-data_handle : goal.returns-in_err-do_request-clause-data_handle

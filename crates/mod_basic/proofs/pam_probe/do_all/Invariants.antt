@@ -3,7 +3,7 @@ use Rattle.conv_port.specs.declared.message.Message.{Message}
 use Rattle.pam_room.specs.State.{room_of}
 use Rattle.pam_room.specs.Module.{seen_of}
 use Rattle.pam_room.specs.Plain.{plain_transaction}
-use Rattle.mod_basic.proofs.Probing.{Midway}
+use Rattle.mod_basic.proofs.ProbeStateFacts.{Midway}
 use Rattle.mod_basic.proofs.pam_probe.do_all.Given as goal
 
 abbrev pub invariant-loop-rest : goal.invariant-loop-rest

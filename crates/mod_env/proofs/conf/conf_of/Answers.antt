@@ -1,6 +1,6 @@
 use Rattle.std.proofs.Common.{◌≡◌, List, [], ◌∷◌, Some, slice_get, drop, refl, sym, ap, ◌∙◌}
 use Rattle.mod_env.specs.Conf.{counts, entry_at}
-use Rattle.mod_env.proofs.Collecting.{line_taken}
+use Rattle.mod_env.proofs.FoundSoFarFacts.{line_taken}
 use Rattle.mod_env.proofs.conf.conf_of.Goals as goal
 
 taken : {A : Type 0} (xs : List A) (x : A) → Some x ≡ slice_get xs 0 → xs ≡ x ∷ drop 1 xs

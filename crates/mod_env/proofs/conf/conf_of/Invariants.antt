@@ -1,6 +1,6 @@
 use Rattle.std.proofs.Common.{◌≡◌, length}
 use Rattle.mod_env.specs.Conf.{conf_of, entries_of}
-use Rattle.mod_env.proofs.Collecting.{after_entries}
+use Rattle.mod_env.proofs.FoundSoFarFacts.{after_entries}
 use Rattle.mod_env.proofs.conf.conf_of.Given as goal
 
 abbrev pub invariant-loop-line : goal.invariant-loop-line

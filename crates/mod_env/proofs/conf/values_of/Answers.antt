@@ -1,6 +1,6 @@
 use Rattle.std.proofs.Common.{◌≡◌, true, false, refl, sym, ap, ◌∙◌, arith}
 use Rattle.mod_env.specs.Conf.{plain_setting, values_of}
-use Rattle.mod_env.proofs.Collecting.{setting_taken, settings_break, settings_end, settings_out, value_breaks}
+use Rattle.mod_env.proofs.FoundSoFarFacts.{setting_taken, settings_break, settings_end, settings_out, value_breaks}
 use Rattle.mod_env.proofs.conf.values_of.Goals as goal
 
 pub loop-left-preserved : goal.loop-left-preserved

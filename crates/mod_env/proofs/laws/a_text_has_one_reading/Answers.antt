@@ -1,4 +1,4 @@
-use Rattle.mod_env.proofs.Respelling.{conf_is_one, conf_is_read}
+use Rattle.mod_env.proofs.SpelledVariableFacts.{conf_is_one, conf_is_read}
 use Rattle.mod_env.proofs.Spelled.{conf_is_spelled}
 use Rattle.mod_env.proofs.laws.a_text_has_one_reading.Goals as goal
 

@@ -1,4 +1,4 @@
-use Rattle.mod_env.proofs.Putting.{seeing_env}
+use Rattle.mod_env.proofs.EnvironmentStepFacts.{seeing_env}
 use Rattle.mod_env.proofs.laws.env_steps.Goals as goal
 
 pub returns : goal.returns

@@ -1,4 +1,4 @@
-use Rattle.mod_env.proofs.Putting.{puts_more, puts_nothing, putting_no_data}
+use Rattle.mod_env.proofs.EnvironmentStepFacts.{puts_more, puts_nothing, putting_no_data}
 use Rattle.mod_env.proofs.laws.puts_alone.Goals as goal
 
 pub returns-clause-none : goal.returns-clause-none

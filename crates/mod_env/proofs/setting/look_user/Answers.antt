@@ -1,5 +1,5 @@
 use Rattle.mod_env.specs.Env.{finds_entry}
-use Rattle.mod_env.proofs.Settling.{by_found, by_none}
+use Rattle.mod_env.proofs.SetVariableFacts.{by_found, by_none}
 use Rattle.mod_env.proofs.setting.look_user.Goals as goal
 
 pub returns-in_ok-read_passwds-in-Some-clause-told : goal.returns-in_ok-read_passwds-in-Some-clause-told

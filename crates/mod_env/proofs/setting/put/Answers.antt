@@ -1,5 +1,5 @@
 use Rattle.std.proofs.Common.{refl}
-use Rattle.mod_env.proofs.Putting.{putting_env}
+use Rattle.mod_env.proofs.EnvironmentStepFacts.{putting_env}
 use Rattle.mod_env.proofs.setting.put.Goals as goal
 
 pub returns-clause-told : goal.returns-clause-told

@@ -1,4 +1,4 @@
-use Rattle.mod_env.proofs.Settling.{first_of, nothing_left, puts_more}
+use Rattle.mod_env.proofs.SetVariableFacts.{first_of, nothing_left, puts_more}
 use Rattle.mod_env.proofs.setting.put_all.Goals as goal
 
 pub loop-rest-preserved : goal.loop-rest-preserved

@@ -1,5 +1,5 @@
 use Rattle.std.proofs.Common.{◌∙◌}
-use Rattle.mod_env.proofs.Settling.{first_of, nothing_left, one_more, stopped}
+use Rattle.mod_env.proofs.SetVariableFacts.{first_of, nothing_left, one_more, stopped}
 use Rattle.mod_env.proofs.setting.set_all.Goals as goal
 
 pub loop-rest-preserved : goal.loop-rest-preserved

@@ -1,4 +1,4 @@
-use Rattle.mod_env.proofs.Settling.{puts, too_long}
+use Rattle.mod_env.proofs.SetVariableFacts.{puts, too_long}
 use Rattle.mod_env.proofs.setting.set_by.Goals as goal
 
 pub returns-in-TooLong-clause-told : goal.returns-in-TooLong-clause-told

@@ -1,4 +1,4 @@
-use Rattle.mod_env.proofs.Settling.{looked}
+use Rattle.mod_env.proofs.SetVariableFacts.{looked}
 use Rattle.mod_env.proofs.setting.set_variable.Goals as goal
 
 pub returns-clause-told : goal.returns-clause-told

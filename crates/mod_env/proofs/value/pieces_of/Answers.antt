@@ -1,6 +1,6 @@
 use Rattle.std.proofs.Common.{◌≡◌, true, false, refl, sym, ap, ◌∙◌, arith}
 use Rattle.mod_env.specs.Value.{pieces_of, plain_next}
-use Rattle.mod_env.proofs.Collecting.{no_pieces, piece_taken, pieces_break, pieces_end, pieces_out}
+use Rattle.mod_env.proofs.FoundSoFarFacts.{no_pieces, piece_taken, pieces_break, pieces_end, pieces_out}
 use Rattle.mod_env.proofs.value.pieces_of.Goals as goal
 
 pub loop-left-init : goal.loop-left-init

@@ -1,6 +1,6 @@
 use Rattle.std.proofs.Common.{◌≡◌, length}
 use Rattle.mod_env.specs.Value.{pieces_within}
-use Rattle.mod_env.proofs.Collecting.{after_pieces}
+use Rattle.mod_env.proofs.FoundSoFarFacts.{after_pieces}
 use Rattle.mod_env.proofs.value.pieces_of.Given as goal
 
 abbrev pub invariant-loop-left : goal.invariant-loop-left

@@ -1,7 +1,7 @@
 use Rattle.std.proofs.Common.{◌∙◌, sym}
 use Rattle.pam_room.specs.Plain.{plain_call}
 use Rattle.mod_history.specs.Pwhistory.{remember_of}
-use Rattle.mod_history.proofs.Changing.{had, had_not, none_if, not_read}
+use Rattle.mod_history.proofs.SecondPassFacts.{had, had_not, none_if, not_read}
 use Rattle.mod_history.proofs.change.compare.Goals as goal
 
 pub returns-in_default-clause-told : goal.returns-in_default-clause-told

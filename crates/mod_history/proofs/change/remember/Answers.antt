@@ -2,7 +2,7 @@ use Rattle.std.proofs.Common.{◌≡◌, ◌==◌, ◌∙◌, true, false, arith
 use Rattle.std.proofs.lemmas.Bool.Decides.{nat_tests}
 use Rattle.pam_room.specs.Plain.{plain_call}
 use Rattle.mod_history.specs.Pwhistory.{remember_of}
-use Rattle.mod_history.proofs.Changing.{compared, no_token, none_if, not_remembered}
+use Rattle.mod_history.proofs.SecondPassFacts.{compared, no_token, none_if, not_remembered}
 use Rattle.mod_history.proofs.change.remember.Goals as goal
 
 pub returns-in_default-clause-told : goal.returns-in_default-clause-told

@@ -1,5 +1,5 @@
 use Rattle.pam_room.specs.Plain.{plain_call}
-use Rattle.mod_history.proofs.Changing.{by_plain, by_shadow, by_unavailable, by_unknown}
+use Rattle.mod_history.proofs.SecondPassFacts.{by_plain, by_shadow, by_unavailable, by_unknown}
 use Rattle.mod_history.proofs.change.renew_if_known.Goals as goal
 
 pub returns-in-Unknown-clause-told : goal.returns-in-Unknown-clause-told

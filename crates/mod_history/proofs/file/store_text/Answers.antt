@@ -1,7 +1,7 @@
 use Rattle.std.proofs.Common.{◌≡◌, nat_le, length, true, false, arith}
 use Rattle.std.proofs.lemmas.Bool.Decides.{nat_tests}
 use Rattle.mod_history.specs.Pwhistory.{history_limit}
-use Rattle.mod_history.proofs.Changing.{short, too_long}
+use Rattle.mod_history.proofs.SecondPassFacts.{short, too_long}
 use Rattle.mod_history.proofs.file.store_text.Goals as goal
 
 pub returns-then-text-clause-told : goal.returns-then-text-clause-told

@@ -1,6 +1,6 @@
-use Rattle.mod_history.proofs.Cutting.{kept_last}
-use Rattle.mod_history.proofs.Doing.{does_one}
-use Rattle.mod_history.proofs.Following.{calls_stand}
+use Rattle.mod_history.proofs.LastHashesFacts.{kept_last}
+use Rattle.mod_history.proofs.HistoryFileFacts.{does_one}
+use Rattle.mod_history.proofs.HistoryCallsFacts.{calls_stand}
 use Rattle.mod_history.proofs.laws.hashes_are_kept.Goals as goal
 
 pub returns-clause-one : goal.returns-clause-one

@@ -1,4 +1,4 @@
-use Rattle.mod_history.proofs.Rereading.{history_read}
+use Rattle.mod_history.proofs.WrittenHistoryFacts.{history_read}
 use Rattle.mod_history.proofs.Wellformed.{read_fits}
 use Rattle.mod_history.proofs.laws.written_histories_are_read.Goals as goal
 

@@ -1,8 +1,8 @@
 use Rattle.std.proofs.Common.{◌∙◌}
 use Rattle.pam_room.specs.Plain.{plain_call}
 use Rattle.mod_history.specs.Pwhistory.{remember_of}
-use Rattle.mod_history.proofs.Changing.{none_if}
-use Rattle.mod_history.proofs.Locking.{not_locked, refused, renewed}
+use Rattle.mod_history.proofs.SecondPassFacts.{none_if}
+use Rattle.mod_history.proofs.LockedHistoryFacts.{not_locked, refused, renewed}
 use Rattle.mod_history.proofs.locked.lock_history.Goals as goal
 
 pub returns-in_default-clause-told : goal.returns-in_default-clause-told

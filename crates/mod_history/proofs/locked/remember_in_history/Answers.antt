@@ -1,7 +1,7 @@
 use Rattle.std.proofs.Common.{◌∙◌, sym}
 use Rattle.pam_room.specs.Plain.{plain_call}
 use Rattle.mod_history.specs.Pwhistory.{remember_of}
-use Rattle.mod_history.proofs.Changing.{no_history, none_if, not_used, used}
+use Rattle.mod_history.proofs.SecondPassFacts.{no_history, none_if, not_used, used}
 use Rattle.mod_history.proofs.locked.remember_in_history.Goals as goal
 
 pub returns-in_default-clause-told : goal.returns-in_default-clause-told

@@ -1,5 +1,5 @@
 use Rattle.std.proofs.Common.{◌∙◌, sym}
-use Rattle.mod_history.proofs.Comparing.{known, present}
+use Rattle.mod_history.proofs.ComparedHashFacts.{known, present}
 use Rattle.mod_history.proofs.refusal.is_new_hash.Goals as goal
 
 pub returns-then-eq : goal.returns-then-eq

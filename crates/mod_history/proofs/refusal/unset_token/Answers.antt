@@ -1,7 +1,7 @@
 use Rattle.std.proofs.Common.{ap}
 use Rattle.item_store.specs.Items.{ItemTexts}
 use Rattle.pam_base.specs.declared.item.ItemName.TheVariants.{AuthTok}
-use Rattle.mod_history.proofs.Changing.{unsetting}
+use Rattle.mod_history.proofs.SecondPassFacts.{unsetting}
 use Rattle.mod_history.proofs.refusal.unset_token.Goals as goal
 
 pub returns-clause-told : goal.returns-clause-told

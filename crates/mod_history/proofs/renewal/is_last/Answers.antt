@@ -1,6 +1,6 @@
 use Rattle.std.proofs.Common.{◌≡◌, ◌∙◌, Some, None}
 use Rattle.std.specs.List.{last_or}
-use Rattle.mod_history.proofs.Lasting.{last_get}
+use Rattle.mod_history.proofs.LastElementFacts.{last_get}
 use Rattle.mod_history.proofs.renewal.is_last.Goals as goal
 
 pub returns-in-Some : goal.returns-in-Some

@@ -1,5 +1,5 @@
 use Rattle.std.proofs.Common.{◌∙◌}
-use Rattle.mod_lists.proofs.Listing.{groups_by_entries}
+use Rattle.mod_lists.proofs.ReadFilesFacts.{groups_by_entries}
 use Rattle.mod_lists.proofs.list_scope.list_applies.Goals as goal
 
 pub returns-in-Everyone-clause-told : goal.returns-in-Everyone-clause-told

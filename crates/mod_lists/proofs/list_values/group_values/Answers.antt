@@ -1,6 +1,6 @@
 use Rattle.std.proofs.Common.{◌∙◌}
 use Rattle.mod_lists.specs.Listfile.{reads_group_values}
-use Rattle.mod_lists.proofs.Listing.{values_by_account}
+use Rattle.mod_lists.proofs.ReadFilesFacts.{values_by_account}
 use Rattle.mod_lists.proofs.list_values.group_values.Goals as goal
 
 pub returns-in-Missing-clause-told : goal.returns-in-Missing-clause-told

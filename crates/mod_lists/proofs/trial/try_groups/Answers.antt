@@ -1,5 +1,5 @@
 use Rattle.std.proofs.Common.{◌∙◌}
-use Rattle.mod_lists.proofs.Listing.{truth_by_entries}
+use Rattle.mod_lists.proofs.ReadFilesFacts.{truth_by_entries}
 use Rattle.mod_lists.proofs.trial.try_groups.Goals as goal
 
 pub returns-in-None-clause-told : goal.returns-in-None-clause-told

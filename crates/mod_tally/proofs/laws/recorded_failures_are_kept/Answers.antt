@@ -1,6 +1,6 @@
-use Rattle.mod_tally.proofs.Doing.{does_one}
-use Rattle.mod_tally.proofs.Following.{calls_count, none_lost}
-use Rattle.mod_tally.proofs.Rereading.{tally-read}
+use Rattle.mod_tally.proofs.TallyFileFacts.{does_one}
+use Rattle.mod_tally.proofs.TallyCallsFacts.{calls_count, none_lost}
+use Rattle.mod_tally.proofs.WrittenTallyFacts.{tally-read}
 use Rattle.mod_tally.proofs.Wellformed.{on_file-fits}
 use Rattle.mod_tally.proofs.laws.recorded_failures_are_kept.Goals as goal
 

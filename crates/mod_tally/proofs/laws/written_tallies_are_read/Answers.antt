@@ -1,7 +1,7 @@
 use Rattle.mod_tally.proofs.Fresh.{fresh}
-use Rattle.mod_tally.proofs.Rereading.{tally-read}
-use Rattle.mod_tally.proofs.Spelling.{unspelled-spelled}
-use Rattle.mod_tally.proofs.Unspelling.{unspelled-exact}
+use Rattle.mod_tally.proofs.WrittenTallyFacts.{tally-read}
+use Rattle.mod_tally.proofs.SourceSpellingFacts.{unspelled-spelled}
+use Rattle.mod_tally.proofs.UniqueSpellingFacts.{unspelled-exact}
 use Rattle.mod_tally.proofs.Wellformed.{read-fits}
 use Rattle.mod_tally.proofs.laws.written_tallies_are_read.Goals as goal
 

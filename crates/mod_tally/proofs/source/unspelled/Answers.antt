@@ -1,4 +1,4 @@
-use Rattle.mod_tally.proofs.Going.{gone_on}
+use Rattle.mod_tally.proofs.ListReadFacts.{gone_on}
 use Rattle.mod_tally.proofs.source.unspelled.Goals as goal
 
 pub loop-rest-preserved : goal.loop-rest-preserved

@@ -1,7 +1,7 @@
 use Rattle.std.proofs.Common.{ap, ◌∙◌}
 use Rattle.mod_unix.specs.Account.{account_by}
 use Rattle.mod_unix.specs.Aging.{aged, day_of}
-use Rattle.mod_unix.proofs.Judging.{judged}
+use Rattle.mod_unix.proofs.AccountCheckFacts.{judged}
 use Rattle.mod_unix.proofs.account.account_by.Goals as goal
 
 pub returns-in-Unknown : goal.returns-in-Unknown

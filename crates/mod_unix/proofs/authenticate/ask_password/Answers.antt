@@ -6,7 +6,7 @@ use Rattle.mod_unix.specs.declared.authenticate.Authenticated.{Authenticated}
 use Rattle.mod_unix.specs.declared.authenticate.Authenticated.TheVariants.{Kept}
 use Rattle.mod_unix.specs.Authenticate.{asks_password}
 use Rattle.mod_unix.specs.Verify.{verified}
-use Rattle.mod_unix.proofs.Verifying.{kept}
+use Rattle.mod_unix.proofs.VerifiedTokenFacts.{kept}
 use Rattle.mod_unix.proofs.authenticate.ask_password.Goals as goal
 
 pub returns-in_err-require_token-clause-told : goal.returns-in_err-require_token-clause-told

@@ -8,7 +8,7 @@ use Rattle.mod_unix.specs.declared.authenticate.Authenticated.{Authenticated}
 use Rattle.mod_unix.specs.declared.authenticate.Authenticated.TheVariants.{Kept}
 use Rattle.mod_unix.specs.Authenticate.{authenticates, judge_account}
 use Rattle.mod_unix.specs.Look.{looks}
-use Rattle.mod_unix.proofs.Passing.{delays_then, goes_on, opens}
+use Rattle.mod_unix.proofs.EarlierTokenFacts.{delays_then, goes_on, opens}
 use Rattle.mod_unix.proofs.authenticate.authenticate.Goals as goal
 
 pub returns-in_err-require_user-clause-told : goal.returns-in_err-require_user-clause-told

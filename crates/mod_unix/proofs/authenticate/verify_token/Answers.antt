@@ -1,5 +1,5 @@
 use Rattle.std.proofs.Common.{refl}
-use Rattle.mod_unix.proofs.Passing.{asks, lacks_token, tries, tries_nothing, tries_well, uses_token}
+use Rattle.mod_unix.proofs.EarlierTokenFacts.{asks, lacks_token, tries, tries_nothing, tries_well, uses_token}
 use Rattle.mod_unix.proofs.authenticate.verify_token.Goals as goal
 
 pub returns-in-Some-clause-told : goal.returns-in-Some-clause-told

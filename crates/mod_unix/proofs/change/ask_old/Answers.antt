@@ -5,7 +5,7 @@ use Rattle.module_acts.specs.Steps.{asks_token}
 use Rattle.module_acts.specs.Act.{Act}
 use Rattle.mod_unix.specs.Change.{asks_old}
 use Rattle.mod_unix.specs.Verify.{hash_verified}
-use Rattle.mod_unix.proofs.Changing.{verified_so}
+use Rattle.mod_unix.proofs.FirstPassFacts.{verified_so}
 use Rattle.mod_unix.proofs.change.ask_old.Goals as goal
 
 pub returns-in_err-require_token-clause-told : goal.returns-in_err-require_token-clause-told

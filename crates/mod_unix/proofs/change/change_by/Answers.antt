@@ -1,5 +1,5 @@
 use Rattle.pam_room.specs.Plain.{plain_call}
-use Rattle.mod_unix.proofs.Storing.{by_plain, by_shadow, by_unavailable, by_unknown}
+use Rattle.mod_unix.proofs.StoredTokenFacts.{by_plain, by_shadow, by_unavailable, by_unknown}
 use Rattle.mod_unix.proofs.change.change_by.Goals as goal
 
 pub returns-in-Unknown-clause-told : goal.returns-in-Unknown-clause-told

@@ -1,6 +1,6 @@
 use Rattle.std.proofs.Common.{◌≡◌, Err, refl, rules}
 use Rattle.pam_room.specs.Plain.{plain_call, plain_process}
-use Rattle.mod_unix.proofs.Storing.{first_pass, kept, not_taken, stored}
+use Rattle.mod_unix.proofs.StoredTokenFacts.{first_pass, kept, not_taken, stored}
 use Rattle.mod_unix.proofs.change.change_entry.Goals as goal
 
 pub returns-then-is_kept-clause-told : goal.returns-then-is_kept-clause-told

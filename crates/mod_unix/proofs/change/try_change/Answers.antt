@@ -1,6 +1,6 @@
 use Rattle.std.proofs.Common.{◌≡◌, ◌==◌, true, false, refl, arith}
 use Rattle.std.proofs.lemmas.Bool.Decides.{nat_tests}
-use Rattle.mod_unix.proofs.Changing.{asks, empty_is, is_early, is_open, is_root}
+use Rattle.mod_unix.proofs.FirstPassFacts.{asks, empty_is, is_early, is_open, is_root}
 use Rattle.mod_unix.proofs.change.try_change.Goals as goal
 
 pub returns-then-process-eq0-clause-told : goal.returns-then-process-eq0-clause-told

@@ -1,4 +1,4 @@
-use Rattle.mod_unix.proofs.Standing.{taken}
+use Rattle.mod_unix.proofs.NewTokenFacts.{taken}
 use Rattle.mod_unix.proofs.laws.changed_token_is_taken.Goals as goal
 
 pub returns : goal.returns

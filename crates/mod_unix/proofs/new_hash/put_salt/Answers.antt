@@ -1,6 +1,6 @@
 use Rattle.std.proofs.Common.{◌++◌, ◌-◌, ◌+◌, ◌/◌, ap, ◌∙◌, List, ℕ}
 use Rattle.sha_crypt.specs.Characters.{characters}
-use Rattle.mod_unix.proofs.Salting.{character_more}
+use Rattle.mod_unix.proofs.NumberCharacterFacts.{character_more}
 use Rattle.mod_unix.proofs.new_hash.put_salt.Goals as goal
 
 pub loop-i-preserved : goal.loop-i-preserved

@@ -1,6 +1,6 @@
 use Rattle.std.proofs.Common.{◌≡◌, ◌∙◌, Err, refl, rules, sym}
 use Rattle.conv_port.specs.Conv.{ConvState}
-use Rattle.mod_unix.proofs.Storing.{not_replied, not_same, same, there}
+use Rattle.mod_unix.proofs.StoredTokenFacts.{not_replied, not_same, same, there}
 use Rattle.mod_unix.proofs.new_token.take_token.Goals as goal
 
 pub returns-then-has_argument-clause-told : goal.returns-then-has_argument-clause-told

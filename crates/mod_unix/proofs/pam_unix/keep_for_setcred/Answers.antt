@@ -1,5 +1,5 @@
 use Rattle.mod_unix.specs.Authenticate.{keeps_for_setcred}
-use Rattle.mod_unix.proofs.Settling.{refused, settled, unkept}
+use Rattle.mod_unix.proofs.FunctionResultFacts.{refused, settled, unkept}
 use Rattle.mod_unix.proofs.pam_unix.keep_for_setcred.Goals as goal
 
 pub returns-in-Kept-clause-told : goal.returns-in-Kept-clause-told

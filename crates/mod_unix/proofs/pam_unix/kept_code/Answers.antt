@@ -1,7 +1,7 @@
 use Rattle.std.proofs.Common.{ap, sym, ◌∙◌, List, ℕ, Option}
 use Rattle.mod_unix.specs.Authenticate.{setcred_return}
 use Rattle.mod_unix.specs.Unix.{code_in}
-use Rattle.mod_unix.proofs.Keeping.{missing, there}
+use Rattle.mod_unix.proofs.SetcredDataFacts.{missing, there}
 use Rattle.mod_unix.proofs.pam_unix.kept_code.Goals as goal
 
 pub returns-in-Ok : goal.returns-in-Ok

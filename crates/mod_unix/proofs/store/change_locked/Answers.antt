@@ -1,5 +1,5 @@
 use Rattle.std.proofs.Common.{◌∙◌, sym}
-use Rattle.mod_unix.proofs.Storing.{changed, not_changed}
+use Rattle.mod_unix.proofs.StoredTokenFacts.{changed, not_changed}
 use Rattle.mod_unix.proofs.store.change_locked.Goals as goal
 
 pub returns-in-None-clause-told : goal.returns-in-None-clause-told

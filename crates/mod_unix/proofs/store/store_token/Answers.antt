@@ -2,7 +2,7 @@ use Rattle.std.proofs.Common.{refl}
 use Rattle.pam_room.specs.Plain.{plain_call}
 use Rattle.pam_outside.specs.Time.{ClockState, random_taken}
 use Rattle.pam_room.specs.State.{PlainRoom}
-use Rattle.mod_unix.proofs.Storing.{made, no_token, with_token}
+use Rattle.mod_unix.proofs.StoredTokenFacts.{made, no_token, with_token}
 use Rattle.mod_unix.proofs.store.store_token.Goals as goal
 
 pub returns-in-None-clause-told : goal.returns-in-None-clause-told

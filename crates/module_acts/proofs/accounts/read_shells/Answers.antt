@@ -1,4 +1,4 @@
-use Rattle.module_acts.proofs.Acting.{reading_shells}
+use Rattle.module_acts.proofs.FileStepFacts.{reading_shells}
 use Rattle.module_acts.proofs.accounts.read_shells.Goals as goal
 
 pub returns-clause-told : goal.returns-clause-told

@@ -1,4 +1,4 @@
-use Rattle.module_acts.proofs.Carrying.{exchanging, with_items}
+use Rattle.module_acts.proofs.TransactionStepFacts.{exchanging, with_items}
 use Rattle.module_acts.proofs.asking.exchange.Goals as goal
 
 pub returns-clause-told : goal.returns-clause-told

@@ -1,4 +1,4 @@
-use Rattle.module_acts.proofs.Carrying.{asking_token}
+use Rattle.module_acts.proofs.TransactionStepFacts.{asking_token}
 use Rattle.module_acts.proofs.asking.require_token.Goals as goal
 
 pub returns-clause-told : goal.returns-clause-told

@@ -1,4 +1,4 @@
-use Rattle.module_acts.proofs.Carrying.{asking_user}
+use Rattle.module_acts.proofs.TransactionStepFacts.{asking_user}
 use Rattle.module_acts.proofs.asking.require_user.Goals as goal
 
 pub returns-clause-told : goal.returns-clause-told

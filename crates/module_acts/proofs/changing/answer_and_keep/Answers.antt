@@ -1,5 +1,5 @@
 use Rattle.std.proofs.Common.{refl}
-use Rattle.module_acts.proofs.Carrying.{keeping}
+use Rattle.module_acts.proofs.TransactionStepFacts.{keeping}
 use Rattle.module_acts.proofs.changing.answer_and_keep.Goals as goal
 
 pub returns-clause-told : goal.returns-clause-told

@@ -1,5 +1,5 @@
 use Rattle.std.proofs.Common.{refl}
-use Rattle.module_acts.proofs.Carrying.{delaying}
+use Rattle.module_acts.proofs.TransactionStepFacts.{delaying}
 use Rattle.module_acts.proofs.changing.request_delay.Goals as goal
 
 pub returns-clause-told : goal.returns-clause-told

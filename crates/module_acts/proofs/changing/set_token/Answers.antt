@@ -1,7 +1,7 @@
 use Rattle.std.proofs.Common.{ap}
 use Rattle.pam_room.specs.item_store.specs.Items.{ItemTexts}
 use Rattle.pam_base.specs.declared.item.ItemName.TheVariants.{AuthTok}
-use Rattle.module_acts.proofs.Carrying.{setting}
+use Rattle.module_acts.proofs.TransactionStepFacts.{setting}
 use Rattle.module_acts.proofs.changing.set_token.Goals as goal
 
 pub returns-clause-told : goal.returns-clause-told

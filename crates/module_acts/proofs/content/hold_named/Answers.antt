@@ -1,4 +1,4 @@
-use Rattle.module_acts.proofs.Acting.{holding, not_holding, refusing}
+use Rattle.module_acts.proofs.FileStepFacts.{holding, not_holding, refusing}
 use Rattle.module_acts.proofs.content.hold_named.Goals as goal
 
 pub returns-then-not-is_rooted-clause-told : goal.returns-then-not-is_rooted-clause-told

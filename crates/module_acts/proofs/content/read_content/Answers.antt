@@ -1,5 +1,5 @@
 use Rattle.module_acts.specs.Content.{content_at}
-use Rattle.module_acts.proofs.Looking.{absent, failed, holds, too_long}
+use Rattle.module_acts.proofs.ReadResultFacts.{absent, failed, holds, too_long}
 use Rattle.module_acts.proofs.content.read_content.Goals as goal
 
 pub returns-in-Ok-clause-told : goal.returns-in-Ok-clause-told

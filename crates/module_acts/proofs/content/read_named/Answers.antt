@@ -1,4 +1,4 @@
-use Rattle.module_acts.proofs.Acting.{not_reading, reading}
+use Rattle.module_acts.proofs.FileStepFacts.{not_reading, reading}
 use Rattle.module_acts.proofs.content.read_named.Goals as goal
 
 pub returns-then-not-is_rooted-clause-told : goal.returns-then-not-is_rooted-clause-told

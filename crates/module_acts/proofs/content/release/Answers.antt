@@ -1,4 +1,4 @@
-use Rattle.module_acts.proofs.Acting.{freeing}
+use Rattle.module_acts.proofs.FileStepFacts.{freeing}
 use Rattle.module_acts.proofs.content.release.Goals as goal
 
 pub returns-clause-told : goal.returns-clause-told

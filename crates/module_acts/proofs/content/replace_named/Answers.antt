@@ -1,4 +1,4 @@
-use Rattle.module_acts.proofs.Acting.{not_replacing, replacing}
+use Rattle.module_acts.proofs.FileStepFacts.{not_replacing, replacing}
 use Rattle.module_acts.proofs.content.replace_named.Goals as goal
 
 pub returns-in-Ok-clause-told : goal.returns-in-Ok-clause-told

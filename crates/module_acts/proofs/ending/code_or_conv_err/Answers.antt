@@ -1,6 +1,6 @@
 use Rattle.module_acts.specs.Accounts.{nothing_known}
 use Rattle.module_acts.specs.Act.{answers}
-use Rattle.module_acts.proofs.Refusing.{refused, unanswered}
+use Rattle.module_acts.proofs.ReturnedResultFacts.{refused, unanswered}
 use Rattle.module_acts.proofs.ending.code_or_conv_err.Goals as goal
 
 pub returns-in-Ok-clause-told : goal.returns-in-Ok-clause-told

@@ -1,4 +1,4 @@
-use Rattle.module_acts.proofs.Acting.{answering, drawing, playing, seeing, timing}
+use Rattle.module_acts.proofs.FileStepFacts.{answering, drawing, playing, seeing, timing}
 use Rattle.module_acts.proofs.laws.act_steps.Goals as goal
 
 pub returns-clause-answers : goal.returns-clause-answers

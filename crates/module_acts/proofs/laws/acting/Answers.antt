@@ -1,4 +1,4 @@
-use Rattle.module_acts.proofs.Carrying.{seeing_caller, seeing_clock, seeing_data}
+use Rattle.module_acts.proofs.TransactionStepFacts.{seeing_caller, seeing_clock, seeing_data}
 use Rattle.module_acts.proofs.laws.acting.Goals as goal
 
 pub returns-clause-data : goal.returns-clause-data

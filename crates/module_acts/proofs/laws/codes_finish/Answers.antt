@@ -1,4 +1,4 @@
-use Rattle.module_acts.proofs.Refusing.{code_finishes}
+use Rattle.module_acts.proofs.ReturnedResultFacts.{code_finishes}
 use Rattle.module_acts.proofs.laws.codes_finish.Goals as goal
 
 pub returns : goal.returns

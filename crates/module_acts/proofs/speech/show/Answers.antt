@@ -1,5 +1,5 @@
 use Rattle.std.proofs.Common.{refl, Ok, ◌∙◌}
-use Rattle.module_acts.proofs.Carrying.{showing, shown_cut, shown_empty, with_items}
+use Rattle.module_acts.proofs.TransactionStepFacts.{showing, shown_cut, shown_empty, with_items}
 use Rattle.module_acts.proofs.Talks_on.{said_some, spoken}
 use Rattle.module_acts.proofs.speech.show.Goals as goal
 use Rattle.module_acts.proofs.speech.show.Goals.{in-Ok, in-Err-NoMemory, in-Err-Named}

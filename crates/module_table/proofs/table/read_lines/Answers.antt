@@ -1,7 +1,7 @@
 use Rattle.std.proofs.Common.{rules, ◌≡◌, ◌++◌, ◌∷◌, [], false, None, Some, Option}
 use Rattle.module_table.specs.declared.entry.Entry.{Entry}
 use Rattle.module_table.specs.Entries.{entries_in, entry_in, is_note}
-use Rattle.module_table.proofs.Reading.{at_bad, ended, gone_on}
+use Rattle.module_table.proofs.TableLineFacts.{at_bad, ended, gone_on}
 use Rattle.module_table.proofs.table.read_lines.Goals as goal
 
 pub loop-line-preserved-in-Continue-branch-3 : goal.loop-line-preserved-in-Continue-branch-3

@@ -1,4 +1,4 @@
-use Rattle.pam_base.proofs.Finding.{is_first_place}
+use Rattle.pam_base.proofs.BytePositionFacts.{is_first_place}
 use Rattle.pam_base.proofs.bytes.first_place.Goals as goal
 
 pub returns : goal.returns

@@ -1,4 +1,4 @@
-use Rattle.pam_base.proofs.Numbering.{number_of_code}
+use Rattle.pam_base.proofs.CodeNumberFacts.{number_of_code}
 use Rattle.pam_base.proofs.code.code_at.Goals as goal
 
 pub returns : goal.returns

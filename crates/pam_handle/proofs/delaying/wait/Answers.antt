@@ -1,7 +1,7 @@
 use Rattle.std.proofs.Common.{Some, None, refl, sym, ◌∙◌, ap}
 use Rattle.dispatch_core.specs.pam_room.specs.State.{PlainWorld}
 use Rattle.pam_handle.specs.Call.{rested_by}
-use Rattle.pam_handle.proofs.Resting.{waited_some}
+use Rattle.pam_handle.proofs.WaitRecordFacts.{waited_some}
 use Rattle.pam_handle.proofs.delaying.wait.Goals as goal
 
 pub returns-in-Some-clause-told : goal.returns-in-Some-clause-told

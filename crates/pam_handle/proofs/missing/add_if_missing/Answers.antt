@@ -1,7 +1,7 @@
 use Rattle.std.proofs.Common.{List, ℕ, ◌++◌, not, ◌∙◌, ap}
 use Rattle.dispatch_core.specs.control_words.specs.Module.{name_of_module}
 use Rattle.dispatch_core.specs.handler_chain.specs.FlatLines.{rule_at}
-use Rattle.pam_handle.proofs.Lacking.{adds_name, module_is}
+use Rattle.pam_handle.proofs.MissingModuleFacts.{adds_name, module_is}
 use Rattle.pam_handle.proofs.missing.add_if_missing.Goals as goal
 
 pub returns-in_ok-push : goal.returns-in_ok-push

@@ -1,5 +1,5 @@
 use Rattle.std.proofs.Common.{◌++◌, ap, arith}
-use Rattle.pam_handle.proofs.Lacking.{all_lines, missing_flat, one_line}
+use Rattle.pam_handle.proofs.MissingModuleFacts.{all_lines, missing_flat, one_line}
 use Rattle.pam_handle.proofs.missing.add_missing.Goals as goal
 
 pub loop-i-init : goal.loop-i-init

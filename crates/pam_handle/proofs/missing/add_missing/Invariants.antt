@@ -1,7 +1,7 @@
 use Rattle.std.proofs.Common.{◌≡◌, ◌++◌, drop}
 use Rattle.dispatch_core.specs.handler_chain.specs.FlatLines.{flat_lines}
 use Rattle.pam_handle.specs.Items.{missing_in}
-use Rattle.pam_handle.proofs.Lacking.{missing_lines}
+use Rattle.pam_handle.proofs.MissingModuleFacts.{missing_lines}
 use Rattle.pam_handle.proofs.missing.add_missing.Given as goal
 
 abbrev pub invariant-loop-i : goal.invariant-loop-i

@@ -3,7 +3,7 @@ use Rattle.dispatch_core.specs.control_words.specs.declared.nodes.Nodes.{Nodes}
 use Rattle.dispatch_core.specs.control_words.specs.Stack.{stack_of}
 use Rattle.dispatch_core.specs.handler_chain.specs.Chain.{ChainView}
 use Rattle.dispatch_core.specs.service_load.specs.declared.rule_type.RuleType.TheVariants.{Auth}
-use Rattle.pam_handle.proofs.Laying.{laid_next}
+use Rattle.pam_handle.proofs.FlatStackFacts.{laid_next}
 use Rattle.pam_handle.proofs.prepare.lay_flat.Goals as goal
 
 pub loop-rule_type-preserved : goal.loop-rule_type-preserved

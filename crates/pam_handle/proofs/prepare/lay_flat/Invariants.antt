@@ -1,8 +1,8 @@
 use Rattle.std.proofs.Common.{◌≡◌, drop}
 use Rattle.dispatch_core.specs.service_load.specs.Trees.{stacks_of_trees}
-use Rattle.dispatch_core.specs.service_load.proofs.Filling.{filled}
+use Rattle.dispatch_core.specs.service_load.proofs.FourStackFacts.{filled}
 use Rattle.pam_handle.specs.Plain.{stacks_in}
-use Rattle.pam_handle.proofs.Laying.{stack_in}
+use Rattle.pam_handle.proofs.FlatStackFacts.{stack_in}
 use Rattle.pam_handle.proofs.prepare.lay_flat.Given as goal
 
 abbrev pub invariant-loop-rule_type : goal.invariant-loop-rule_type

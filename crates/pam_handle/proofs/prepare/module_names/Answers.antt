@@ -1,4 +1,4 @@
-use Rattle.pam_handle.proofs.Passing.{names_given}
+use Rattle.pam_handle.proofs.CachedPassFacts.{names_given}
 use Rattle.pam_handle.proofs.prepare.module_names.Goals as goal
 
 pub returns : goal.returns

@@ -1,5 +1,5 @@
 use Rattle.std.proofs.Common.{◌∙◌, Ok, sym}
-use Rattle.pam_handle.proofs.Passing.{names_given}
+use Rattle.pam_handle.proofs.CachedPassFacts.{names_given}
 use Rattle.pam_handle.proofs.prepare.name_modules.Goals as goal
 
 pub returns-then-are_named : goal.returns-then-are_named

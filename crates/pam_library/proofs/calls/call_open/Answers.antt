@@ -1,12 +1,12 @@
 use Rattle.std.proofs.Common.{◌≡◌, Err, refl, sym, ap, ◌∙◌, rules}
 use Rattle.pam_handle.specs.pam_room.specs.Plain.{plain_room, plain_world}
 use Rattle.pam_handle.specs.Plain.{plain_handle}
-use Rattle.pam_library.proofs.Stacking.{delay_gives, only_of, stack_failed, stack_ran, stack_refused, told_of, world_not}
-use Rattle.pam_library.proofs.Stopping.{stops_plain}
+use Rattle.pam_library.proofs.StackCallFacts.{delay_gives, only_of, stack_failed, stack_ran, stack_refused, told_of, world_not}
+use Rattle.pam_library.proofs.OutOfMemoryFacts.{stops_plain}
 use Rattle.pam_library.proofs.Within.{inside_goes}
-use Rattle.pam_library.proofs.Tracing.{ran_traced}
+use Rattle.pam_library.proofs.CallTraceFacts.{ran_traced}
 use Rattle.pam_library.specs.Outcome.{PlainOutcome, plain_outcome}
-use Rattle.pam_library.proofs.Coding.{requests_delay, switches_delay}
+use Rattle.pam_library.proofs.SettingCallFacts.{requests_delay, switches_delay}
 use Rattle.pam_library.proofs.Quietly.{anyway}
 use Rattle.pam_library.proofs.calls.call_open.Goals as goal
 

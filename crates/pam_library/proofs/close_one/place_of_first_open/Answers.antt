@@ -1,5 +1,5 @@
 use Rattle.std.proofs.Common.{◌∙◌, sym, arith}
-use Rattle.pam_library.proofs.Ending.{finds, finds_none, looks_first, looks_on}
+use Rattle.pam_library.proofs.OpenSlotFacts.{finds, finds_none, looks_first, looks_on}
 use Rattle.pam_library.proofs.close_one.place_of_first_open.Goals as goal
 
 pub loop-i-init : goal.loop-i-init

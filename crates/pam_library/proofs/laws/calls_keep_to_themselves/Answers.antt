@@ -1,4 +1,4 @@
-use Rattle.pam_library.proofs.Isolating.{own_call, other_call}
+use Rattle.pam_library.proofs.IsolatedCallFacts.{own_call, other_call}
 use Rattle.pam_library.proofs.laws.calls_keep_to_themselves.Goals as goal
 
 pub returns-clause-own : goal.returns-clause-own

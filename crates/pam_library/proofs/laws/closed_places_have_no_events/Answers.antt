@@ -1,4 +1,4 @@
-use Rattle.pam_library.proofs.Spending.{closed_are_sound, closed_have_no_events}
+use Rattle.pam_library.proofs.SlotChangeFacts.{closed_are_sound, closed_have_no_events}
 use Rattle.pam_library.proofs.laws.closed_places_have_no_events.Goals as goal
 
 pub returns-clause-sound : goal.returns-clause-sound

@@ -1,4 +1,4 @@
-use Rattle.pam_library.proofs.Spending.{sound_of, moves_of}
+use Rattle.pam_library.proofs.SlotChangeFacts.{sound_of, moves_of}
 use Rattle.pam_library.proofs.laws.one_place_moves.Goals as goal
 
 pub returns-clause-sound : goal.returns-clause-sound

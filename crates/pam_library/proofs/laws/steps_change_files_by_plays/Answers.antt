@@ -1,5 +1,5 @@
-use Rattle.pam_library.proofs.Filing.{step_asks, step_leads, step_visits, together}
-use Rattle.pam_library.proofs.Timing.{step_at}
+use Rattle.pam_library.proofs.FileChangeFacts.{step_asks, step_leads, step_visits, together}
+use Rattle.pam_library.proofs.ModuleTimeFacts.{step_at}
 use Rattle.pam_library.proofs.laws.steps_change_files_by_plays.Goals as goal
 
 pub returns-clause-asks : goal.returns-clause-asks

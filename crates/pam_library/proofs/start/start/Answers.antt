@@ -1,6 +1,6 @@
 use Rattle.std.proofs.Common.{refl, rules}
 use Rattle.pam_library.proofs.Within.{first_of, second_of}
-use Rattle.pam_library.proofs.Starting.{start_of, start_opens, start_refuses}
+use Rattle.pam_library.proofs.StartCallFacts.{start_of, start_opens, start_refuses}
 use Rattle.pam_library.proofs.Quietly.{refused_quietly}
 use Rattle.pam_library.proofs.start.start.Goals as goal
 

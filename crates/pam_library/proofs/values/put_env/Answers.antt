@@ -1,7 +1,7 @@
 use Rattle.std.proofs.Common.{ap}
 use Rattle.pam_handle.specs.pam_room.specs.Plain.{plain_room}
 use Rattle.pam_handle.specs.Plain.{plain_handle}
-use Rattle.pam_library.proofs.Coding.{puts_variable}
+use Rattle.pam_library.proofs.SettingCallFacts.{puts_variable}
 use Rattle.pam_library.proofs.Within.{failed_by}
 use Rattle.pam_library.proofs.values.put_env.Goals as goal
 

@@ -1,4 +1,4 @@
-use Rattle.pam_room.proofs.Staying.{files_same}
+use Rattle.pam_room.proofs.SameFilesFacts.{files_same}
 use Rattle.pam_room.proofs.laws.files_stay.Goals as goal
 
 pub returns : goal.returns

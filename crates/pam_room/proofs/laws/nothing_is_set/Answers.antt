@@ -1,4 +1,4 @@
-use Rattle.pam_room.proofs.Setting.{set_none}
+use Rattle.pam_room.proofs.SetDataFacts.{set_none}
 use Rattle.pam_room.proofs.laws.nothing_is_set.Goals as goal
 
 pub returns : goal.returns

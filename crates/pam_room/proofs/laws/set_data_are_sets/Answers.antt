@@ -1,4 +1,4 @@
-use Rattle.pam_room.proofs.Setting.{set_sets, set_handle}
+use Rattle.pam_room.proofs.SetDataFacts.{set_sets, set_handle}
 use Rattle.pam_room.proofs.laws.set_data_are_sets.Goals as goal
 
 pub returns-clause-sets : goal.returns-clause-sets

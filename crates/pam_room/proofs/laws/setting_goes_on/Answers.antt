@@ -1,4 +1,4 @@
-use Rattle.pam_room.proofs.Setting.{set_more}
+use Rattle.pam_room.proofs.SetDataFacts.{set_more}
 use Rattle.pam_room.proofs.laws.setting_goes_on.Goals as goal
 
 pub returns : goal.returns

@@ -1,6 +1,6 @@
 use Rattle.std.proofs.Common.{◌≡◌, ◌&&◌, Err, rules, ap}
-use Rattle.pam_room.proofs.Serving.{all_await, broken_so, served_so}
-use Rattle.pam_room.proofs.Telling.{all_but_last}
+use Rattle.pam_room.proofs.ModuleRunFacts.{all_await, broken_so, served_so}
+use Rattle.pam_room.proofs.ModelledObjectFacts.{all_but_last}
 use Rattle.pam_room.proofs.serve.serve_by.Goals as goal
 
 pub sweep-requires : goal.sweep-requires

@@ -1,4 +1,4 @@
-use Rattle.pam_wire.proofs.Settling.{first_frame_settles}
+use Rattle.pam_wire.proofs.BytePrefixFacts.{first_frame_settles}
 use Rattle.pam_wire.proofs.laws.first_frame_settles.Goals as goal
 
 pub returns : goal.returns

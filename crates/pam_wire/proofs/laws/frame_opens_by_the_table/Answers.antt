@@ -1,4 +1,4 @@
-use Rattle.pam_wire.proofs.Opening.{front-open, open-front}
+use Rattle.pam_wire.proofs.IncompleteFrameFacts.{front-open, open-front}
 use Rattle.pam_wire.proofs.laws.frame_opens_by_the_table.Goals as goal
 
 pub returns : goal.returns

@@ -1,7 +1,7 @@
 use Rattle.std.proofs.Common.{◌≡◌, Some, slice_index_or, sym, ◌∙◌, rules}
 use Rattle.pam_wire.specs.Kind.{call_of_number}
-use Rattle.pam_wire.proofs.Fitting.{call_fits}
-use Rattle.pam_wire.proofs.Wanting.{has_step, whichever}
+use Rattle.pam_wire.proofs.ValidStepFacts.{call_fits}
+use Rattle.pam_wire.proofs.StepAllocationFacts.{has_step, whichever}
 use Rattle.pam_wire.proofs.step.step_in.Goals as goal
 
 pub returns-in-Some-2-clause-fit : goal.returns-in-Some-2-clause-fit

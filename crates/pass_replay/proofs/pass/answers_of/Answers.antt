@@ -1,5 +1,5 @@
 use Rattle.std.proofs.Common.{◌∙◌}
-use Rattle.pass_replay.proofs.Keeping.{answers_more}
+use Rattle.pass_replay.proofs.CodeCellFacts.{answers_more}
 use Rattle.pass_replay.proofs.pass.answers_of.Goals as goal
 
 pub loop-visit-preserved : goal.loop-visit-preserved

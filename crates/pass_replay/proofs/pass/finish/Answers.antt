@@ -4,7 +4,7 @@ use Rattle.pass_replay.specs.declared.visited.Visited.{Visited}
 use Rattle.pass_replay.specs.Kept.{kept_answers, visits_of}
 use Rattle.pass_replay.specs.Passed.{ended_paused}
 use Rattle.pass_replay.specs.Walk.{state_in}
-use Rattle.pass_replay.proofs.Finishing.{finished}
+use Rattle.pass_replay.proofs.PassResultFacts.{finished}
 use Rattle.pass_replay.proofs.pass.finish.Goals as goal
 
 pub returns : goal.returns

@@ -1,6 +1,6 @@
 use Rattle.std.proofs.Common.{◌≤◌, length, refl, rules}
 use Rattle.std.proofs.lemmas.Option.{slice_get_past, slice_get_read}
-use Rattle.pass_replay.proofs.Serving.{asked, given}
+use Rattle.pass_replay.proofs.ReplayedLineFacts.{asked, given}
 use Rattle.pass_replay.proofs.replay.next_answer.Goals as goal
 
 pub returns-in-Some-clause-served : goal.returns-in-Some-clause-served

@@ -2,7 +2,7 @@ use Rattle.pass_replay.specs.Held.{held_of}
 use Rattle.pass_replay.specs.Passed.{passed_of}
 use Rattle.pass_replay.specs.Replay.{as_told}
 use Rattle.pass_replay.specs.Retold.{stacks_in}
-use Rattle.pass_replay.proofs.Calling.{called}
+use Rattle.pass_replay.proofs.OnePassFacts.{called}
 use Rattle.pass_replay.proofs.retelling.one_pass.Goals as goal
 
 pub returns : goal.returns

@@ -1,6 +1,6 @@
 use Rattle.std.proofs.Common.{◌<◌, length, sym, ◌∙◌, arith}
 use Rattle.std.proofs.lemmas.Option.{slice_get_within}
-use Rattle.pass_replay.proofs.Telling.{left_visit, left_end, visit_here, no_visit_after}
+use Rattle.pass_replay.proofs.RecordedLineFacts.{left_visit, left_end, visit_here, no_visit_after}
 use Rattle.pass_replay.proofs.told.first_left.Goals as goal
 
 pub returns-in-Some-clause-same : goal.returns-in-Some-clause-same

@@ -1,6 +1,6 @@
 use Rattle.std.proofs.Common.{◌<◌, ◌≤◌, arith, ap}
 use Rattle.control_words.specs.Stack.{depth, lines_in, stack_of}
-use Rattle.pass_replay.proofs.Peeling.{peeled_line, peeled_sub}
+use Rattle.pass_replay.proofs.RestOfStackFacts.{peeled_line, peeled_sub}
 use Rattle.pass_replay.proofs.walk.+line_count.Goals as goal
 use Rattle.pass_replay.proofs.walk.+line_count.Goals.{in-Line, in-Sub}
 

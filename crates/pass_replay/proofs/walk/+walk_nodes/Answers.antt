@@ -8,8 +8,8 @@ use Rattle.handler_chain.specs.Walk.{Serving, walk}
 use Rattle.pass_replay.specs.Kept.{kept_answers}
 use Rattle.pass_replay.specs.declared.next_node.NextNode.{NextNode}
 use Rattle.pass_replay.specs.Walk.{WalkEnds, after_line, state_in}
-use Rattle.pass_replay.proofs.Peeling.{few_there, peeled, peeled_line, peeled_sub, some_left}
-use Rattle.pass_replay.proofs.Walking.{sub_put_off, walking_line, walking_skip, walking_sub}
+use Rattle.pass_replay.proofs.RestOfStackFacts.{few_there, peeled, peeled_line, peeled_sub, some_left}
+use Rattle.pass_replay.proofs.NodeWalkFacts.{sub_put_off, walking_line, walking_skip, walking_sub}
 use Rattle.pass_replay.proofs.walk.+walk_nodes.Goals as goal
 use Rattle.pass_replay.proofs.walk.+walk_nodes.Goals.{then-skip-gt0, else-skip-gt0+in-Line+in_ok-onward-in-Line+in-Some}
 use Rattle.pass_replay.proofs.walk.+walk_nodes.Goals.{else-skip-gt0+in-Sub+in_ok-inside-in-Sub+in-Some-2}

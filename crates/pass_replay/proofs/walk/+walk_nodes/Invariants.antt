@@ -5,7 +5,7 @@ use Rattle.handler_chain.specs.Pass.{serving}
 use Rattle.handler_chain.specs.Retell.{replaying}
 use Rattle.pass_replay.specs.Kept.{kept_answers}
 use Rattle.pass_replay.specs.Walk.{state_in}
-use Rattle.pass_replay.proofs.Walking.{IsWalking}
+use Rattle.pass_replay.proofs.NodeWalkFacts.{IsWalking}
 use Rattle.pass_replay.proofs.walk.+walk_nodes.Given as goal
 
 abbrev pub decreases-walk_nodes : goal.decreases-walk_nodes

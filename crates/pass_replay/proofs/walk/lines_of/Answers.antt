@@ -1,5 +1,5 @@
 use Rattle.std.proofs.Common.{sym, ◌∙◌, arith}
-use Rattle.pass_replay.proofs.Peeling.{lines_sub}
+use Rattle.pass_replay.proofs.RestOfStackFacts.{lines_sub}
 use Rattle.pass_replay.proofs.walk.lines_of.Goals as goal
 
 pub line_count-requires : goal.line_count-requires

@@ -10,7 +10,7 @@ use Rattle.handler_chain.specs.Route.{KeptAnswers}
 use Rattle.handler_chain.specs.Walk.{ServedAs, Serving}
 use Rattle.pass_replay.specs.Kept.{kept_answers}
 use Rattle.pass_replay.specs.Walk.{state_in}
-use Rattle.pass_replay.proofs.Walking.{line_goes}
+use Rattle.pass_replay.proofs.NodeWalkFacts.{line_goes}
 use Rattle.pass_replay.proofs.walk.walk_line.Goals as goal
 
 pub returns-clause-goes : goal.returns-clause-goes

@@ -1,5 +1,5 @@
 use Rattle.std.proofs.Common.{◌≡◌, ◌+◌, ◌-◌, arith}
-use Rattle.random_config.proofs.Drawing.{next_file}
+use Rattle.random_config.proofs.GenerationFacts.{next_file}
 use Rattle.random_config.proofs.files.random_files.Goals as goal
 
 pub loop-number-preserved : goal.loop-number-preserved

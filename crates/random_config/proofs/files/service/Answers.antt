@@ -1,5 +1,5 @@
 use Rattle.std.proofs.Common.{refl, ◌∙◌, arith}
-use Rattle.random_config.proofs.Drawing.{next_substack}
+use Rattle.random_config.proofs.GenerationFacts.{next_substack}
 use Rattle.random_config.proofs.files.service.Goals as goal
 
 pub loop-number-preserved : goal.loop-number-preserved

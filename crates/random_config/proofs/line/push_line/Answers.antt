@@ -1,4 +1,4 @@
-use Rattle.random_config.proofs.Drawing.{line_generated}
+use Rattle.random_config.proofs.GenerationFacts.{line_generated}
 use Rattle.random_config.proofs.line.push_line.Goals as goal
 
 pub returns : goal.returns

@@ -1,6 +1,6 @@
 use Rattle.std.proofs.Common.{◌+◌, ◌*◌, ap, refl, ◌∙◌, arith, append_assoc}
 use Rattle.random_config.specs.Generator.{state_after}
-use Rattle.random_config.proofs.Drawing.{lines_more}
+use Rattle.random_config.proofs.GenerationFacts.{lines_more}
 use Rattle.random_config.proofs.line.push_lines.Goals as goal
 
 pub loop-i-preserved : goal.loop-i-preserved

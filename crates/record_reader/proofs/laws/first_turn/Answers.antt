@@ -1,4 +1,4 @@
-use Rattle.record_reader.proofs.Going.{no_turn, no_memory}
+use Rattle.record_reader.proofs.TurnSequenceFacts.{no_turn, no_memory}
 use Rattle.record_reader.proofs.laws.first_turn.Goals as goal
 
 pub returns-clause-none_yet : goal.returns-clause-none_yet

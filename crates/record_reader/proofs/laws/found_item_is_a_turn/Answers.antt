@@ -1,4 +1,4 @@
-use Rattle.record_reader.proofs.Turning.{item_turn, rest_turn}
+use Rattle.record_reader.proofs.ItemTurnFacts.{item_turn, rest_turn}
 use Rattle.record_reader.proofs.laws.found_item_is_a_turn.Goals as goal
 
 pub returns-clause-item : goal.returns-clause-item

@@ -1,4 +1,4 @@
-use Rattle.record_reader.proofs.Serving.{silent, written, refused, unbegun, begun}
+use Rattle.record_reader.proofs.AppliedItemFacts.{silent, written, refused, unbegun, begun}
 use Rattle.record_reader.proofs.laws.item_is_served.Goals as goal
 
 pub returns-clause-silent : goal.returns-clause-silent

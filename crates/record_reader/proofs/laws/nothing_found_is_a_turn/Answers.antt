@@ -1,4 +1,4 @@
-use Rattle.record_reader.proofs.Turning.{fault_turn, end_turn}
+use Rattle.record_reader.proofs.ItemTurnFacts.{fault_turn, end_turn}
 use Rattle.record_reader.proofs.laws.nothing_found_is_a_turn.Goals as goal
 
 pub returns-clause-fault : goal.returns-clause-fault

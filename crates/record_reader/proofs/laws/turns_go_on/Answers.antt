@@ -1,4 +1,4 @@
-use Rattle.record_reader.proofs.Going.{turns_then}
+use Rattle.record_reader.proofs.TurnSequenceFacts.{turns_then}
 use Rattle.record_reader.proofs.laws.turns_go_on.Goals as goal
 
 pub returns : goal.returns

@@ -1,6 +1,6 @@
 use Rattle.std.proofs.Common.{◌≡◌, ◌≤◌, ◌<◌, length, Some, None, false, arith, rules}
 use Rattle.pam_base.specs.Bytes.{has_byte, IsFirstPlace}
-use Rattle.record_reader.proofs.Keeping.{line_front, wait_front, last_front}
+use Rattle.record_reader.proofs.CutLineFacts.{line_front, wait_front, last_front}
 use Rattle.record_reader.proofs.prefix.first_line.Goals as goal
 
 pub returns-in-Some : goal.returns-in-Some

@@ -1,4 +1,4 @@
-use Rattle.report_lines.proofs.Reading.{reads_lines}
+use Rattle.report_lines.proofs.LineFormFacts.{reads_lines}
 use Rattle.report_lines.proofs.laws.reads_lines.Goals as goal
 
 pub returns : goal.returns

@@ -1,6 +1,6 @@
 use Rattle.std.proofs.Common.{◌++◌, ◌∷◌, [], ◌∙◌, ap, List, ℕ}
 use Rattle.std.specs.Str.{bytes_eq}
-use Rattle.report_lines.proofs.Printing.{is_line_some, is_line_none}
+use Rattle.report_lines.proofs.NewlineFacts.{is_line_some, is_line_none}
 use Rattle.report_lines.proofs.printed.is_line.Goals as goal
 
 pub returns-in-Some : goal.returns-in-Some

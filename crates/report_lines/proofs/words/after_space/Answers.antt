@@ -1,5 +1,5 @@
 use Rattle.std.proofs.Common.{◌+◌, sym, ◌∙◌}
-use Rattle.report_lines.proofs.Cutting.{past_end-first, after_space-all, rest_is}
+use Rattle.report_lines.proofs.WordCutFacts.{past_end-first, after_space-all, rest_is}
 use Rattle.report_lines.proofs.words.after_space.Goals as goal
 
 pub returns-in-Some : goal.returns-in-Some

@@ -1,4 +1,4 @@
-use Rattle.report_lines.proofs.Cutting.{before_at, before_none}
+use Rattle.report_lines.proofs.WordCutFacts.{before_at, before_none}
 use Rattle.report_lines.proofs.words.before_last.Goals as goal
 
 pub returns-then-n-gt0 : goal.returns-then-n-gt0

@@ -1,5 +1,5 @@
 use Rattle.std.proofs.Common.{sym}
-use Rattle.report_lines.proofs.Cutting.{before-first, before_space-all}
+use Rattle.report_lines.proofs.WordCutFacts.{before-first, before_space-all}
 use Rattle.report_lines.proofs.words.before_space.Goals as goal
 
 pub returns-in-Some : goal.returns-in-Some

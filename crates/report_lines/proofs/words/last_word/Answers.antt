@@ -1,5 +1,5 @@
 use Rattle.std.proofs.Common.{◌∙◌}
-use Rattle.report_lines.proofs.Cutting.{rest_is, last_at}
+use Rattle.report_lines.proofs.WordCutFacts.{rest_is, last_at}
 use Rattle.report_lines.proofs.words.last_word.Goals as goal
 
 pub returns : goal.returns

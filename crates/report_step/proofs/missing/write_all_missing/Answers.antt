@@ -1,5 +1,5 @@
 use Rattle.report_lines.specs.Line.{missing_text}
-use Rattle.report_step.proofs.Lining.{line_joined}
+use Rattle.report_step.proofs.ReportLineFacts.{line_joined}
 use Rattle.report_step.proofs.missing.write_all_missing.Goals as goal
 
 pub loop-name-preserved : goal.loop-name-preserved

@@ -1,4 +1,4 @@
-use Rattle.script_lang.proofs.Numbering.{reads_numbers}
+use Rattle.script_lang.proofs.TransactionNumberFacts.{reads_numbers}
 use Rattle.script_lang.proofs.laws.numbers_are_short.Goals as goal
 
 pub returns : goal.returns

@@ -1,4 +1,4 @@
-use Rattle.script_lang.proofs.Reading.{written_is_read}
+use Rattle.script_lang.proofs.StepLineFacts.{written_is_read}
 use Rattle.script_lang.proofs.laws.written_is_read.Goals as goal
 
 pub returns : goal.returns

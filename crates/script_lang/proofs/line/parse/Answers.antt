@@ -1,4 +1,4 @@
-use Rattle.script_lang.proofs.Fitting.{read_fit}
+use Rattle.script_lang.proofs.ValidStepFacts.{read_fit}
 use Rattle.script_lang.proofs.line.parse.Goals as goal
 
 pub returns-clause-fit : goal.returns-clause-fit

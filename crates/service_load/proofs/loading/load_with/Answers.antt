@@ -1,5 +1,5 @@
 use Rattle.std.proofs.Common.{◌∙◌}
-use Rattle.service_load.proofs.Treeing.{loads_all}
+use Rattle.service_load.proofs.StackTreeFacts.{loads_all}
 use Rattle.service_load.proofs.loading.load_with.Goals as goal
 
 pub returns-in-Ok-clause-told : goal.returns-in-Ok-clause-told

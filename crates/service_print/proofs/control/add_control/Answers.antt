@@ -2,7 +2,7 @@ use Rattle.std.proofs.Common.{◌≡◌, Some, None, ap, sym, ◌∙◌, ◌++�
 use Rattle.std.specs.Prelude.{option_map}
 use Rattle.control_words.specs.Keyword.{keyword_word}
 use Rattle.service_print.specs.Controls.{control_text, keyword_of}
-use Rattle.service_print.proofs.Appending.{three}
+use Rattle.service_print.proofs.AppendedTextFacts.{three}
 use Rattle.service_print.proofs.control.add_control.Goals as goal
 
 pub returns-in_ok-extend_from_slice-in-Some : goal.returns-in_ok-extend_from_slice-in-Some

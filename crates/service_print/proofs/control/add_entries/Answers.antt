@@ -1,7 +1,7 @@
 use Rattle.std.proofs.Common.{◌≡◌, ◌++◌, ◌∷◌, [], List, ℕ, Bool, true, false, ap, sym, ◌∙◌, append-nil, append_assoc, drop_of_length-le, get_or}
 use Rattle.pam_base.specs.declared.code.Code.TheVariants.{Success}
 use Rattle.service_print.specs.Controls.{entry_text}
-use Rattle.service_print.proofs.Entering.{spaced_on, entering_some, entering_none, entering_end}
+use Rattle.service_print.proofs.ControlEntryFacts.{spaced_on, entering_some, entering_none, entering_end}
 use Rattle.service_print.proofs.control.add_entries.Goals as goal
 use Rattle.service_print.proofs.control.add_entries.Goals.{then-has_entry+in_ok-add_entry, then-not-is_first+in_ok-push, else-not-is_first, else-has_entry}
 

@@ -1,7 +1,7 @@
 use Rattle.std.proofs.Common.{◌≡◌, ◌++◌, drop}
 use Rattle.service_print.specs.Tokens.{spaced}
 use Rattle.service_print.specs.Controls.{entries_among}
-use Rattle.service_print.proofs.Entering.{spaced_on}
+use Rattle.service_print.proofs.ControlEntryFacts.{spaced_on}
 use Rattle.service_print.proofs.control.add_entries.Given as goal
 
 abbrev pub invariant-loop-code : goal.invariant-loop-code

@@ -1,5 +1,5 @@
 use Rattle.service_print.specs.Printed.{stacks_in}
-use Rattle.service_print.proofs.Calling.{load_gives, gives_load}
+use Rattle.service_print.proofs.LoadCallFacts.{load_gives, gives_load}
 use Rattle.service_print.proofs.Loadable.{loadable}
 use Rattle.service_print.proofs.Reloaded.{reload}
 use Rattle.service_print.proofs.laws.printed_is_loaded.Goals as goal

@@ -1,6 +1,6 @@
 use Rattle.std.proofs.Common.{ap, ◌∙◌, ◌++◌, List, ℕ}
 use Rattle.service_print.specs.Tokens.{token_text}
-use Rattle.service_print.proofs.Lining.{fields_begun}
+use Rattle.service_print.proofs.LineFieldFacts.{fields_begun}
 use Rattle.service_print.proofs.line.rule_line.Goals as goal
 
 pub loop-arg-init : goal.loop-arg-init

@@ -1,8 +1,8 @@
 use Rattle.std.proofs.Common.{rules, refl, ◌≡◌, ◌<◌, arith, ap, length, drop_of_length-le}
 use Rattle.control_words.specs.Stack.{stack_of, depth}
-use Rattle.service_print.proofs.Appending.{from_empty}
-use Rattle.service_print.proofs.Peeling.{peeled_line, peeled_sub}
-use Rattle.service_print.proofs.Adding.{adding_line, adding_sub, adding_end, put_files}
+use Rattle.service_print.proofs.AppendedTextFacts.{from_empty}
+use Rattle.service_print.proofs.RestOfStackFacts.{peeled_line, peeled_sub}
+use Rattle.service_print.proofs.PrintedNodeFacts.{adding_line, adding_sub, adding_end, put_files}
 use Rattle.service_print.proofs.substack.+add_nodes.Goals as goal
 use Rattle.service_print.proofs.substack.+add_nodes.Goals.{in-Line+in_ok-add_rule_line-in-Line, in-Sub+in_ok-add_substack_line-in-Sub+in_ok-push-in-Sub+in_ok-add_nodes-in-Sub+in_ok-name-in-Sub}
 

@@ -1,6 +1,6 @@
 use Rattle.std.proofs.Common.{drop}
 use Rattle.control_words.specs.Stack.{stack_of, depth}
-use Rattle.service_print.proofs.Adding.{IsAdding}
+use Rattle.service_print.proofs.PrintedNodeFacts.{IsAdding}
 use Rattle.service_print.proofs.substack.+add_nodes.Given as goal
 
 abbrev pub decreases-add_nodes : goal.decreases-add_nodes

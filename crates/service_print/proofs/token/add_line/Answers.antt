@@ -1,5 +1,5 @@
 use Rattle.service_print.specs.Tokens.{ended}
-use Rattle.service_print.proofs.Appending.{two}
+use Rattle.service_print.proofs.AppendedTextFacts.{two}
 use Rattle.service_print.proofs.token.add_line.Goals as goal
 
 pub returns : goal.returns

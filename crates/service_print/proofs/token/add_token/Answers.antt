@@ -1,6 +1,6 @@
 use Rattle.std.proofs.Common.{sym}
 use Rattle.service_print.specs.Tokens.{token_text}
-use Rattle.service_print.proofs.Appending.{three}
+use Rattle.service_print.proofs.AppendedTextFacts.{three}
 use Rattle.service_print.proofs.token.add_token.Goals as goal
 
 pub returns-in_ok-push-2 : goal.returns-in_ok-push-2

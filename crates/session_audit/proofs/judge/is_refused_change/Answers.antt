@@ -2,7 +2,7 @@ use Rattle.std.proofs.Common.{List, [], sym, ◌∙◌, ap}
 use Rattle.handler_chain.specs.Retell.{Seen}
 use Rattle.session_audit.specs.Checked.{told_in}
 use Rattle.session_audit.specs.Fits.{visits_told, is_refused_change}
-use Rattle.session_audit.proofs.Checking.{told_some, told_none, and_no, refused_by}
+use Rattle.session_audit.proofs.CheckedBlockFacts.{told_some, told_none, and_no, refused_by}
 use Rattle.session_audit.proofs.judge.is_refused_change.Goals as goal
 
 pub returns-then-first_visit-told : goal.returns-then-first_visit-told

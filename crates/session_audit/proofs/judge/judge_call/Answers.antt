@@ -7,8 +7,8 @@ use Rattle.handler_chain.specs.Retell.{Seen, telling}
 use Rattle.session_audit.specs.Checked.{told_in}
 use Rattle.session_audit.specs.Differs.{lines_before}
 use Rattle.session_audit.specs.Fits.{visits_told, is_refused_change, running, same_code}
-use Rattle.session_audit.proofs.Checking.{told_first, call_refused, call_aborted, call_goes, line_aborted, line_goes, visits_are, as_retold}
-use Rattle.session_audit.proofs.Checking.{retold_line, only_true, only_false}
+use Rattle.session_audit.proofs.CheckedBlockFacts.{told_first, call_refused, call_aborted, call_goes, line_aborted, line_goes, visits_are, as_retold}
+use Rattle.session_audit.proofs.CheckedBlockFacts.{retold_line, only_true, only_false}
 use Rattle.session_audit.proofs.judge.judge_call.Goals as goal
 
 pub returns-then-is_refused_change : goal.returns-then-is_refused_change

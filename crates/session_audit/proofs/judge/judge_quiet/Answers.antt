@@ -2,7 +2,7 @@ use Rattle.std.proofs.Common.{Some, None}
 use Rattle.report_lines.specs.Form.{result_of}
 use Rattle.session_audit.specs.Checked.{after_quiet, place_of, told_in}
 use Rattle.session_audit.specs.Fits.{visits_told}
-use Rattle.session_audit.proofs.Checking.{told_some, told_none, told_first, quiet_told, quiet_as}
+use Rattle.session_audit.proofs.CheckedBlockFacts.{told_some, told_none, told_first, quiet_told, quiet_as}
 use Rattle.session_audit.proofs.judge.judge_quiet.Goals as goal
 
 pub returns-then-first-told : goal.returns-then-first-told

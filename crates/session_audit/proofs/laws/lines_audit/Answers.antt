@@ -1,5 +1,5 @@
 use Rattle.report_lines.specs.Guess.{read_line}
-use Rattle.session_audit.proofs.Auditing.{readers_audit}
+use Rattle.session_audit.proofs.AuditReaderFacts.{readers_audit}
 use Rattle.session_audit.proofs.laws.lines_audit.Goals as goal
 
 pub returns : goal.returns

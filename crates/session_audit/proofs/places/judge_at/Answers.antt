@@ -3,7 +3,7 @@ use Rattle.std.specs.Prelude.{slice_get}
 use Rattle.report_lines.specs.Form.{result_of}
 use Rattle.pass_replay.specs.Retold.{stacks_in}
 use Rattle.session_audit.specs.Checked.{told_in}
-use Rattle.session_audit.proofs.Taking.{index_of, a_place, no_place, get_some, placed_line, placed_none, fits_at, nowhere_is}
+use Rattle.session_audit.proofs.FirstDifferenceFacts.{index_of, a_place, no_place, get_some, placed_line, placed_none, fits_at, nowhere_is}
 use Rattle.session_audit.proofs.places.judge_at.Goals as goal
 
 pub returns-then-not-has_place : goal.returns-then-not-has_place

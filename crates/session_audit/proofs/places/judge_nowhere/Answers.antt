@@ -2,7 +2,7 @@ use Rattle.std.proofs.Common.{true, false, sym, ◌∙◌}
 use Rattle.report_lines.specs.Form.{result_of}
 use Rattle.session_audit.specs.Checked.{told_in}
 use Rattle.session_audit.specs.Fits.{visits_told, is_bad_number}
-use Rattle.session_audit.proofs.Checking.{told_some, told_none, told_first, and_no, both_are}
+use Rattle.session_audit.proofs.CheckedBlockFacts.{told_some, told_none, told_first, and_no, both_are}
 use Rattle.session_audit.proofs.places.judge_nowhere.Goals as goal
 
 pub returns-then-first-told : goal.returns-then-first-told

@@ -4,8 +4,8 @@ use Rattle.report_lines.specs.Guess.{read_line}
 use Rattle.session_audit.specs.Checked.{line_of}
 use Rattle.session_audit.specs.Differs.{differs}
 use Rattle.session_audit.specs.Whole.{lines_read}
-use Rattle.session_audit.proofs.Baring.{differs-bare}
-use Rattle.session_audit.proofs.Cutting.{fits_names, named_fits}
+use Rattle.session_audit.proofs.FormatOnlyFacts.{differs-bare}
+use Rattle.session_audit.proofs.RestOfTextFacts.{fits_names, named_fits}
 use Rattle.session_audit.proofs.verdict.audit.Goals as goal
 
 pub returns-clause-line : goal.returns-clause-line

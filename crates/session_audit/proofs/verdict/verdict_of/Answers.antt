@@ -5,7 +5,7 @@ use Rattle.report_lines.specs.Guess.{read_line}
 use Rattle.report_lines.specs.Says.{bare}
 use Rattle.session_audit.specs.Checked.{IsAfter, bare_lines, differs_at}
 use Rattle.session_audit.specs.Fits.{is_none}
-use Rattle.session_audit.proofs.Cutting.{line_left, part_left, end_is, none_is}
+use Rattle.session_audit.proofs.RestOfTextFacts.{line_left, part_left, end_is, none_is}
 use Rattle.session_audit.proofs.verdict.verdict_of.Goals as goal
 
 pub returns-in-Some-named : goal.returns-in-Some-named

@@ -1,6 +1,6 @@
 use Rattle.std.proofs.Common.{◌≡◌, ◌<◌, ◌/◌, length, arith, ◌++◌, refl, ap, ◌∙◌, List, ℕ}
 use Rattle.std.specs.List.{repeat}
-use Rattle.sha_crypt.proofs.Repeating.{beginning_fits, cut_copies, one_more_fits, repeat_more}
+use Rattle.sha_crypt.proofs.RepeatedTextFacts.{beginning_fits, cut_copies, one_more_fits, repeat_more}
 use Rattle.sha_crypt.proofs.mixing.repeat_to.Goals as goal
 
 pub put-requires : goal.put-requires

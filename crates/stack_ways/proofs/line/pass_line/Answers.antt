@@ -1,6 +1,6 @@
 use Rattle.std.proofs.Common.{◌≡◌, arith}
 use Rattle.stack_ways.specs.LineCodes.{counts_in, possible_in}
-use Rattle.stack_ways.proofs.Stepping.{gained_line_skip, gained_line}
+use Rattle.stack_ways.proofs.GainedWayFacts.{gained_line_skip, gained_line}
 use Rattle.stack_ways.proofs.line.pass_line.Goals as goal
 
 pub returns-in_ok-skip_node : goal.returns-in_ok-skip_node

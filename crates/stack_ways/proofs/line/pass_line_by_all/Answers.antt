@@ -1,6 +1,6 @@
 use Rattle.stack_ways.specs.LineCodes.{counts_in, possible_in}
 use Rattle.stack_ways.specs.Steps.{LineStep}
-use Rattle.stack_ways.proofs.Gathering.{each_more, each_all}
+use Rattle.stack_ways.proofs.WayListFacts.{each_more, each_all}
 use Rattle.stack_ways.proofs.line.pass_line_by_all.Goals as goal
 
 pub loop-way-preserved : goal.loop-way-preserved

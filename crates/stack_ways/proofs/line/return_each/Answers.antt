@@ -1,7 +1,7 @@
 use Rattle.stack_ways.specs.LineCodes.{counts_in, possible_in}
 use Rattle.stack_ways.specs.Steps.{ByCode}
 use Rattle.pam_base.specs.declared.code.Code.TheVariants as codes
-use Rattle.stack_ways.proofs.Gathering.{each_more_at, each_all}
+use Rattle.stack_ways.proofs.WayListFacts.{each_more_at, each_all}
 use Rattle.stack_ways.proofs.line.return_each.Goals as goal
 
 pub loop-code-preserved : goal.loop-code-preserved

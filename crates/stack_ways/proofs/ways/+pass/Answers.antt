@@ -6,10 +6,10 @@ use Rattle.stack_ways.specs.declared.way.Way.{Way}
 use Rattle.stack_ways.specs.LineCodes.{counts_in, possible_in}
 use Rattle.stack_ways.specs.Steps.{AfterSub, StackStep, SubStep}
 use Rattle.stack_ways.specs.Ways.{Each, Gained}
-use Rattle.stack_ways.proofs.Gathering.{each_all, each_more}
-use Rattle.stack_ways.proofs.Peeling.{depth_head, few_there, node_sub, peeled, some_left}
-use Rattle.stack_ways.proofs.Stepping.{gained_sub, gained_sub_skip}
-use Rattle.stack_ways.proofs.Waiting.{waiting_last, waiting_node, waiting_start}
+use Rattle.stack_ways.proofs.WayListFacts.{each_all, each_more}
+use Rattle.stack_ways.proofs.RestOfStackFacts.{depth_head, few_there, node_sub, peeled, some_left}
+use Rattle.stack_ways.proofs.GainedWayFacts.{gained_sub, gained_sub_skip}
+use Rattle.stack_ways.proofs.WaitingWayFacts.{waiting_last, waiting_node, waiting_start}
 use Rattle.stack_ways.proofs.ways.+pass.Goals as goal
 
 pub pass_list-overflow_sub-left : goal.pass_list-overflow_sub-left

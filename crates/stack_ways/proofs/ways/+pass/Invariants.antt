@@ -3,7 +3,7 @@ use Rattle.control_words.specs.Stack.{depth, node_on, none, stack_of}
 use Rattle.stack_ways.specs.LineCodes.{counts_in, possible_in}
 use Rattle.stack_ways.specs.Steps.{SubStep}
 use Rattle.stack_ways.specs.Ways.{Each, Gained}
-use Rattle.stack_ways.proofs.Waiting.{Waiting}
+use Rattle.stack_ways.proofs.WaitingWayFacts.{Waiting}
 use Rattle.stack_ways.proofs.ways.+pass.Given as goal
 
 abbrev pub decreases-pass_list : goal.decreases-pass_list

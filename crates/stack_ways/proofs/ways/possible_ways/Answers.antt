@@ -6,7 +6,7 @@ use Rattle.stack_ways.specs.declared.way.Way.{Way}
 use Rattle.stack_ways.specs.LineCodes.{counts_in, possible_in}
 use Rattle.stack_ways.specs.Steps.{AfterSub}
 use Rattle.stack_ways.specs.Ways.{Each, Gained, WaysOf}
-use Rattle.stack_ways.proofs.Waiting.{all_ended, none_skips}
+use Rattle.stack_ways.proofs.WaitingWayFacts.{all_ended, none_skips}
 use Rattle.stack_ways.proofs.ways.possible_ways.Goals as goal
 
 pub returns-clause-ways : goal.returns-clause-ways

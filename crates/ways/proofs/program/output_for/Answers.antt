@@ -1,6 +1,6 @@
 use Rattle.ways.specs.Program.{asked_of}
-use Rattle.ways.proofs.Giving.{given_for, usage_given}
-use Rattle.ways.proofs.Leaving.{asked_causes, usage_causes}
+use Rattle.ways.proofs.OutputFacts.{given_for, usage_given}
+use Rattle.ways.proofs.ExitStatusFacts.{asked_causes, usage_causes}
 use Rattle.ways.proofs.program.output_for.Goals as goal
 
 pub returns-in-Some-clause-told : goal.returns-in-Some-clause-told

@@ -1,4 +1,4 @@
-use Rattle.ways.proofs.Giving.{given_by, shown_input}
+use Rattle.ways.proofs.OutputFacts.{given_by, shown_input}
 use Rattle.ways.proofs.program.said_input.Goals as goal
 
 pub returns-clause-told : goal.returns-clause-told

@@ -1,6 +1,6 @@
 use Rattle.ways.specs.Program.{asked_of}
-use Rattle.ways.proofs.Giving.{ends_so}
-use Rattle.ways.proofs.Leaving.{by_no_usage, by_no_write_fault, by_unread, by_usage, by_write_fault}
+use Rattle.ways.proofs.OutputFacts.{ends_so}
+use Rattle.ways.proofs.ExitStatusFacts.{by_no_usage, by_no_write_fault, by_unread, by_usage, by_write_fault}
 use Rattle.ways.proofs.program.ways_to.Goals as goal
 
 pub returns-in-Ok-clause-told : goal.returns-in-Ok-clause-told

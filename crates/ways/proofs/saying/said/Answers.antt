@@ -1,6 +1,6 @@
 use Rattle.std.proofs.Common.{◌∙◌}
 use Rattle.service_load.specs.Trees.{stacks_of_trees}
-use Rattle.ways.proofs.Loading.{loaded_shows, loaded_so, refused_shows, refused_so}
+use Rattle.ways.proofs.ServiceOutputFacts.{loaded_shows, loaded_so, refused_shows, refused_so}
 use Rattle.ways.proofs.saying.said.Goals as goal
 
 pub returns-in-Ok-clause-told : goal.returns-in-Ok-clause-told

@@ -1,6 +1,6 @@
 use Rattle.module_table.specs.Entries.{table_of}
 use Rattle.service_load.specs.Trees.{stacks_of_trees}
-use Rattle.ways.proofs.Telling.{tells_by_table, tells_without}
+use Rattle.ways.proofs.TableOutputFacts.{tells_by_table, tells_without}
 use Rattle.ways.proofs.saying.said_at.Goals as goal
 
 pub returns-in-Ok : goal.returns-in-Ok

@@ -2,7 +2,7 @@ use Rattle.service_load.specs.Trees.{stacks_of_trees}
 use Rattle.service_load.specs.Load.{directory_exists}
 use Rattle.service_load.specs.Loading.{texts_of}
 use Rattle.explain_origins.specs.Placed.{sources_at}
-use Rattle.ways.proofs.Loading.{shows_with, told_with}
+use Rattle.ways.proofs.ServiceOutputFacts.{shows_with, told_with}
 use Rattle.ways.proofs.saying.said_by.Goals as goal
 
 pub returns-clause-told : goal.returns-clause-told

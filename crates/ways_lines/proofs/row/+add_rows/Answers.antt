@@ -1,8 +1,8 @@
 use Rattle.std.proofs.Common.{List, ◌<◌, arith, ap}
 use Rattle.control_words.specs.declared.nodes.Node.{Node}
 use Rattle.control_words.specs.Stack.{depth, stack_of}
-use Rattle.handler_chain.proofs.Peeling.{peeled_line, peeled_sub}
-use Rattle.ways_lines.proofs.Rowing.{after_line, after_sub}
+use Rattle.handler_chain.proofs.RestOfStackFacts.{peeled_line, peeled_sub}
+use Rattle.ways_lines.proofs.NodeRowFacts.{after_line, after_sub}
 use Rattle.ways_lines.proofs.row.+add_rows.Goals as goal
 use Rattle.ways_lines.proofs.row.+add_rows.Goals.{in-Line+in_ok-copied-in-Line+in_ok-push-in-Line, in-Sub+in_ok-push-in-Sub+in_ok-add_rows-in-Sub+in_ok-push-in-Sub-2}
 

@@ -1,4 +1,4 @@
-use Rattle.cmd_run.proofs.Concluding.{completes_script, ends_script, reads_script, runs_script}
+use Rattle.cmd_run.proofs.ScriptRunFacts.{completes_script, ends_script, reads_script, runs_script}
 use Rattle.cmd_run.proofs.script.ScriptProtocol.ends.Goals as goal
 
 pub returns-clause-told : goal.returns-clause-told

@@ -1,4 +1,4 @@
-use Rattle.cmd_wire.proofs.Concluding.{completes_frames, ends_frames, reads_frames, runs_frames}
+use Rattle.cmd_wire.proofs.FrontEndRunFacts.{completes_frames, ends_frames, reads_frames, runs_frames}
 use Rattle.cmd_wire.proofs.frames.FramesProtocol.ends.Goals as goal
 
 pub returns-clause-told : goal.returns-clause-told

@@ -1,7 +1,7 @@
 use Rattle.std.proofs.Common.{arith}
 use Rattle.conf_lex.specs.Lexing.{before_nul}
 use Rattle.conf_lex.proofs.TakingPieces.{comment_piece}
-use Rattle.conf_lex.proofs.Moving.{line_fits, line_lines, line_one, line_ends}
+use Rattle.conf_lex.proofs.NulByteFacts.{line_fits, line_lines, line_one, line_ends}
 use Rattle.conf_lex.proofs.lexer.Lexer.comment.Goals as goal
 
 pub skip-requires-clause-within : goal.skip-requires-clause-within

@@ -1,5 +1,5 @@
 use Rattle.conf_lex.proofs.TakingPieces.{push_piece}
-use Rattle.conf_lex.proofs.Moving.{moves_on}
+use Rattle.conf_lex.proofs.NulByteFacts.{moves_on}
 use Rattle.conf_lex.proofs.lexer.Lexer.pieces.Goals as goal
 
 pub loop-alloc-preserved : goal.loop-alloc-preserved

@@ -1,7 +1,7 @@
 use Rattle.std.proofs.Common.{arith, ◌≤◌, length, ◌∙◌}
 use Rattle.conf_lex.specs.Lexing.{before_nul}
 use Rattle.conf_lex.proofs.TakingPieces.{run_fits, plain_piece}
-use Rattle.conf_lex.proofs.Moving.{before_short, before_take, take_length, run_lines}
+use Rattle.conf_lex.proofs.NulByteFacts.{before_short, before_take, take_length, run_lines}
 use Rattle.conf_lex.proofs.lexer.Lexer.plain.Goals as goal
 
 pub slice_bounds-run-end : goal.slice_bounds-run-end

@@ -1,6 +1,6 @@
 use Rattle.std.proofs.Common.{◌≡◌, ◌-◌, length, ap, ◌∙◌, arith}
 use Rattle.conf_lex.specs.Lexing.{before_nul, fault_at}
-use Rattle.conf_lex.proofs.Answering.{line_refused, line_given}
+use Rattle.conf_lex.proofs.JoinedLineFacts.{line_refused, line_given}
 use Rattle.conf_lex.proofs.lexer.Lexer.rule.Goals as goal
 
 pub returns-in-Some-clause-given : goal.returns-in-Some-clause-given

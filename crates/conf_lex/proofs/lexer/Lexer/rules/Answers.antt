@@ -1,6 +1,6 @@
 use Rattle.std.proofs.Common.{sym, ◌∙◌}
 use Rattle.std.proofs.lemmas.Bool.{eqb-true}
-use Rattle.conf_lex.proofs.Answering.{answer_end}
+use Rattle.conf_lex.proofs.JoinedLineFacts.{answer_end}
 use Rattle.conf_lex.proofs.lexer.Lexer.rules.Goals as goal
 
 pub returns-clause-given : goal.returns-clause-given

@@ -1,6 +1,6 @@
 use Rattle.std.proofs.Common.{arith, ◌∙◌, ap}
 use Rattle.conf_lex.specs.Lexing.{before_nul}
-use Rattle.conf_lex.proofs.Moving.{before_short, before_drop, rest_is, lines_most, skip_moves}
+use Rattle.conf_lex.proofs.NulByteFacts.{before_short, before_drop, rest_is, lines_most, skip_moves}
 use Rattle.conf_lex.proofs.lexer.Lexer.skip.Goals as goal
 
 pub slice_bounds-self-count : goal.slice_bounds-self-count

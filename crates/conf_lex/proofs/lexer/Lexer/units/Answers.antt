@@ -1,5 +1,5 @@
-use Rattle.conf_lex.proofs.Taking.{push_unit}
-use Rattle.conf_lex.proofs.Moving.{moves_on}
+use Rattle.conf_lex.proofs.TextUnitFacts.{push_unit}
+use Rattle.conf_lex.proofs.NulByteFacts.{moves_on}
 use Rattle.conf_lex.proofs.lexer.Lexer.units.Goals as goal
 
 pub loop-byte-preserved : goal.loop-byte-preserved

@@ -1,4 +1,4 @@
-use Rattle.control_words.proofs.Listing.{count-stack_of}
+use Rattle.control_words.proofs.NodeListFacts.{count-stack_of}
 use Rattle.control_words.proofs.nodes.Nodes.is_empty.Goals as goal
 
 pub returns : goal.returns

@@ -1,5 +1,5 @@
 use Rattle.std.proofs.Common.{length, ap}
-use Rattle.control_words.proofs.Listing.{count-stack_of}
+use Rattle.control_words.proofs.NodeListFacts.{count-stack_of}
 use Rattle.control_words.proofs.nodes.Nodes.len.Goals as goal
 
 pub returns-clause-counted : goal.returns-clause-counted

@@ -1,6 +1,6 @@
 use Rattle.std.proofs.Common.{◌≡◌, ◌++◌, ◌∷◌, [], ap, ◌∙◌, rules}
 use Rattle.control_words.specs.Stack.{stack_of}
-use Rattle.control_words.proofs.Listing.{stack_of-append}
+use Rattle.control_words.proofs.NodeListFacts.{stack_of-append}
 use Rattle.control_words.proofs.nodes.Nodes.push.Goals as goal
 
 pub returns-clause-ok : goal.returns-clause-ok

@@ -1,7 +1,7 @@
 use Rattle.std.proofs.Common.{◌≡◌, ◌<◌, length, length-set, arith, ◌∙◌}
 use Rattle.std.specs.Option.{option_or, unwrap_or}
 use Rattle.control_words.specs.declared.control.Action.TheVariants.{Bad}
-use Rattle.control_words.proofs.Filling.{put_next, put_all}
+use Rattle.control_words.proofs.ControlTableFacts.{put_next, put_all}
 use Rattle.control_words.proofs.table.Table.control.Goals as goal
 
 pub returns : goal.returns

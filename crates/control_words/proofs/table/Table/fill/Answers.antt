@@ -1,7 +1,7 @@
 use Rattle.std.proofs.Common.{rules, ◌≡◌, Some, Ok, false}
 use Rattle.pam_base.specs.Code.{code_of_word}
 use Rattle.control_words.specs.Bracket.{action_of_word, is_default}
-use Rattle.control_words.proofs.Filling.{filled-code}
+use Rattle.control_words.proofs.ControlTableFacts.{filled-code}
 use Rattle.control_words.proofs.table.Table.fill.Goals as goal
 
 pub returns-in_ok-action_named-2-clause-filled : goal.returns-in_ok-action_named-2-clause-filled

@@ -1,5 +1,5 @@
 use Rattle.std.proofs.Common.{◌∙◌}
-use Rattle.conv_port.proofs.Fitting.{replies_fit}
+use Rattle.conv_port.proofs.QueueReplyFacts.{replies_fit}
 use Rattle.conv_port.proofs.queue.Queue.exchange.Goals as goal
 
 pub returns-then-are_ready-clause-fit : goal.returns-then-are_ready-clause-fit

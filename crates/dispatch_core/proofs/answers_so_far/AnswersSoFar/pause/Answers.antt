@@ -1,6 +1,6 @@
 use Rattle.std.proofs.Common.{List, Some, ◌∙◌, ap}
 use Rattle.pam_base.specs.declared.code.Code.{Code}
-use Rattle.dispatch_core.proofs.Giving.{all_taken}
+use Rattle.dispatch_core.proofs.GivenCodeFacts.{all_taken}
 use Rattle.dispatch_core.proofs.answers_so_far.AnswersSoFar.pause.Goals as goal
 
 pub returns : goal.returns

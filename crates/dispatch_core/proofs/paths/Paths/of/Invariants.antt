@@ -1,4 +1,4 @@
-use Rattle.dispatch_core.proofs.Pathing.{Shared}
+use Rattle.dispatch_core.proofs.LinePathFacts.{Shared}
 use Rattle.dispatch_core.proofs.paths.Paths.of.Given as goal
 
 abbrev pub invariant-loop-i : goal.invariant-loop-i

@@ -1,4 +1,4 @@
-use Rattle.frame_stream.proofs.Keeping.{frames_cut}
+use Rattle.frame_stream.proofs.CutFrameFacts.{frames_cut}
 use Rattle.frame_stream.proofs.frames.FramesOfStepping.cuts.Goals as goal
 
 pub returns : goal.returns

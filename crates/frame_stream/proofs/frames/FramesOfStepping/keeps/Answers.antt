@@ -1,4 +1,4 @@
-use Rattle.frame_stream.proofs.Keeping.{frames_keep}
+use Rattle.frame_stream.proofs.CutFrameFacts.{frames_keep}
 use Rattle.frame_stream.proofs.frames.FramesOfStepping.keeps.Goals as goal
 
 pub returns : goal.returns

@@ -1,6 +1,6 @@
 use Rattle.std.proofs.Common.{rules, arith, ◌≡◌, length, option_map, vec_len, sym, ◌∙◌}
 use Rattle.std.proofs.lemmas.Grind.{common_steps}
-use Rattle.front_conv.proofs.Modelling.{added_one, kept_on, never, none_in, nothing, still, told_ended, told_never, told_ok}
+use Rattle.front_conv.proofs.RepliesOnlyFacts.{added_one, kept_on, never, none_in, nothing, still, told_ended, told_never, told_ok}
 use Rattle.front_conv.proofs.conv.FrontConv.converse.Goals as goal
 
 pub invariant_of-self-in-Ok-1 : goal.invariant_of-self-in-Ok-1

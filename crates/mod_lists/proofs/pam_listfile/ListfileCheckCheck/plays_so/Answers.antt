@@ -1,7 +1,7 @@
 use Rattle.std.proofs.Common.{Ok}
 use Rattle.mod_lists.specs.ListSettings.{settings_of}
 use Rattle.mod_lists.specs.Listfile.{at_once, error_answer, listfile_act}
-use Rattle.mod_lists.proofs.Deciding.{by_list}
+use Rattle.mod_lists.proofs.UserDecisionFacts.{by_list}
 use Rattle.mod_lists.proofs.pam_listfile.ListfileCheckCheck.plays_so.Goals as goal
 
 pub returns : goal.returns

@@ -1,6 +1,6 @@
 use Rattle.std.proofs.Common.{Ok}
 use Rattle.mod_lists.specs.SucceedIf.{at_once, succeed_if_act, uses_uid}
-use Rattle.mod_lists.proofs.Deciding.{by_conditions}
+use Rattle.mod_lists.proofs.UserDecisionFacts.{by_conditions}
 use Rattle.mod_lists.proofs.pam_succeed_if.SucceedIfCheckCheck.plays_so.Goals as goal
 
 pub returns : goal.returns

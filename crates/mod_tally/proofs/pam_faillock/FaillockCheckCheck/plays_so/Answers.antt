@@ -1,7 +1,7 @@
 use Rattle.std.proofs.Common.{Ok}
 use Rattle.mod_tally.specs.Settings.{settings_of, task_among}
 use Rattle.mod_tally.specs.Faillock.{faillock_act, task_of}
-use Rattle.mod_tally.proofs.Deciding.{by_task_asked}
+use Rattle.mod_tally.proofs.UserDecisionFacts.{by_task_asked}
 use Rattle.mod_tally.proofs.pam_faillock.FaillockCheckCheck.plays_so.Goals as goal
 
 pub returns : goal.returns

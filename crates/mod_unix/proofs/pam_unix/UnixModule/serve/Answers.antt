@@ -7,9 +7,9 @@ use Rattle.mod_unix.specs.Account.{checks_account}
 use Rattle.mod_unix.specs.Authenticate.{authenticates}
 use Rattle.mod_unix.specs.Change.{changes_token}
 use Rattle.mod_unix.specs.Unix.{unix_act}
-use Rattle.mod_unix.proofs.Keeping.{keeping_sets, keeping_stays}
+use Rattle.mod_unix.proofs.SetcredDataFacts.{keeping_sets, keeping_stays}
 use Rattle.module_acts.specs.Tells.{clock_of, conv_of, vault_of}
-use Rattle.mod_unix.proofs.Serving.{by_this, set_cred}
+use Rattle.mod_unix.proofs.ModuleFunctionFacts.{by_this, set_cred}
 use Rattle.mod_unix.proofs.pam_unix.UnixModule.serve.Goals as goal
 
 pub returns-in-Authenticate-clause-told : goal.returns-in-Authenticate-clause-told

@@ -1,4 +1,4 @@
-use Rattle.module_acts.proofs.Acting.{knowing_groups, reading_groups}
+use Rattle.module_acts.proofs.FileStepFacts.{knowing_groups, reading_groups}
 use Rattle.module_acts.proofs.accounts.Accounts.read_groups.Goals as goal
 
 pub returns-in_ok-found-clause-told : goal.returns-in_ok-found-clause-told

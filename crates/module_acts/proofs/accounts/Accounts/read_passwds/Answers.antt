@@ -1,4 +1,4 @@
-use Rattle.module_acts.proofs.Acting.{knowing_passwds, reading_passwds}
+use Rattle.module_acts.proofs.FileStepFacts.{knowing_passwds, reading_passwds}
 use Rattle.module_acts.proofs.accounts.Accounts.read_passwds.Goals as goal
 
 pub returns-in_ok-content-clause-told : goal.returns-in_ok-content-clause-told

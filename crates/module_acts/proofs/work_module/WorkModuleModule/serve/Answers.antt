@@ -1,6 +1,6 @@
 use Rattle.pam_room.specs.Plain.{plain_call}
 use Rattle.module_acts.specs.Tells.{conv_of, vault_of}
-use Rattle.module_acts.proofs.Deciding.{decided}
+use Rattle.module_acts.proofs.DecisionFacts.{decided}
 use Rattle.module_acts.proofs.work_module.WorkModuleModule.serve.Goals as goal
 
 pub returns-in-Some-clause-told : goal.returns-in-Some-clause-told

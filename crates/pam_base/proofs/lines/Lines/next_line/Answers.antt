@@ -1,7 +1,7 @@
 use Rattle.std.proofs.Common.{◌<◌, length, sym, ◌∙◌, arith}
 use Rattle.std.proofs.lemmas.Bool.{eqb-true}
 use Rattle.std.proofs.lemmas.Bool.Decides.{nat_tests}
-use Rattle.pam_base.proofs.Reading.{no_line, no_line_left, whole_line, whole_line_left, part_line, part_line_left}
+use Rattle.pam_base.proofs.TextLineFacts.{no_line, no_line_left, whole_line, whole_line_left, part_line, part_line_left}
 use Rattle.pam_base.proofs.lines.Lines.next_line.Goals as goal
 
 pub returns-then-is_empty-clause-line : goal.returns-then-is_empty-clause-line

@@ -1,4 +1,4 @@
-use Rattle.pam_base.proofs.Cutting.{first_part, first_part_left, last_part, last_part_left}
+use Rattle.pam_base.proofs.TextPartFacts.{first_part, first_part_left, last_part, last_part_left}
 use Rattle.pam_base.proofs.parts.Parts.next_part.Goals as goal
 
 pub returns-in-Some-clause-part : goal.returns-in-Some-clause-part

@@ -11,11 +11,11 @@ use Rattle.pam_handle.specs.Pass.{kept_answers}
 use Rattle.pam_handle.specs.Plain.{pending_of, plain_handle}
 use Rattle.pam_handle.specs.StackCalls.{held_in}
 use Rattle.pam_handle.specs.declared.put_off.PutOff.{PutOff}
-use Rattle.pam_handle.proofs.Calling.{call_aborted, call_refused, fails_as, leaves_others, leaves_pending, leaves_same, not_false, not_refused, room_end, room_start, room_with, runs_soundly, same_call, stops_room, told_as, trail_left}
-use Rattle.pam_handle.proofs.Stopping.{on_err_from, stops_call}
+use Rattle.pam_handle.proofs.StackCallFacts.{call_aborted, call_refused, fails_as, leaves_others, leaves_pending, leaves_same, not_false, not_refused, room_end, room_start, room_with, runs_soundly, same_call, stops_room, told_as, trail_left}
+use Rattle.pam_handle.proofs.OutOfMemoryFacts.{on_err_from, stops_call}
 use Rattle.pam_handle.proofs.Tokens.{begins_unset, ends_unset}
-use Rattle.pam_handle.proofs.Tracing.{called_by_trail}
-use Rattle.pam_handle.proofs.Waiting.{none_plain, not_rested, not_waited, tells_beside, waited_at_end}
+use Rattle.pam_handle.proofs.CallTraceFacts.{called_by_trail}
+use Rattle.pam_handle.proofs.AuthenticationWaitFacts.{none_plain, not_rested, not_waited, tells_beside, waited_at_end}
 use Rattle.pam_handle.proofs.handle.Handle.call.Goals as goal
 
 pub passes-result-requires-clause-unset : goal.passes-result-requires-clause-unset

@@ -1,6 +1,6 @@
 use Rattle.dispatch_core.specs.service_load.specs.declared.rule_type.RuleType.TheVariants.{Auth}
 use Rattle.pam_handle.specs.Plain.{nodes_in}
-use Rattle.pam_handle.proofs.Lacking.{under_next, under_none}
+use Rattle.pam_handle.proofs.MissingModuleFacts.{under_next, under_none}
 use Rattle.pam_handle.proofs.handle.Handle.missing.Goals as goal
 
 pub loop-rule_type-preserved : goal.loop-rule_type-preserved

@@ -1,7 +1,7 @@
 use Rattle.std.proofs.Common.{◌≡◌, ◌++◌, drop}
 use Rattle.pam_handle.specs.Items.{missing_from}
 use Rattle.pam_handle.specs.Plain.{nodes_in, stacks_in}
-use Rattle.pam_handle.proofs.Lacking.{missing_under}
+use Rattle.pam_handle.proofs.MissingModuleFacts.{missing_under}
 use Rattle.pam_handle.proofs.handle.Handle.missing.Given as goal
 
 abbrev pub invariant-loop-rule_type : goal.invariant-loop-rule_type

@@ -4,8 +4,8 @@ use Rattle.dispatch_core.specs.handler_chain.specs.Chain.{ChainView}
 use Rattle.dispatch_core.specs.pam_room.specs.Module.{player_of}
 use Rattle.dispatch_core.specs.pam_room.specs.Plain.{plain_room}
 use Rattle.pam_handle.specs.Plain.{plain_handle}
-use Rattle.pam_handle.proofs.Passing.{names_of_players, pass_by_trail, pass_gives, pass_ready, pass_sound, pass_stopped, pass_told}
-use Rattle.pam_handle.proofs.Typing.{names_at, others_stay, stack_of_call}
+use Rattle.pam_handle.proofs.CachedPassFacts.{names_of_players, pass_by_trail, pass_gives, pass_ready, pass_sound, pass_stopped, pass_told}
+use Rattle.pam_handle.proofs.StackTypeFacts.{names_at, others_stay, stack_of_call}
 use Rattle.pam_handle.proofs.handle.Handle.pass.Goals as goal
 
 pub dispatch-requires-clause-names : goal.dispatch-requires-clause-names

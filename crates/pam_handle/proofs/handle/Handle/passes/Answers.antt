@@ -5,7 +5,7 @@ use Rattle.pam_handle.specs.Handle.{PlainHandle, in_room}
 use Rattle.pam_handle.specs.Pass.{kept_answers}
 use Rattle.pam_handle.specs.Passes.{cached_of}
 use Rattle.pam_handle.specs.Plain.{plain_handle}
-use Rattle.pam_handle.proofs.Giving.{give_none, give_once, give_second, give_twice, kept_of, swapped}
+use Rattle.pam_handle.proofs.PassRecordFacts.{give_none, give_once, give_second, give_twice, kept_of, swapped}
 use Rattle.pam_handle.proofs.handle.Handle.passes.Goals as goal
 
 pub returns-then-is_second-clause-give : goal.returns-then-is_second-clause-give

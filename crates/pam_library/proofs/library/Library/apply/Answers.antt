@@ -3,11 +3,11 @@ use Rattle.std.specs.List.{list_all}
 use Rattle.pam_library.specs.Slots.{PlainSlot, slot_at}
 use Rattle.pam_library.specs.Plain.{plain_slot, slot_tells}
 use Rattle.pam_library.specs.AnyWorld.{leaves_world}
-use Rattle.pam_library.proofs.Stacking.{only_of}
+use Rattle.pam_library.proofs.StackCallFacts.{only_of}
 use Rattle.pam_library.proofs.Within.{both_of, first_of, second_of}
-use Rattle.pam_library.proofs.Holding.{held_in}
-use Rattle.pam_library.proofs.Applying.{IsPut, IsReplaced, all_step, answer_after, bad_number, fails_after, inside_after, moves_after, none_beyond, none_first, others_stay, put, ready_at, replaced, slots_length, sound_after, spends_after, stops_after, succeeds_after, tell_as, tells_at, traces_after}
-use Rattle.pam_library.proofs.Gathering.{answers_with, bad_answers, keeps_still, leaves_all, none_ends, runs_out}
+use Rattle.pam_library.proofs.SlotContentFacts.{held_in}
+use Rattle.pam_library.proofs.SlotStepFacts.{IsPut, IsReplaced, all_step, answer_after, bad_number, fails_after, inside_after, moves_after, none_beyond, none_first, others_stay, put, ready_at, replaced, slots_length, sound_after, spends_after, stops_after, succeeds_after, tell_as, tells_at, traces_after}
+use Rattle.pam_library.proofs.CallRecordFacts.{answers_with, bad_answers, keeps_still, leaves_all, none_ends, runs_out}
 use Rattle.pam_library.proofs.library.Library.apply.Given as given
 use Rattle.pam_library.proofs.library.Library.apply.Goals as goal
 use Rattle.pam_library.proofs.library.Library.apply.Goals.{then-number-eq0-via-then-number-eq0, then-number-eq0-via-else-number-eq0+then-len-number}

@@ -6,9 +6,9 @@ use Rattle.pam_library.specs.Slots.{closed, opened, is_open}
 use Rattle.pam_library.specs.declared.slot.Slot.TheVariants.{Closed}
 use Rattle.pam_library.specs.Plain.{plain_slot, slot_tells}
 use Rattle.pam_library.specs.Closing.{IsFirstOpen, end_of, first_open}
-use Rattle.pam_library.proofs.Applying.{IsPut, IsReplaced, put, ready_at, tell_as}
-use Rattle.pam_library.proofs.Ending.{closes_none, closes_one, end_moves, end_sound, found_as, found_at, found_none, none_is_open, place_is, place_there, place_within, put_as, put_there, some_is_open}
-use Rattle.pam_library.proofs.Gathering.{keeps_still}
+use Rattle.pam_library.proofs.SlotStepFacts.{IsPut, IsReplaced, put, ready_at, tell_as}
+use Rattle.pam_library.proofs.OpenSlotFacts.{closes_none, closes_one, end_moves, end_sound, found_as, found_at, found_none, none_is_open, place_is, place_there, place_within, put_as, put_there, some_is_open}
+use Rattle.pam_library.proofs.CallRecordFacts.{keeps_still}
 use Rattle.pam_library.proofs.library.Library.close_one.Given as given
 use Rattle.pam_library.proofs.library.Library.close_one.Goals as goal
 

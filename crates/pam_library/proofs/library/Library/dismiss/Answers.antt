@@ -1,7 +1,7 @@
 use Rattle.std.proofs.Common.{◌≡◌, true, false, sym, ap, ◌∙◌, subst, map}
 use Rattle.pam_library.specs.Plain.{plain_slot}
 use Rattle.pam_library.specs.Slots.{NoneIsOpen, is_open}
-use Rattle.pam_library.proofs.Holding.{last_closed, others_closed}
+use Rattle.pam_library.proofs.SlotContentFacts.{last_closed, others_closed}
 use Rattle.pam_library.proofs.library.Library.dismiss.Goals as goal
 
 pub loop-slot-preserved : goal.loop-slot-preserved

@@ -1,5 +1,5 @@
 use Rattle.std.proofs.Common.{◌≡◌, ◌-◌, ◌<◌, ◌≤◌, length, get_or, subst, arith}
-use Rattle.pam_library.proofs.Holding.{open_found, none_found}
+use Rattle.pam_library.proofs.SlotContentFacts.{open_found, none_found}
 use Rattle.pam_library.proofs.library.Library.is_open.Goals as goal
 
 pub returns-in-Some : goal.returns-in-Some

@@ -1,7 +1,7 @@
 use Rattle.std.proofs.Common.{refl, sym, ap, ◌∙◌, map, rules}
 use Rattle.std.specs.Vec.Iter.{into_iter_items}
 use Rattle.pam_library.specs.declared.slot.Slot.TheVariants.{Closed}
-use Rattle.pam_library.proofs.Holding.{empty_of, made_all, made_test}
+use Rattle.pam_library.proofs.SlotContentFacts.{empty_of, made_all, made_test}
 use Rattle.pam_library.proofs.library.Library.new.Goals as goal
 
 pub returns-clause-slots : goal.returns-clause-slots

@@ -1,7 +1,7 @@
 use Rattle.std.proofs.Common.{◌-◌, refl, ap, arith}
 use Rattle.pam_library.specs.AnyWorld.{conv_of, with_conv}
 use Rattle.pam_library.specs.declared.slot.Slot.TheVariants.{Closed, Open}
-use Rattle.pam_library.proofs.Holding.{put_slots, put_old, put_tells}
+use Rattle.pam_library.proofs.SlotContentFacts.{put_slots, put_old, put_tells}
 use Rattle.pam_library.specs.Slots.{opened}
 use Rattle.pam_library.proofs.library.Library.put_conv.Goals as goal
 

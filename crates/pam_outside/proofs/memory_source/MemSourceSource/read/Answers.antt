@@ -1,7 +1,7 @@
 use Rattle.std.proofs.Common.{rules, ap, sym, ◌≡◌, ◌≤◌, length, drop, arith}
 use Rattle.std.proofs.lemmas.List.{drop-drop}
 use Rattle.pam_outside.specs.Memory.{SourceMemory}
-use Rattle.pam_outside.proofs.Taking.{taken, at_end, ok_number, rest_is}
+use Rattle.pam_outside.proofs.TakenBytesFacts.{taken, at_end, ok_number, rest_is}
 use Rattle.pam_outside.proofs.memory_source.MemSourceSource.read.Goals as goal
 
 pub returns-clause-told : goal.returns-clause-told

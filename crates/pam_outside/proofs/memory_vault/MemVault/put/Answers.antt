@@ -1,6 +1,6 @@
 use Rattle.std.proofs.Common.{sym, refl, ap, arith}
 use Rattle.pam_outside.specs.Memory.{VaultMemory}
-use Rattle.pam_outside.proofs.Putting.{is_within, put_over, put_after, put_found, put_others}
+use Rattle.pam_outside.proofs.ReplacedFileFacts.{is_within, put_over, put_after, put_found, put_others}
 use Rattle.pam_outside.proofs.memory_vault.MemVault.put.Goals as goal
 
 pub index_mut-requires : goal.index_mut-requires

@@ -1,9 +1,9 @@
 use Rattle.std.proofs.Common.{◌≡◌, ◌∙◌, length, ap, arith, rules, length-drop}
 use Rattle.pam_wire.specs.declared.next.Next.TheVariants as next
 use Rattle.pam_wire.specs.Stream.{FramesState, next_of}
-use Rattle.pam_wire.proofs.Framing.{frame-fits}
-use Rattle.pam_wire.proofs.Opening.{bad-no_frame, bad-not_open}
-use Rattle.pam_wire.proofs.Giving.{gave_next, gave_open}
+use Rattle.pam_wire.proofs.FrameBytesFacts.{frame-fits}
+use Rattle.pam_wire.proofs.IncompleteFrameFacts.{bad-no_frame, bad-not_open}
+use Rattle.pam_wire.proofs.FedBytesFacts.{gave_next, gave_open}
 use Rattle.pam_wire.proofs.frames.Frames.next.Goals as goal
 
 pub returns-in-Open-clause-gave : goal.returns-in-Open-clause-gave

@@ -1,4 +1,4 @@
-use Rattle.pass_replay.proofs.Keeping.{kept_more}
+use Rattle.pass_replay.proofs.CodeCellFacts.{kept_more}
 use Rattle.pass_replay.proofs.answers.Answers.of.Goals as goal
 
 pub loop-visit-preserved : goal.loop-visit-preserved

@@ -1,4 +1,4 @@
-use Rattle.record_reader.proofs.Keeping.{lines_keep}
+use Rattle.record_reader.proofs.CutLineFacts.{lines_keep}
 use Rattle.record_reader.proofs.lines.LinesStepping.keeps.Goals as goal
 
 pub returns : goal.returns

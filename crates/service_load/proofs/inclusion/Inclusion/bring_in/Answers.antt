@@ -1,6 +1,6 @@
 use Rattle.std.proofs.Common.{◌∙◌, ap}
 use Rattle.control_words.specs.Stack.{stack_of, none}
-use Rattle.service_load.proofs.Listing.{node_on-Sub, stack_of-append}
+use Rattle.service_load.proofs.NodeListFacts.{node_on-Sub, stack_of-append}
 use Rattle.service_load.proofs.inclusion.Inclusion.bring_in.Goals as goal
 
 pub returns-then-self : goal.returns-then-self

@@ -5,7 +5,7 @@ use Rattle.service_load.specs.Loading.{counts_of, brought_in, opener_of, texts_o
 use Rattle.service_load.specs.Tree.{serves}
 use Rattle.service_load.specs.contracts.loader.Loader.add_file.{dyn-1-ghosts}
 use Rattle.service_load.specs.contracts.loader.Loader.add_file.dyn-1 as borrowed
-use Rattle.service_load.proofs.Expanding.{grows_none, grows_in, grows_on, taking_stops, taking_looks, taking_adds, taking_grows, taking_file, all_stop, file_stops, going_none, going_past, file_since, brings_all, brings_stop, brings_absent, nothing_left, more_left}
+use Rattle.service_load.proofs.FileEntryFacts.{grows_none, grows_in, grows_on, taking_stops, taking_looks, taking_adds, taking_grows, taking_file, all_stop, file_stops, going_none, going_past, file_since, brings_all, brings_stop, brings_absent, nothing_left, more_left}
 use Rattle.service_load.proofs.loader.Loader.+add_file.Goals as goal
 
 pub returns-in_default-clause-told : goal.returns-in_default-clause-told

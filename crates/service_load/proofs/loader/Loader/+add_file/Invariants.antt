@@ -2,7 +2,7 @@ use Rattle.std.proofs.Common.{◌≡◌, ◌-◌, length, true}
 use Rattle.std.specs.Vec.Iter.{into_iter_items, into_iter_len}
 use Rattle.control_words.specs.Stack.{stack_of}
 use Rattle.service_load.specs.Loading.{Grows, OnlyCalls, counts_of, texts_of}
-use Rattle.service_load.proofs.Expanding.{Going}
+use Rattle.service_load.proofs.FileEntryFacts.{Going}
 use Rattle.service_load.specs.contracts.loader.Loader.add_file.{dyn-1-ghosts}
 use Rattle.service_load.specs.contracts.loader.Loader.add_file.dyn-1 as borrowed
 use Rattle.service_load.proofs.loader.Loader.+add_file.Given as goal

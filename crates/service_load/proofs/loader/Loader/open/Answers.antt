@@ -1,5 +1,5 @@
 use Rattle.std.proofs.Common.{◌≡◌, Err, refl, rules}
-use Rattle.service_load.proofs.Opening.{asked_is, asked_if, opens_deep, opens_many, opens_served, none_served, err_served, needs_nothing, opens_none, opens_absent, opens_err}
+use Rattle.service_load.proofs.OpenedFileFacts.{asked_is, asked_if, opens_deep, opens_many, opens_served, none_served, err_served, needs_nothing, opens_none, opens_absent, opens_err}
 use Rattle.service_load.proofs.loader.Loader.open.Goals as goal
 
 pub returns-then-at-gt-MAX_LEVEL-clause-told : goal.returns-then-at-gt-MAX_LEVEL-clause-told

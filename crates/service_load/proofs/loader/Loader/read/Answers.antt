@@ -1,6 +1,6 @@
 use Rattle.std.proofs.Common.{ℕ, List, ap, ◌∙◌}
 use Rattle.pam_outside.specs.Paths.{path_of}
-use Rattle.service_load.proofs.Opening.{long_answers}
+use Rattle.service_load.proofs.OpenedFileFacts.{long_answers}
 use Rattle.service_load.proofs.loader.Loader.read.Goals as goal
 
 pub returns-in-Err-TooLong-clause-told : goal.returns-in-Err-TooLong-clause-told

@@ -1,6 +1,6 @@
 use Rattle.std.proofs.Common.{◌≡◌, Ok, Err, refl, sym, ◌∙◌, rules}
 use Rattle.control_words.specs.Stack.{stack_of}
-use Rattle.service_load.proofs.Treeing.{bounded_one, bounded_two, other_since, makes_own, makes_other, stop_own, stop_other}
+use Rattle.service_load.proofs.StackTreeFacts.{bounded_one, bounded_two, other_since, makes_own, makes_other, stop_own, stop_other}
 use Rattle.service_load.proofs.loader.Loader.tree.Goals as goal
 
 pub returns-in_err-there-clause-told : goal.returns-in_err-there-clause-told

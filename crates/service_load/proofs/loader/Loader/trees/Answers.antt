@@ -1,6 +1,6 @@
 use Rattle.std.proofs.Common.{◌≡◌, ◌∙◌, Err, refl, rules}
 use Rattle.service_load.specs.declared.rule_type.RuleType.TheVariants.{Auth}
-use Rattle.service_load.proofs.Treeing.{bounded_new, bounded_next, making_all, making_keeps, making_next, making_none, making_stops}
+use Rattle.service_load.proofs.StackTreeFacts.{bounded_new, bounded_next, making_all, making_keeps, making_next, making_none, making_stops}
 use Rattle.service_load.proofs.loader.Loader.trees.Goals as goal
 
 pub loop-rule_type-init : goal.loop-rule_type-init

@@ -1,7 +1,7 @@
 use Rattle.std.proofs.Common.{◌≡◌, drop, true}
 use Rattle.service_load.specs.Load.{AreBounded}
 use Rattle.service_load.specs.Loading.{counts_of}
-use Rattle.service_load.proofs.Treeing.{Making}
+use Rattle.service_load.proofs.StackTreeFacts.{Making}
 use Rattle.service_load.proofs.loader.Loader.trees.Given as goal
 
 abbrev pub invariant-loop-rule_type : goal.invariant-loop-rule_type

@@ -1,7 +1,7 @@
 use Rattle.std.proofs.Common.{◌≡◌, ◌≤◌, List, Option, length, arith, sym, ap, subst}
 use Rattle.session_audit.specs.declared.checker.Begun.{Begun}
 use Rattle.session_audit.specs.Checked.{begun_within}
-use Rattle.session_audit.proofs.Checking.{named_within}
+use Rattle.session_audit.proofs.CheckedBlockFacts.{named_within}
 use Rattle.session_audit.proofs.checker.Checker.take_result.Goals as goal
 
 pub overflow_cast-result-in-Some : goal.overflow_cast-result-in-Some
