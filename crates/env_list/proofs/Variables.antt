@@ -117,18 +117,18 @@ pub none_changed : (name value : List ℕ) (variables : List Variable) → NoneN
 none_changed name value [] none = refl
 none_changed name value (variable ∷ variables) none = rw none.0 (ap (λ (vs : List Variable). variable ∷ vs) (none_changed name value variables none.1))
 
-apart_from : (variable : Variable) (before past_end : List Variable) (first : Variable) → NoneNamed first.name (before ++ variable ∷ past_end)
+apart_from : (variable : Variable) (before the_rest : List Variable) (first : Variable) → NoneNamed first.name (before ++ variable ∷ the_rest)
     → is_named variable.name first ≡ false
-apart_from variable [] past_end first none = other_name variable.name first.name (λ same. let e : bytes_eq first.name variable.name ≡ true = rw same (own_name first.name) in let no : true ≡ false = sym e ∙ none.0 in cc)
-apart_from variable (next ∷ before) past_end first none = apart_from variable before past_end first none.1
+apart_from variable [] the_rest first none = other_name variable.name first.name (λ same. let e : bytes_eq first.name variable.name ≡ true = rw same (own_name first.name) in let no : true ≡ false = sym e ∙ none.0 in cc)
+apart_from variable (next ∷ before) the_rest first none = apart_from variable before the_rest first none.1
 
-pub deletion_closes : (variable : Variable) (before past_end : List Variable) → HaveDifferentNames (before ++ variable ∷ past_end)
-    → without variable.name (before ++ variable ∷ past_end) ≡ before ++ past_end
+pub deletion_closes : (variable : Variable) (before the_rest : List Variable) → HaveDifferentNames (before ++ variable ∷ the_rest)
+    → without variable.name (before ++ variable ∷ the_rest) ≡ before ++ the_rest
 unfolding IsDistinct
-deletion_closes variable [] past_end differ = rw (own_name variable.name) (none_deleted variable.name past_end differ.0)
-deletion_closes variable (first ∷ before) past_end differ =
-    rw (apart_from variable before past_end first differ.0)
-    (ap (λ (vs : List Variable). first ∷ vs) (deletion_closes variable before past_end differ.1))
+deletion_closes variable [] the_rest differ = rw (own_name variable.name) (none_deleted variable.name the_rest differ.0)
+deletion_closes variable (first ∷ before) the_rest differ =
+    rw (apart_from variable before the_rest first differ.0)
+    (ap (λ (vs : List Variable). first ∷ vs) (deletion_closes variable before the_rest differ.1))
 
 pub unset_stays : (name : List ℕ) (variables : List Variable) → is_set name variables ≡ false → without name variables ≡ variables
 unset_stays name [] none = refl

@@ -37,7 +37,7 @@ pub fn deleting_closes_up()
         value_of name (without name variables) ≡ None }
     ensures others { (name other : List ℕ) (variables : List Variable) → other ≢ name →
         value_of other (without name variables) ≡ value_of other variables }
-    ensures closes { (variable : Variable) (before past_end : List Variable) →
-        HaveDifferentNames (before ++ variable ∷ past_end) →
-        without variable.name (before ++ variable ∷ past_end) ≡ before ++ past_end }
+    ensures closes { (variable : Variable) (before the_rest : List Variable) →
+        HaveDifferentNames (before ++ variable ∷ the_rest) →
+        without variable.name (before ++ variable ∷ the_rest) ≡ before ++ the_rest }
 {}

@@ -9,7 +9,7 @@ use Rattle.handler_chain.specs.declared.opinion.Opinion.{Opinion}
 use Rattle.handler_chain.specs.declared.pass_kind.PassKind.{PassKind}
 use Rattle.handler_chain.specs.Opinion.{acted}
 use Rattle.handler_chain.specs.Walk.{Serving, Served, Walked, walked, halted, Next, after, stop, next_of, new_or_overrun, onward, walk}
-use Rattle.handler_chain.specs.Route.{KeptAnswers, negative_after, next_by, negative_past, Met, met, past_end, onto, met_at, route_from}
+use Rattle.handler_chain.specs.Route.{KeptAnswers, negative_after, next_by, negative_past, Met, met, with_met, onto, met_at, route_from}
 use Rattle.handler_chain.proofs.Negativity.{negative_opinion, acted_negative, next_of-is, settled_negative}
 
 module _ (State : Type 0) where
@@ -96,7 +96,7 @@ module _ (State : Type 0) (kind : PassKind) (serve : Serving State) (kept : Kept
   walk_back t n at entry o s =
       walk_keeps State kind serve (λ (at : ℕ) (x : State). Ok x → Ok s) (λ rule at x from ok. from (tells.back rule at x ok)) (λ at later x le from. from) t n at entry o s (λ ok. ok)
 
-  goes_past : (before places : List ℕ) (m : Met) (w : Walked State) → Along (before ++ places) m w → Along before (past_end places m) w
+  goes_past : (before places : List ℕ) (m : Met) (w : Walked State) → Along (before ++ places) m w → Along before (with_met places m) w
   goes_past before places m w goes = record {
     left = goes.left;
     places = sym (append_assoc before places m.places) ∙ goes.places;
@@ -133,12 +133,12 @@ module _ (State : Type 0) (kind : PassKind) (serve : Serving State) (kept : Kept
   goes_kept None at now on w before lost each (inr finds) = absurd (lost refl finds)
   goes_kept (Some k) at now on w before lost each sure = goes_past before (at ∷ []) (on k) w (each k refl sure)
 
-  sure_first : (first rest : Met) → Sure (if first.lacks then first else past_end first.places rest) → Sure first
-  sure_first first rest (inl e) = inl (lacks_first first.lacks first (past_end first.places rest) refl e)
+  sure_first : (first rest : Met) → Sure (if first.lacks then first else with_met first.places rest) → Sure first
+  sure_first first rest (inl e) = inl (lacks_first first.lacks first (with_met first.places rest) refl e)
   sure_first first rest (inr finds) = inr finds
 
   goes_stopped : (c : Bool) (first rest : Met) (w : Walked State) (before : List ℕ) → w.stopped ≡ true
-      → Along before first w → Along before (if c then first else past_end first.places rest) w
+      → Along before first w → Along before (if c then first else with_met first.places rest) w
   goes_stopped true first rest w before is goes = goes
   goes_stopped false first rest w before is goes = record {
     left = goes.left ++ rest.places;
@@ -155,13 +155,13 @@ module _ (State : Type 0) (kind : PassKind) (serve : Serving State) (kept : Kept
 
   goes_sub : (b : Bool) (first rest : Met) (inside w : Walked State) (before : List ℕ) → inside.stopped ≡ b
       → Along before first inside → (b ≡ false → Ok w.state → Sure rest → Along (seen inside.state) rest w)
-      → Ok (if b then inside else w).state → Sure (if first.lacks then first else past_end first.places rest)
-      → Along before (if first.lacks then first else past_end first.places rest) (if b then inside else w)
+      → Ok (if b then inside else w).state → Sure (if first.lacks then first else with_met first.places rest)
+      → Along before (if first.lacks then first else with_met first.places rest) (if b then inside else w)
   goes_sub true first rest inside w before is goes more ok sure = goes_stopped first.lacks first rest inside before is goes
   goes_sub false first rest inside w before is goes more ok sure =
       let has : first.lacks ≡ false = goes.has is in
-      let sure' : Sure (past_end first.places rest) = subst (λ (c : Bool). Sure (if c then first else past_end first.places rest)) has sure in
-      subst (λ (c : Bool). Along before (if c then first else past_end first.places rest) w) (sym has)
+      let sure' : Sure (with_met first.places rest) = subst (λ (c : Bool). Sure (if c then first else with_met first.places rest)) has sure in
+      subst (λ (c : Bool). Along before (if c then first else with_met first.places rest) w) (sym has)
       (goes_past before first.places rest w (subst (λ (xs : List ℕ). Along xs rest w) (seen_all before first inside is goes) (more refl ok sure')))
 
   pub along : (t : Stack) (n at : ℕ) (entry o : Opinion) (s : State) (en now : Bool) → negative_opinion entry ≡ en → negative_opinion o ≡ now → Low at s

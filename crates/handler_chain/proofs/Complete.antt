@@ -7,7 +7,7 @@ use Rattle.pam_base.specs.declared.code.Code.{Code}
 use Rattle.control_words.specs.Control.{action_at}
 use Rattle.control_words.specs.Stack.{Stack, none, line, sub, count, lines_in}
 use Rattle.handler_chain.specs.Walk.{Next, after, stop}
-use Rattle.handler_chain.specs.Route.{KeptAnswers, next_by, negative_past, Met, met, past_end, onto, met_at, route_from}
+use Rattle.handler_chain.specs.Route.{KeptAnswers, next_by, negative_past, Met, met, with_met, onto, met_at, route_from}
 
 abbrev pub IsOn : ℕ → List ℕ → Type 0
 IsOn place places = list_any (nat_eq place) places ≡ true
@@ -34,7 +34,7 @@ module _ (kept : KeptAnswers) where
   has_at at (Some k) now on is each all = each k (λ place is_on. all place (on_second place (at ∷ []) (on k).places is_on))
 
   has_sub : (c : Bool) (first rest : Met) → first.lacks ≡ c → (All_kept first → first.lacks ≡ false) → (All_kept rest → rest.lacks ≡ false)
-      → All_kept (if c then first else past_end first.places rest) → (if c then first else past_end first.places rest).lacks ≡ false
+      → All_kept (if c then first else with_met first.places rest) → (if c then first else with_met first.places rest).lacks ≡ false
   has_sub true first rest is one two all = one all
   has_sub false first rest is one two all = two (λ place is_on. all place (on_second place first.places rest.places is_on))
 

@@ -22,19 +22,19 @@ peeled_sub nodes i node inner within is which =
     peeled nodes i node within is ∙ ap (λ (n : Node). node_on n (stack_of (drop (i + 1) nodes))) which ∙ node_on-Sub inner (stack_of (drop (i + 1) nodes))
 
 -- a list and what follows its first node, of n lines
-pub record IsNext (here past_end : Stack) (width : ℕ) : Type 0 where
-  pub lines : lines_in here ≡ width + lines_in past_end
-  pub marks : (first : ℕ) → positions_after first here ≡ (first + width) ∷ positions_after (first + width) past_end
+pub record IsNext (here the_rest : Stack) (width : ℕ) : Type 0 where
+  pub lines : lines_in here ≡ width + lines_in the_rest
+  pub marks : (first : ℕ) → positions_after first here ≡ (first + width) ∷ positions_after (first + width) the_rest
 
-pub next_line : (here past_end : Stack) (rule : Rule) (width : ℕ) → here ≡ line rule past_end → width ≡ 1 → IsNext here past_end width
-next_line here past_end rule width is one = rw (is, one) (record { lines = omega arith; marks = λ first. refl })
+pub next_line : (here the_rest : Stack) (rule : Rule) (width : ℕ) → here ≡ line rule the_rest → width ≡ 1 → IsNext here the_rest width
+next_line here the_rest rule width is one = rw (is, one) (record { lines = omega arith; marks = λ first. refl })
 
-pub next_sub : (here inner past_end : Stack) (width : ℕ) → here ≡ sub inner past_end → width ≡ lines_in inner → IsNext here past_end width
-next_sub here inner past_end width is counted = rw (is, counted) (record { lines = refl; marks = λ first. refl })
+pub next_sub : (here inner the_rest : Stack) (width : ℕ) → here ≡ sub inner the_rest → width ≡ lines_in inner → IsNext here the_rest width
+next_sub here inner the_rest width is counted = rw (is, counted) (record { lines = refl; marks = λ first. refl })
 
 -- one more position was added
-pub marked : (all now new : List ℕ) (first width : ℕ) (here past_end : Stack) → IsNext here past_end width → now ++ positions_after first here ≡ all
+pub marked : (all now new : List ℕ) (first width : ℕ) (here the_rest : Stack) → IsNext here the_rest width → now ++ positions_after first here ≡ all
     → new ≡ now ++ (first + width) ∷ []
-    → new ++ positions_after (first + width) past_end ≡ all
-marked all now new first width here past_end next so_far added =
-    rw added (append_assoc now ((first + width) ∷ []) (positions_after (first + width) past_end) ∙ ap (λ (xs : List ℕ). now ++ xs) (sym (next.marks first)) ∙ so_far)
+    → new ++ positions_after (first + width) the_rest ≡ all
+marked all now new first width here the_rest next so_far added =
+    rw added (append_assoc now ((first + width) ∷ []) (positions_after (first + width) the_rest) ∙ ap (λ (xs : List ℕ). now ++ xs) (sym (next.marks first)) ∙ so_far)

@@ -95,21 +95,21 @@ module _ (State : Type 0) (kind : PassKind) (kept : KeptAnswers) where
       let left : ℕ = count t in
       let new : Code → Opinion = λ k. acted kind (action_at rule.control k) v.answer k entry o in
       let last : Code → Opinion = λ k. new_or_overrun (action_at rule.control k) left (new k) in
-      let past_end : Answering State → Code → PassState State → Walked (PassState State) = λ r k x.
+      let the_rest : Answering State → Code → PassState State → Walked (PassState State) = λ r k x.
       onward (next_of (action_at rule.control k) left (new k)) (λ n. walk_by r n t (at + 1) entry (last k) x) (walked (last k) x) in
-      again_if v.stopped o v.state (past_end answering v.deciding v.state) (walk_by later zero (line rule t) at entry o (pass_state (answers_of news ++ rest) g.visits s)) (g.visits ++ news) rest s
+      again_if v.stopped o v.state (the_rest answering v.deciding v.state) (walk_by later zero (line rule t) at entry o (pass_state (answers_of news ++ rest) g.visits s)) (g.visits ++ news) rest s
       (λ stops. subst (λ (vs : List Visit). Grown vs (walk_by later zero (line rule t) at entry o (pass_state (answers_of news ++ rest) g.visits s)).state.visits)
       (sym (unvisited State kind kept answering rule at g.past g.visits g.state stops)) (grows later (line rule t) zero at entry o (pass_state (answers_of news ++ rest) g.visits s)))
       (λ runs all.
       let one : v.state.visits ≡ g.visits ++ visit at v.answer ∷ [] = visited State kind kept answering rule at g.past g.visits g.state runs in
-      let more : Grown v.state.visits (past_end answering v.deciding v.state).state.visits =
+      let more : Grown v.state.visits (the_rest answering v.deciding v.state).state.visits =
       state_onward (PassState State) (next_of (action_at rule.control v.deciding) left (new v.deciding)) _ _ (λ (x : PassState State). Grown v.state.visits x.visits)
       (λ n. grows answering t n (at + 1) entry (last v.deciding) v.state) (grown_same _ _ refl) in
       let split : visit at v.answer ∷ more.0 ≡ news =
       append_cancel_left g.visits (visit at v.answer ∷ more.0) news (sym (append_assoc g.visits (visit at v.answer ∷ []) more.0) ∙ ap (λ (vs : List Visit). vs ++ more.0) (sym one) ∙ sym more.1 ∙ all) in
       let d : Code = decides kind kept at v.answer in
       let same : v.deciding ≡ d = decides_at answering rule at g.past g.visits g.state in
-      let goes : Again (past_end answering v.deciding v.state) (past_end later v.deciding (pass_state (answers_of more.0 ++ rest) v.state.visits s)) rest s =
+      let goes : Again (the_rest answering v.deciding v.state) (the_rest later v.deciding (pass_state (answers_of more.0 ++ rest) v.state.visits s)) rest s =
       again_next (next_of (action_at rule.control v.deciding) left (new v.deciding)) _ _ _ _ (v.state.visits ++ more.0) rest s
       (λ n is'. again answering later t n (at + 1) entry (last v.deciding) v.state more.0 rest s is')
       (λ is'.
@@ -119,9 +119,9 @@ module _ (State : Type 0) (kind : PassKind) (kept : KeptAnswers) where
         put_off = λ e. absurd (true≢false (sym e));
       })
       more.1 in
-      subst (λ (vs : List Visit). Again (past_end answering v.deciding v.state) (walk_by later zero (line rule t) at entry o (pass_state (answers_of vs ++ rest) g.visits s)) rest s) split
-      (subst (λ (vs : List Visit). Again (past_end answering v.deciding v.state) (past_end later d (pass_state (answers_of more.0 ++ rest) vs s)) rest s) one
-      (subst (λ (k : Code). Again (past_end answering v.deciding v.state) (past_end later k (pass_state (answers_of more.0 ++ rest) v.state.visits s)) rest s) same goes)))
+      subst (λ (vs : List Visit). Again (the_rest answering v.deciding v.state) (walk_by later zero (line rule t) at entry o (pass_state (answers_of vs ++ rest) g.visits s)) rest s) split
+      (subst (λ (vs : List Visit). Again (the_rest answering v.deciding v.state) (the_rest later d (pass_state (answers_of more.0 ++ rest) vs s)) rest s) one
+      (subst (λ (k : Code). Again (the_rest answering v.deciding v.state) (the_rest later k (pass_state (answers_of more.0 ++ rest) v.state.visits s)) rest s) same goes)))
       is
   again answering later (sub inner t) zero at entry o g news rest s is =
       let inside : Walked (PassState State) = walk_by answering zero inner at o o g in

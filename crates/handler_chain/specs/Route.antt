@@ -47,8 +47,8 @@ abbrev pub met : Bool → Met
 met negative = record { places = []; negative = negative; lacks = false }
 
 -- what is met, with lines that were met before
-abbrev pub past_end : List ℕ → Met → Met
-past_end places m = record { places = places ++ m.places; negative = m.negative; lacks = m.lacks }
+abbrev pub with_met : List ℕ → Met → Met
+with_met places m = record { places = places ++ m.places; negative = m.negative; lacks = m.lacks }
 
 abbrev pub onto : Next → (ℕ → Met) → Met → Met
 onto (after n) rest here = rest n
@@ -57,7 +57,7 @@ onto stop rest here = here
 -- a line that acts by its cached code
 abbrev pub met_at : ℕ → Option Code → Bool → (Code → Met) → Met
 met_at at None negative on = record { places = at ∷ []; negative = negative; lacks = true }
-met_at at (Some answer) negative on = past_end (at ∷ []) (on answer)
+met_at at (Some answer) negative on = with_met (at ∷ []) (on answer)
 
 -- The lines that are run of a stack whose first line has the rule number `at`, with its first n
 -- nodes skipped. Of the state only whether it is negative is tracked, and each line acts by its
@@ -76,7 +76,7 @@ route_from kept zero (line rule rest) at entry now = met_at at (kept at) now (λ
 route_from kept zero (sub inner rest) at entry now =
     let inside = route_from kept zero inner at now now in
     if inside.lacks then inside
-    else past_end inside.places (route_from kept zero rest (at + lines_in inner) entry
+    else with_met inside.places (route_from kept zero rest (at + lines_in inner) entry
     inside.negative)
 
 -- the rule numbers of the lines that a run of a whole stack meets, in order

@@ -60,10 +60,10 @@ module _ (players : List Player) (number : Code → ℕ → ℕ) (flags : ℕ) w
       → GoesAs players Authenticate flags past first h (authentication players number flags past (record h { room = r }) w)
   authentication_goes past first h r w same =
       let p : Passed = passed players Authenticate flags kinds.Keep h.authenticated h.stacks.auth past (state_of r w) in
-      let past_end : Leaves p.code (record h { room = p.state.room; authenticated = p.kept; pending = pending_after Authenticate None p.paused }) _ =
+      let as_after : Leaves p.code (record h { room = p.state.room; authenticated = p.kept; pending = pending_after Authenticate None p.paused }) _ =
       authenticated_leaves number p.paused p.code (record h { room = p.state.room; authenticated = p.kept; pending = pending_after Authenticate None p.paused })
       p.state.world in
-      record { begun = state_of r w; trail = same; code = past_end.code_is; held = past_end.held_is; told = past_end.trail_is; stacks = past_end.stacks_is }
+      record { begun = state_of r w; trail = same; code = as_after.code_is; held = as_after.held_is; told = as_after.trail_is; stacks = as_after.stacks_is }
 
   credentials_go : (past : List Code) (first : Option KeptAnswers) (h : PlainHandle) (w : PlainWorld)
       → GoesAs players SetCred flags past first h (credentials players flags past h w)
@@ -100,15 +100,15 @@ module _ (players : List Player) (number : Code → ℕ → ℕ) (flags : ℕ) w
       → Changes h (calls.update (asking_by players flags) h.stacks first past (held_in h) (state_of h.room w)) (update players flags first past h w)
   update_changes first past h w =
       let p : Passed = passed players ChAuthTok (bit_or flags update_authtok) kinds.Follow first h.stacks.password past (state_of h.room w) in
-      let past_end : Leaves p.code (record h { room = p.state.room; pending = pending_after ChAuthTok first p.paused }) _ =
+      let as_after : Leaves p.code (record h { room = p.state.room; pending = pending_after ChAuthTok first p.paused }) _ =
       changed_leaves p.paused p.code (record h { room = p.state.room; pending = pending_after ChAuthTok first p.paused }) p.state.world in
-      record { code = past_end.code_is; held = past_end.held_is; told = past_end.trail_is; stacks = past_end.stacks_is }
+      record { code = as_after.code_is; held = as_after.held_is; told = as_after.trail_is; stacks = as_after.stacks_is }
 
   rest_changes : (code : Code) (paused : Option (List Code)) (h : PlainHandle) (w : PlainWorld)
       → Changes h (went code (held_in h) (state_of h.room w)) (changed paused code h w)
   rest_changes code paused h w =
-      let past_end : Leaves code h (changed paused code h w) = changed_leaves paused code h w in
-      record { code = past_end.code_is; held = past_end.held_is; told = past_end.trail_is; stacks = past_end.stacks_is }
+      let as_after : Leaves code h (changed paused code h w) = changed_leaves paused code h w in
+      record { code = as_after.code_is; held = as_after.held_is; told = as_after.trail_is; stacks = as_after.stacks_is }
 
   after_changes : (code : Code) (paused : Option (List Code)) (kept : Option KeptAnswers) (h : PlainHandle) (w : PlainWorld)
       → Changes h (calls.after_check (asking_by players flags) h.stacks code kept (held_in h) (state_of h.room w))
@@ -121,23 +121,23 @@ module _ (players : List Player) (number : Code → ℕ → ℕ) (flags : ℕ) w
   check_changes past h r w =
       let p : Passed = passed players ChAuthTok (bit_or flags prelim_check) kinds.Keep None h.stacks.password past (state_of r w) in
       let h' : PlainHandle = record h { room = p.state.room; pending = pending_after ChAuthTok None p.paused } in
-      let past_end : Changes h' (calls.after_check (asking_by players flags) h.stacks p.code p.kept (held_in h') p.state)
+      let as_after : Changes h' (calls.after_check (asking_by players flags) h.stacks p.code p.kept (held_in h') p.state)
       (after_check players flags p.code p.paused p.kept h' p.state.world) =
       after_changes p.code p.paused p.kept h' p.state.world in
-      record { code = past_end.code; held = past_end.held; told = past_end.told; stacks = past_end.stacks }
+      record { code = as_after.code; held = as_after.held; told = as_after.told; stacks = as_after.stacks }
 
   begins_change : (h : PlainHandle) (r : PlainRoom) (w : PlainWorld) (past : List Code) → r.transaction.trail ≡ h.room.transaction.trail
       → GoesAs players ChAuthTok flags past None h (check players flags past (record h { room = r }) w)
   begins_change h r w past same =
-      let past_end : Changes h _ _ = check_changes past h r w in
-      record { begun = state_of r w; trail = same; code = past_end.code; held = past_end.held; told = past_end.told; stacks = past_end.stacks }
+      let as_after : Changes h _ _ = check_changes past h r w in
+      record { begun = state_of r w; trail = same; code = as_after.code; held = as_after.held; told = as_after.told; stacks = as_after.stacks }
 
   change_goes : (past : List Code) (first : Option KeptAnswers) (h : PlainHandle) (w : PlainWorld)
       → GoesAs players ChAuthTok flags past first h (change_goes_on players flags past first h w)
   change_goes past None h w = begins_change h h.room w past refl
   change_goes past (Some first) h w =
-      let past_end : Changes h _ _ = update_changes (Some first) past h w in
-      record { begun = state_of h.room w; trail = refl; code = past_end.code; held = past_end.held; told = past_end.told; stacks = past_end.stacks }
+      let as_after : Changes h _ _ = update_changes (Some first) past h w in
+      record { begun = state_of h.room w; trail = refl; code = as_after.code; held = as_after.held; told = as_after.told; stacks = as_after.stacks }
 
   unless_flagged : (b : Bool) (x y : Called) (P : Called → Type 0) → b ≡ false → P y → P (if b then x else y)
   unless_flagged true x y P own there = absurd (true≢false own)

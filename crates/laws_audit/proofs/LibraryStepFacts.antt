@@ -328,7 +328,7 @@ module _ (players : List Player) (number_of : Code → ℕ → ℕ) (stacks : St
   -- ---- one step
 
   on_after : (places next : List SlotLog) (b : Block) → after_block stacks places b ≡ Some next → fold stacks places (b ∷ []) ≡ Some next
-  on_after places next b is = ap (λ (x : Option (List SlotLog)). fold_on stacks x (λ past_end. fold stacks past_end [])) is
+  on_after places next b is = ap (λ (x : Option (List SlotLog)). fold_on stacks x (λ new_logs. fold stacks new_logs [])) is
 
   -- what is shown of a step on a place that is there
   shown_fits : (slots : List PlainSlot) (number : ℕ) (call : AppCall) (slot : PlainSlot) (s : SlotStepped) (told : List Told) (shown : Option Shown)

@@ -32,15 +32,15 @@ tail_in (b ∷ bs) = bs
 -- what is before the last slash, and what is after it
 record Cut (xs ys u v : List ℕ) : Type 0 where
   pub before : xs ≡ ys
-  pub past_end : u ≡ v
+  pub the_rest : u ≡ v
 
 cut : (xs ys u v : List ℕ) → IsPart u → IsPart v → xs ++ 47 ∷ u ≡ ys ++ 47 ∷ v → Cut xs ys u v
-cut [] [] u v pu pv e = record { before = refl; past_end = ap tail_in e }
+cut [] [] u v pu pv e = record { before = refl; the_rest = ap tail_in e }
 cut [] (y ∷ ys) u v pu pv e = absurd (no_part ys v (subst IsPart (ap tail_in e) pu))
 cut (x ∷ xs) [] u v pu pv e = absurd (no_part xs u (subst IsPart (sym (ap tail_in e)) pv))
 cut (x ∷ xs) (y ∷ ys) u v pu pv e =
     let c = cut xs ys u v pu pv (ap tail_in e) in
-    record { before = ap (λ (b : ℕ). b ∷ xs) (ap head_in e) ∙ ap (λ (bs : List ℕ). y ∷ bs) c.before; past_end = c.past_end }
+    record { before = ap (λ (b : ℕ). b ∷ xs) (ap head_in e) ∙ ap (λ (bs : List ℕ). y ∷ bs) c.before; the_rest = c.the_rest }
 
 -- ---- a user's file
 
@@ -68,7 +68,7 @@ module _ (root folder user : List ℕ) (apart : IsApart folder) (named : is_no_f
   differs front part name is_part is_name other e =
       let c = cut (front ++ 47 ∷ part) (above ++ 47 ∷ apart.last) name user is_name (user_is_part user named) (e ∙ path_is) in
       let d = cut front above part apart.last is_part apart.part c.before in
-      other (sym d.past_end)
+      other (sym d.the_rest)
 
   pub no_shadow : (other : List ℕ) → path_of other (codes "/etc/shadow") ≡ tally_path root folder user → ⊥
   unfolding path_of

@@ -60,8 +60,8 @@ with_after_slot front x y slots = ap (λ (n : ℕ). with_slot (front ++ x ∷ sl
 module _ (players : List Player) (status : Code) (stacks : Stacks) where
   -- what follows fits, and leads to some places
   record FitsOn (places : List SlotLog) (blocks : List Block) : Type 0 where
-    past_end : List SlotLog
-    fits : fold stacks places blocks ≡ Some past_end
+    new_logs : List SlotLog
+    fits : fold stacks places blocks ≡ Some new_logs
 
   moved : (front slots : List PlainSlot) (x : PlainSlot) (blocks : List Block) → FitsOn (places_of ((front ++ x ∷ []) ++ slots)) blocks
       → FitsOn (places_of (front ++ x ∷ slots)) blocks
@@ -81,7 +81,7 @@ module _ (players : List Player) (status : Code) (stacks : Stacks) where
       ∙ ap (λ (x : List SlotLog). Some x) (with_place-of slots' (length front + 1) y ∙ ap places_of (with_after_slot front (opened h) y slots))
 
   closings_fit : (front slots : List PlainSlot) (w : PlainWorld) → FitsOn (places_of (front ++ slots)) (closing_blocks players status front slots w)
-  closings_fit front [] w = record { past_end = places_of (front ++ []); fits = refl }
+  closings_fit front [] w = record { new_logs = places_of (front ++ []); fits = refl }
   closings_fit front (closed conv ∷ slots) w = moved front slots (closed conv) _ (closings_fit (front ++ closed conv ∷ []) slots w)
   closings_fit front (opened h ∷ slots) w =
       let v : PlainWorld = world_after players status h w in
@@ -89,7 +89,7 @@ module _ (players : List Player) (status : Code) (stacks : Stacks) where
       let rest : FitsOn (places_of (front ++ y ∷ slots)) (closing_blocks players status (front ++ y ∷ []) slots v) =
       moved front slots y _ (closings_fit (front ++ y ∷ []) slots v) in
       record {
-        past_end = rest.past_end;
+        new_logs = rest.new_logs;
         fits = ap (λ (x : Option (List SlotLog)). fold_on stacks x (λ p. fold stacks p (closing_blocks players status (front ++ y ∷ []) slots v)))
             (one_closed front slots h y w v refl) ∙ rest.fits;
       }
@@ -166,12 +166,12 @@ runs_fit AreSuch prints setting stacks ending start end input taken left text e 
     ∙ ap (λ (t : List ℕ). e.body ++ t) (closings_print_all setting.players (ending_status ending) stacks by [] e.last.slots e.last.world) in
     let sixteen : length e.last.slots ≡ 16 = sym (length-map e.last.slots place_of)
     ∙ fold_length stacks all_shut (run_blocks setting 0 start ls) (places_of e.last.slots) first in
-    let whole : fold stacks all_shut (run_blocks setting 0 start ls ++ closes) ≡ Some f.past_end =
+    let whole : fold stacks all_shut (run_blocks setting 0 start ls ++ closes) ≡ Some f.new_logs =
     fold-append stacks all_shut (run_blocks setting 0 start ls) closes (places_of e.last.slots) first ∙ f.fits in
     let all_formed : AreBlocks (run_blocks setting 0 start ls ++ closes) =
     blocks_whole (run_blocks setting 0 start ls ++ closes) (both_formed (run_blocks setting 0 start ls) closes (run_formed setting 0 start ls)
     (closings_formed setting.players (ending_status ending) [] e.last.slots e.last.world 16 sixteen (omega arith)))
-    (fits_seen stacks all_shut (run_blocks setting 0 start ls ++ closes) f.past_end printable whole) in
+    (fits_seen stacks all_shut (run_blocks setting 0 start ls ++ closes) f.new_logs printable whole) in
     record {
       blocks = run_blocks setting 0 start ls ++ closes;
       last = last_of ending e.lines;
@@ -180,7 +180,7 @@ runs_fit AreSuch prints setting stacks ending start end input taken left text e 
           ∙ ap (λ (t : List ℕ). blocks_text (run_blocks setting 0 start ls ++ closes) ++ t) (last_prints by ending e.lines);
       formed = all_formed;
       ended = last_ends ending e.lines;
-      places = f.past_end;
+      places = f.new_logs;
       fits = whole;
     }
 

@@ -45,10 +45,10 @@ few_named : (named : Bool) (written : ℕ) (fault : Option SettingFault) → (if
 few_named true written fault e few = let small = few e in omega (arith, small)
 few_named false written fault e few = omega arith
 
-rounds_sound : (past_end : List ℕ) → rounds_fault past_end ≡ None → unwrap_or (rounds_named past_end) 5000 ≤ 1000000
-rounds_sound past_end e =
-    let field : List ℕ = rounds_field past_end in
-    few_named (names_rounds past_end) (rounds_written field) (field_fault field) e
+rounds_sound : (the_rest : List ℕ) → rounds_fault the_rest ≡ None → unwrap_or (rounds_named the_rest) 5000 ≤ 1000000
+rounds_sound the_rest e =
+    let field : List ℕ = rounds_field the_rest in
+    few_named (names_rounds the_rest) (rounds_written field) (field_fault field) e
     (λ f. ltb-false 1000000 (rounds_written field) (few_written (are_rounds field) (nat_lt 1000000 (rounds_written field)) f))
 
 -- ---- its digest
@@ -76,14 +76,14 @@ record Suits (size : ℕ) (s : Asked) : Type 0 where
   some : 0 < size
   few : rounds_of s ≤ 1000000
 
-suits_sound : (size : ℕ) (past_end : List ℕ) (made s : Asked) → ((text : List ℕ) → length (digest made.method text) ≡ size)
+suits_sound : (size : ℕ) (the_rest : List ℕ) (made s : Asked) → ((text : List ℕ) → length (digest made.method text) ≡ size)
     → ((text : List ℕ) → slice_index (digest made.method text) 0 < 256) → 0 < size
-    → made.rounds ≡ rounds_named past_end → asked_or (option_or (rounds_fault past_end) (salt_fault (salt_in (past_rounds past_end)))) made ≡ Ok s → Suits size s
-suits_sound size past_end made s sized first some named e =
-    let d = sound (option_or (rounds_fault past_end) (salt_fault (salt_in (past_rounds past_end)))) made s e in
-    let few : unwrap_or (rounds_named past_end) 5000 ≤ 1000000 =
-    rounds_sound past_end (both_none (rounds_fault past_end) (salt_fault (salt_in (past_rounds past_end))) d.none) in
-    let same : rounds_of made ≡ unwrap_or (rounds_named past_end) 5000 = ap (λ (r : Option ℕ). unwrap_or r 5000) named in
+    → made.rounds ≡ rounds_named the_rest → asked_or (option_or (rounds_fault the_rest) (salt_fault (salt_in (past_rounds the_rest)))) made ≡ Ok s → Suits size s
+suits_sound size the_rest made s sized first some named e =
+    let d = sound (option_or (rounds_fault the_rest) (salt_fault (salt_in (past_rounds the_rest)))) made s e in
+    let few : unwrap_or (rounds_named the_rest) 5000 ≤ 1000000 =
+    rounds_sound the_rest (both_none (rounds_fault the_rest) (salt_fault (salt_in (past_rounds the_rest))) d.none) in
+    let same : rounds_of made ≡ unwrap_or (rounds_named the_rest) 5000 = ap (λ (r : Option ℕ). unwrap_or r 5000) named in
     subst (Suits size) d.same (record { sized = sized; first = first; some = some; few = omega (arith, few, same) })
 
 -- by what the setting begins with

@@ -85,10 +85,10 @@ are_same : (a b : Code) → same_code a b ≡ true → a ≡ b
 are_same a b e =
     sym (numbered a) ∙ ap (λ (n : ℕ). get_or all_codes n codes.Success) (eqb-true (number_of a) (number_of b) e) ∙ numbered b
 
-some_place : (places : List SlotLog) (number : ℕ) (next : Option SlotLog) (past_end : List SlotLog) (stacks : Stacks)
-    → with_after stacks places number next ≡ Some past_end → next ≡ None → ⊥
-some_place places number None past_end stacks e is = absurd cc
-some_place places number (Some place) past_end stacks e is = absurd cc
+some_place : (places : List SlotLog) (number : ℕ) (next : Option SlotLog) (new_logs : List SlotLog) (stacks : Stacks)
+    → with_after stacks places number next ≡ Some new_logs → next ≡ None → ⊥
+some_place places number None new_logs stacks e is = absurd cc
+some_place places number (Some place) new_logs stacks e is = absurd cc
 
 only_true : (b : Bool) (place : SlotLog) → (only_if b place ≡ None → ⊥) → b ≡ true
 only_true true place e = refl
@@ -120,13 +120,13 @@ if_not_refused true code x y plain e = absurd (true≢false plain)
 if_not_refused false code x y plain e = e
 
 pub fitting_calls_end_with_their_code : FittingCallsEndWithTheirCode
-fitting_calls_end_with_their_code stacks sources places past_end number told func code h opened fits plain =
+fitting_calls_end_with_their_code stacks sources places new_logs number told func code h opened fits plain =
     let vs = visits_told told in
     let result = answered (runs func) (shows_code code) in
-    let there : with_after stacks places number (at_call stacks func code vs h) ≡ Some past_end =
+    let there : with_after stacks places number (at_call stacks func code vs h) ≡ Some new_logs =
     ap (after_at stacks places (block_of number told result)) (sym opened) ∙ fits in
     let same : code ≡ (goes as_told stacks func h (telling vs)).code = code_told stacks func code told h plain
-    (some_place places number (at_call stacks func code vs h) past_end stacks there) in
+    (some_place places number (at_call stacks func code vs h) new_logs stacks there) in
     let text : List ℕ = call_text stacks sources number func h (telling vs) in
     let ends : EndsWith code text = subst (λ (c : Code). EndsWith c text) (sym same) (calls_end_with_their_code stacks sources number func h (telling vs)) in
     subst (λ (p : Option SlotLog). EndsWith code (block_text stacks sources number p vs result)) (sym opened)

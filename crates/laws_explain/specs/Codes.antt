@@ -59,11 +59,11 @@ CallsEndWithTheirCode =
 -- of a call in a report, if the report fits the stacks up to its result
 abbrev pub FittingCallsEndWithTheirCode : Type 0
 FittingCallsEndWithTheirCode =
-    (stacks : Stacks) (sources : Sources) (places past_end : List SlotLog) (number : ℕ)
+    (stacks : Stacks) (sources : Sources) (places new_logs : List SlotLog) (number : ℕ)
     (told : List Told) (func : Func) (code : Code) (h : Held) →
     let result = answered (runs func) (shows_code code) in
     place_at places number ≡ Some (running h) →
-    after_block stacks places (block_of number told result) ≡ Some past_end →
+    after_block stacks places (block_of number told result) ≡ Some new_logs →
     is_refused_change func code (visits_told told) ≡ false →
     EndsWith code
     (block_text stacks sources number (place_at places number) (visits_told told) result)

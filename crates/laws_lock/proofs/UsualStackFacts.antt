@@ -40,8 +40,8 @@ module _ (State : Type 0) (kept : KeptAnswers) (answering : Answering State) whe
   }
 
   -- what follows it, by its action
-  abbrev past_end : Action → Stack → ℕ → Opinion → Served (PassState State) → Walked (PassState State)
-  past_end action rest at o served =
+  abbrev rest_run : Action → Stack → ℕ → Opinion → Served (PassState State) → Walked (PassState State)
+  rest_run action rest at o served =
       let new = acted kinds.Keep action served.answer served.deciding opening o in
       let last = new_or_overrun action (count rest) new in
       if served.stopped then halted o served.state
@@ -51,11 +51,11 @@ module _ (State : Type 0) (kept : KeptAnswers) (answering : Answering State) whe
   step : (rule : Rule) (rest : Stack) (at : ℕ) (o : Opinion) (visits : List Visit) (s : State) (action : Action) (a : Answered State)
       → answering rule at s ≡ a → action_at rule.control a.answer ≡ action → is_incomplete a.answer ≡ false
       → walk kinds.Keep (serving kinds.Keep kept answering) 0 (line rule rest) at opening o (pass_state [] visits s)
-      ≡ past_end action rest at o (ran false at visits a)
+      ≡ rest_run action rest at o (ran false at visits a)
   step rule rest at o visits s action a is acts whole =
-      ap (λ (x : Answered State). past_end (action_at rule.control x.answer) rest at o (served_now kinds.Keep kept at visits x)) is
-      ∙ ap (λ (x : Action). past_end x rest at o (served_now kinds.Keep kept at visits a)) acts
-      ∙ ap (λ (b : Bool). past_end action rest at o (ran b at visits a)) whole
+      ap (λ (x : Answered State). rest_run (action_at rule.control x.answer) rest at o (served_now kinds.Keep kept at visits x)) is
+      ∙ ap (λ (x : Action). rest_run x rest at o (served_now kinds.Keep kept at visits a)) acts
+      ∙ ap (λ (b : Bool). rest_run action rest at o (ran b at visits a)) whole
 
   module _ (first second third : Rule) (rest : Stack) (s s1 s2 s3 : State) (refusal : Code) where
     pub record Ends (w : Walked (PassState State)) : Type 0 where

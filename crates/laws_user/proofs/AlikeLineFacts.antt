@@ -61,8 +61,8 @@ module _ (func : Func) (folder user root : List ℕ) (moment : ℕ) (distinct : 
 
   module _ (timely : IsTimely func moment) (players : List Player) (flags : ℕ) where
     -- what a module's call leads to
-    abbrev past_end : State → Played → Answered
-    past_end s p = record {
+    abbrev answered : State → Played → Answered
+    answered s p = record {
       answer = answer_or_incomplete p.room.put_off p.code;
       state = swept (notes_of players) (with_scene (with_played p (scene_in s)) s);
     }
@@ -72,11 +72,11 @@ module _ (func : Func) (folder user root : List ℕ) (moment : ℕ) (distinct : 
     in_vault v s = record s { world = record s.world { vault = v } }
 
     after_alike : (s : State) (others left : List File) (p : Played) → s.world.process.root ≡ root → s.world.clock.moment ≡ moment → p.room.items.user ≡ Some user
-        → LookSameTo func folder user root p.files left → AnswersAlike (past_end s p) (past_end (in_files others s) (record p { files = left }))
+        → LookSameTo func folder user root p.files left → AnswersAlike (answered s p) (answered (in_files others s) (record p { files = left }))
     after_alike s others left p root_is moment_is is look = record {
       answer = refl;
       state = record {
-        rest = ap (λ (v : VaultState). in_vault (record v { files = left; locks = p.locks s.world.vault.calls s.world.vault.locks }) (past_end s p).state)
+        rest = ap (λ (v : VaultState). in_vault (record v { files = left; locks = p.locks s.world.vault.calls s.world.vault.locks }) (answered s p).state)
             (sym (calls_put p.calls others s.world.vault));
         user_is = is;
         root_is = root_is;
@@ -112,7 +112,7 @@ module _ (func : Func) (folder user root : List ℕ) (moment : ℕ) (distinct : 
         (back root root_is look) in
         let left : LookSameTo func folder user root p.files there.files =
         subst (λ (r : List ℕ). LookSameTo func folder user r p.files there.files) root_is own.same.look in
-        subst (λ (x : Played). AnswersAlike (past_end now p) (past_end (in_files others now) x)) (with_left p there own.same.rest ∙ same_sight)
+        subst (λ (x : Played). AnswersAlike (answered now p) (answered (in_files others now) x)) (with_left p there own.same.rest ∙ same_sight)
         (after_alike now others there.files p root_is moment_is own.user_is left)
 
     -- a line that changes nothing

@@ -69,22 +69,22 @@ module _ (stacks : Stacks) (func : Func) (h : Held) (more : List Visited) (begin
       ∙ told_is more in
       all_run ran.state.visits ran.state.state (visits_in more) whole left
 
-  one_pass_ran : func ≢ ChAuthTok → (code : Code) (past_end : Held) → goes as_traced stacks func h traced ≡ went code past_end (telling []) → ran.stopped ≡ false
+  one_pass_ran : func ≢ ChAuthTok → (code : Code) (new_held : Held) → goes as_traced stacks func h traced ≡ went code new_held (telling []) → ran.stopped ≡ false
       → ran.state.visits ≡ visits_in more
-  one_pass_ran other code past_end leads ends =
+  one_pass_ran other code new_held leads ends =
       ran_is ends (sym (one_pass_is as_traced stacks func h traced other).1 ∙ ap (λ (g : Went Telling). g.state) leads)
 
-  code_ran : func ≢ ChAuthTok → (code : Code) (past_end : Held) → goes as_traced stacks func h traced ≡ went code past_end (telling []) → code_of ran ≡ code
-  code_ran other code past_end leads =
+  code_ran : func ≢ ChAuthTok → (code : Code) (new_held : Held) → goes as_traced stacks func h traced ≡ went code new_held (telling []) → code_of ran ≡ code
+  code_ran other code new_held leads =
       sym (one_pass_is as_traced stacks func h traced other).0 ∙ ap (λ (g : Went Telling). g.code) leads
 
 pub traced_calls : TracedCallsGrantedBy
-traced_calls possible counts ways stacks func h past_end before later other begins all call =
+traced_calls possible counts ways stacks func h new_held before later other begins all call =
     let w : Walked (PassState Telling) = ran stacks func h call.more begins in
     let leads = call.leads [] in
     let visits_are : w.state.visits ≡ visits_in call.more =
-    one_pass_ran stacks func h call.more begins other codes.Success past_end leads
-    (by_code w.stopped w.opinion (code_ran stacks func h call.more begins other codes.Success past_end leads)).0 in
+    one_pass_ran stacks func h call.more begins other codes.Success new_held leads
+    (by_code w.stopped w.opinion (code_ran stacks func h call.more begins other codes.Success new_held leads)).0 in
     subst (λ (vs : List Visit). GrantedOf possible counts (stack_of_call func stacks) ways (answers_held (cached_for func h)) vs
     (kind_of func (cached_for func h))) visits_are
     (calls_granted_by Telling possible counts ways as_traced stacks func h (traced stacks func h call.more begins) (ap first_in begins) all
@@ -102,17 +102,17 @@ if_ended true code is = absurd (true≢false is)
 if_ended false code is = refl
 
 pub traced_authentication : TracedAuthenticationCaches
-traced_authentication possible stacks h past_end before later code begins ended call are =
+traced_authentication possible stacks h new_held before later code begins ended call are =
     let t : Telling = traced stacks Authenticate h call.more begins in
     let w : Walked (PassState Telling) = ran stacks Authenticate h call.more begins in
     let leads = call.leads [] in
     let ends : w.stopped ≡ false =
     ended_none Authenticate None w.stopped (answers_of w.state.visits) (ap (λ (g : Went Telling). g.held.pending) leads ∙ ended) in
     let visits_are : w.state.visits ≡ visits_in call.more =
-    one_pass_ran stacks Authenticate h call.more begins (λ same. cc) code past_end leads ends in
+    one_pass_ran stacks Authenticate h call.more begins (λ same. cc) code new_held leads ends in
     record {
       end = w.opinion;
-      code_is = sym (code_ran stacks Authenticate h call.more begins (λ same. cc) code past_end leads) ∙ if_ended w.stopped (verdict w.opinion) ends;
+      code_is = sym (code_ran stacks Authenticate h call.more begins (λ same. cc) code new_held leads) ∙ if_ended w.stopped (verdict w.opinion) ends;
       are_cached = subst (λ (cached : Option KeptAnswers). AreCached possible stacks.auth (visits_in call.more) w.opinion cached)
           (ap (λ (g : Went Telling). g.held.authenticated) leads)
           (subst (λ (vs : List Visit). AreCached possible stacks.auth vs w.opinion (goes as_traced stacks Authenticate h t).held.authenticated) visits_are
@@ -120,17 +120,17 @@ traced_authentication possible stacks h past_end before later code begins ended 
     }
 
 pub traced_session : TracedSessionCaches
-traced_session possible stacks h past_end before later code begins ended call are =
+traced_session possible stacks h new_held before later code begins ended call are =
     let t : Telling = traced stacks OpenSession h call.more begins in
     let w : Walked (PassState Telling) = ran stacks OpenSession h call.more begins in
     let leads = call.leads [] in
     let ends : w.stopped ≡ false =
     ended_none OpenSession None w.stopped (answers_of w.state.visits) (ap (λ (g : Went Telling). g.held.pending) leads ∙ ended) in
     let visits_are : w.state.visits ≡ visits_in call.more =
-    one_pass_ran stacks OpenSession h call.more begins (λ same. cc) code past_end leads ends in
+    one_pass_ran stacks OpenSession h call.more begins (λ same. cc) code new_held leads ends in
     record {
       end = w.opinion;
-      code_is = sym (code_ran stacks OpenSession h call.more begins (λ same. cc) code past_end leads) ∙ if_ended w.stopped (verdict w.opinion) ends;
+      code_is = sym (code_ran stacks OpenSession h call.more begins (λ same. cc) code new_held leads) ∙ if_ended w.stopped (verdict w.opinion) ends;
       are_cached = subst (λ (cached : Option KeptAnswers). AreCached possible stacks.session (visits_in call.more) w.opinion cached)
           (ap (λ (g : Went Telling). g.held.opened) leads)
           (subst (λ (vs : List Visit). AreCached possible stacks.session vs w.opinion (goes as_traced stacks OpenSession h t).held.opened) visits_are
@@ -155,21 +155,21 @@ by_cached possible counts ways stack first later code cached used cache same gra
     }
 
 pub traced_credentials : TracedCredentialsGrantedBy
-traced_credentials possible counts ways stacks h past_end h' past_end' before after before' after' code all begins ended same begins' first are later =
-    by_cached possible counts ways stacks.auth (visits_in first.more) (visits_in later.more) code past_end.authenticated h'.authenticated
-    (traced_authentication possible stacks h past_end before after code begins ended first are) same
-    (traced_calls possible counts ways stacks SetCred h' past_end' before' after' (λ is. cc) begins' all later)
+traced_credentials possible counts ways stacks h new_held h' new_held' before after before' after' code all begins ended same begins' first are later =
+    by_cached possible counts ways stacks.auth (visits_in first.more) (visits_in later.more) code new_held.authenticated h'.authenticated
+    (traced_authentication possible stacks h new_held before after code begins ended first are) same
+    (traced_calls possible counts ways stacks SetCred h' new_held' before' after' (λ is. cc) begins' all later)
 
 pub traced_closing : TracedClosingGrantedBy
-traced_closing possible counts ways stacks h past_end h' past_end' before after before' after' code all begins ended same begins' first are later =
-    by_cached possible counts ways stacks.session (visits_in first.more) (visits_in later.more) code past_end.opened h'.opened
-    (traced_session possible stacks h past_end before after code begins ended first are) same
-    (traced_calls possible counts ways stacks CloseSession h' past_end' before' after' (λ is. cc) begins' all later)
+traced_closing possible counts ways stacks h new_held h' new_held' before after before' after' code all begins ended same begins' first are later =
+    by_cached possible counts ways stacks.session (visits_in first.more) (visits_in later.more) code new_held.opened h'.opened
+    (traced_session possible stacks h new_held before after code begins ended first are) same
+    (traced_calls possible counts ways stacks CloseSession h' new_held' before' after' (λ is. cc) begins' all later)
 
 -- ---- a change of token
 
 pub traced_changes : TracedChangesGrantedBy
-traced_changes possible counts ways stacks h past_end before later begins all call are =
+traced_changes possible counts ways stacks h new_held before later begins all call are =
     let t : Telling = telling (seen_in call.more ++ []) in
     let first : Walked (PassState Telling) = check_run as_traced stacks (past_in h.pending) t in
     let begun : Walked (PassState Telling) = check_run as_traced stacks [] t in

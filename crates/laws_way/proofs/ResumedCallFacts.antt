@@ -39,7 +39,7 @@ took_all past t p added Holds m whole left holds =
     }
 
 pub resumed_calls : ResumedCallsGrantedBy
-resumed_calls possible counts ways stacks func h past_end before later other none all call =
+resumed_calls possible counts ways stacks func h new_held before later other none all call =
     let t : Telling = telling (seen_in call.more ++ []) in
     let w : Walked (PassState Telling) = pass_of as_traced stacks func h t in
     let leads = call.leads [] in
@@ -62,7 +62,7 @@ first_ran past t p added m whole =
     ∙ ap (λ (vs : List Visit). vs ++ lines_of p.state.left) (sym m.visits)
 
 pub resumed_changes : ResumedChangesGrantedBy
-resumed_changes possible counts ways stacks h past_end before later none all call =
+resumed_changes possible counts ways stacks h new_held before later none all call =
     let t : Telling = telling (seen_in call.more ++ []) in
     let first : Walked (PassState Telling) = check_run as_traced stacks (past_in h.pending) t in
     let kept : KeptAnswers = kept_in first.state.visits in
@@ -93,7 +93,7 @@ resumed_changes possible counts ways stacks h past_end before later none all cal
     }
 
 pub left_by_trace : LeftInUpdateByTrace
-left_by_trace possible stacks h past_end before later code kept none left call =
+left_by_trace possible stacks h new_held before later code kept none left call =
     let t : Telling = telling (seen_in call.more ++ []) in
     let first : Walked (PassState Telling) = check_run as_traced stacks (past_in h.pending) t in
     let leads = call.leads [] in
@@ -117,7 +117,7 @@ left_by_trace possible stacks h past_end before later code kept none left call =
     }
 
 pub resumed_updates : ResumedUpdatesGrantedBy
-resumed_updates possible counts ways stacks first kept h past_end before later is all cached call =
+resumed_updates possible counts ways stacks first kept h new_held before later is all cached call =
     let t : Telling = telling (seen_in call.more ++ []) in
     let second : Walked (PassState Telling) = update_run as_traced stacks kept (past_in h.pending) t in
     let leads = call.leads [] in

@@ -36,9 +36,9 @@ pub record WithEarlier (past : List Code) (added : List Visit) (Holds : List Vis
 -- a call that begins or is resumed, and returns SUCCESS, goes by a listed way
 abbrev pub ResumedCallsGrantedBy : Type 0
 ResumedCallsGrantedBy = (possible counts : CodesOf) (ways : List Way) (stacks : Stacks)
-    (func : Func) (h past_end : Held) (before after : List Visited) → func ≢ ChAuthTok →
+    (func : Func) (h new_held : Held) (before after : List Visited) → func ≢ ChAuthTok →
     first_in h.pending ≡ None → WaysOf possible counts (stack_of_call func stacks) 1 opening ways →
-    (call : CallsByTrail (λ s. goes as_traced stacks func h s) before after codes.Success past_end) →
+    (call : CallsByTrail (λ s. goes as_traced stacks func h s) before after codes.Success new_held) →
     WithEarlier (past_in h.pending) (visits_in call.more) (λ ran.
     GrantedOf possible counts (stack_of_call func stacks) ways (answers_held (cached_for func h))
     ran (kind_of func (cached_for func h)))
@@ -46,10 +46,10 @@ ResumedCallsGrantedBy = (possible counts : CodesOf) (ways : List Way) (stacks : 
 -- a change of token that begins, or is resumed in its first pass
 abbrev pub ResumedChangesGrantedBy : Type 0
 ResumedChangesGrantedBy = (possible counts : CodesOf) (ways : List Way) (stacks : Stacks)
-    (h past_end : Held) (before after : List Visited) → first_in h.pending ≡ None →
+    (h new_held : Held) (before after : List Visited) → first_in h.pending ≡ None →
     WaysOf possible counts stacks.password 1 opening ways →
     (call : CallsByTrail (λ s. goes as_traced stacks ChAuthTok h s) before after codes.Success
-    past_end) →
+    new_held) →
     WithEarlier (past_in h.pending) (visits_in call.more) (λ ran. ArePossible possible ran →
     TracedChange counts stacks.password ways ran)
 
@@ -63,20 +63,20 @@ pub record FirstIsKept (possible : CodesOf) (stack : Stack) (ran : List Visit) (
 
 -- if it is left incomplete in its second pass, the codes of its first one are kept
 abbrev pub LeftInUpdateByTrace : Type 0
-LeftInUpdateByTrace = (possible : CodesOf) (stacks : Stacks) (h past_end : Held)
+LeftInUpdateByTrace = (possible : CodesOf) (stacks : Stacks) (h new_held : Held)
     (before after : List Visited) (code : Code) (kept : KeptAnswers) →
-    first_in h.pending ≡ None → first_in past_end.pending ≡ Some kept →
-    (call : CallsByTrail (λ s. goes as_traced stacks ChAuthTok h s) before after code past_end) →
+    first_in h.pending ≡ None → first_in new_held.pending ≡ Some kept →
+    (call : CallsByTrail (λ s. goes as_traced stacks ChAuthTok h s) before after code new_held) →
     WithEarlier (past_in h.pending) (visits_in call.more) (λ ran. ArePossible possible ran →
     FirstIsKept possible stacks.password ran kept)
 
 -- and resumed in its second pass, it goes by them
 abbrev pub ResumedUpdatesGrantedBy : Type 0
 ResumedUpdatesGrantedBy = (possible counts : CodesOf) (ways : List Way) (stacks : Stacks)
-    (first : List Visit) (kept : KeptAnswers) (h past_end : Held) (before after : List Visited) →
+    (first : List Visit) (kept : KeptAnswers) (h new_held : Held) (before after : List Visited) →
     first_in h.pending ≡ Some kept → WaysOf possible counts stacks.password 1 opening ways →
     CachedBy possible stacks.password first granted kept →
     (call : CallsByTrail (λ s. goes as_traced stacks ChAuthTok h s) before after codes.Success
-    past_end) →
+    new_held) →
     WithEarlier (past_in h.pending) (visits_in call.more) (λ ran.
     GoesAgain counts stacks.password ways kept first ran granted)

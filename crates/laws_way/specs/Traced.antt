@@ -27,9 +27,9 @@ use Rattle.laws_way.specs.Calls.{AreCached, GrantedOf, cached_for, stack_of_call
 -- it added to the trace: it goes by a listed way.
 abbrev pub TracedCallsGrantedBy : Type 0
 TracedCallsGrantedBy = (possible counts : CodesOf) (ways : List Way) (stacks : Stacks)
-    (func : Func) (h past_end : Held) (before after : List Visited) → func ≢ ChAuthTok →
+    (func : Func) (h new_held : Held) (before after : List Visited) → func ≢ ChAuthTok →
     h.pending ≡ None → WaysOf possible counts (stack_of_call func stacks) 1 opening ways →
-    (call : CallsByTrail (λ s. goes as_traced stacks func h s) before after codes.Success past_end) →
+    (call : CallsByTrail (λ s. goes as_traced stacks func h s) before after codes.Success new_held) →
     GrantedOf possible counts (stack_of_call func stacks) ways (answers_held (cached_for func h))
     (visits_in call.more) (kind_of func (cached_for func h))
 
@@ -47,10 +47,10 @@ pub record TracedChange (counts : CodesOf) (stack : Stack) (ways : List Way) (ra
 -- a change of token that begins and returns SUCCESS goes so
 abbrev pub TracedChangesGrantedBy : Type 0
 TracedChangesGrantedBy = (possible counts : CodesOf) (ways : List Way) (stacks : Stacks)
-    (h past_end : Held) (before after : List Visited) → h.pending ≡ None →
+    (h new_held : Held) (before after : List Visited) → h.pending ≡ None →
     WaysOf possible counts stacks.password 1 opening ways →
     (call : CallsByTrail (λ s. goes as_traced stacks ChAuthTok h s) before after codes.Success
-    past_end) → ArePossible possible (visits_in call.more) →
+    new_held) → ArePossible possible (visits_in call.more) →
     TracedChange counts stacks.password ways (visits_in call.more)
 
 -- a call has ended with this code, and the codes of these lines are cached after it, by a first run
@@ -64,19 +64,19 @@ pub record TracedCache (possible : CodesOf) (stack : Stack) (ran : List Visit) (
 -- so it is after an authentication that begins and ends: setcred goes by the lines that it added to
 -- the trace
 abbrev pub TracedAuthenticationCaches : Type 0
-TracedAuthenticationCaches = (possible : CodesOf) (stacks : Stacks) (h past_end : Held)
-    (before after : List Visited) (code : Code) → h.pending ≡ None → past_end.pending ≡ None →
-    (call : CallsByTrail (λ s. goes as_traced stacks Authenticate h s) before after code past_end) →
+TracedAuthenticationCaches = (possible : CodesOf) (stacks : Stacks) (h new_held : Held)
+    (before after : List Visited) (code : Code) → h.pending ≡ None → new_held.pending ≡ None →
+    (call : CallsByTrail (λ s. goes as_traced stacks Authenticate h s) before after code new_held) →
     ArePossible possible (visits_in call.more) →
-    TracedCache possible stacks.auth (visits_in call.more) code past_end.authenticated
+    TracedCache possible stacks.auth (visits_in call.more) code new_held.authenticated
 
 -- and after an opened session: close_session goes by those
 abbrev pub TracedSessionCaches : Type 0
-TracedSessionCaches = (possible : CodesOf) (stacks : Stacks) (h past_end : Held)
-    (before after : List Visited) (code : Code) → h.pending ≡ None → past_end.pending ≡ None →
-    (call : CallsByTrail (λ s. goes as_traced stacks OpenSession h s) before after code past_end) →
+TracedSessionCaches = (possible : CodesOf) (stacks : Stacks) (h new_held : Held)
+    (before after : List Visited) (code : Code) → h.pending ≡ None → new_held.pending ≡ None →
+    (call : CallsByTrail (λ s. goes as_traced stacks OpenSession h s) before after code new_held) →
     ArePossible possible (visits_in call.more) →
-    TracedCache possible stacks.session (visits_in call.more) code past_end.opened
+    TracedCache possible stacks.session (visits_in call.more) code new_held.opened
 
 -- the lines of the way by which the first of two calls ended, with this code, are run again in the
 -- second, and say yes again
@@ -90,23 +90,23 @@ pub record TracedAgain (counts : CodesOf) (stack : Stack) (ways : List Way)
 -- with any code, and the second returns SUCCESS. So it goes, whatever its lines return.
 abbrev pub TracedCredentialsGrantedBy : Type 0
 TracedCredentialsGrantedBy = (possible counts : CodesOf) (ways : List Way) (stacks : Stacks)
-    (h past_end h' past_end' : Held) (before after before' after' : List Visited) (code : Code) →
+    (h new_held h' new_held' : Held) (before after before' after' : List Visited) (code : Code) →
     WaysOf possible counts stacks.auth 1 opening ways → h.pending ≡ None →
-    past_end.pending ≡ None → h'.authenticated ≡ past_end.authenticated → h'.pending ≡ None →
-    (first : CallsByTrail (λ s. goes as_traced stacks Authenticate h s) before after code past_end) →
+    new_held.pending ≡ None → h'.authenticated ≡ new_held.authenticated → h'.pending ≡ None →
+    (first : CallsByTrail (λ s. goes as_traced stacks Authenticate h s) before after code new_held) →
     ArePossible possible (visits_in first.more) →
     (later : CallsByTrail (λ s. goes as_traced stacks SetCred h' s) before' after' codes.Success
-    past_end') →
+    new_held') →
     TracedAgain counts stacks.auth ways (visits_in first.more) (visits_in later.more) code
 
 -- and close_session after an opened session
 abbrev pub TracedClosingGrantedBy : Type 0
 TracedClosingGrantedBy = (possible counts : CodesOf) (ways : List Way) (stacks : Stacks)
-    (h past_end h' past_end' : Held) (before after before' after' : List Visited) (code : Code) →
+    (h new_held h' new_held' : Held) (before after before' after' : List Visited) (code : Code) →
     WaysOf possible counts stacks.session 1 opening ways → h.pending ≡ None →
-    past_end.pending ≡ None → h'.opened ≡ past_end.opened → h'.pending ≡ None →
-    (first : CallsByTrail (λ s. goes as_traced stacks OpenSession h s) before after code past_end) →
+    new_held.pending ≡ None → h'.opened ≡ new_held.opened → h'.pending ≡ None →
+    (first : CallsByTrail (λ s. goes as_traced stacks OpenSession h s) before after code new_held) →
     ArePossible possible (visits_in first.more) →
     (later : CallsByTrail (λ s. goes as_traced stacks CloseSession h' s) before' after'
-    codes.Success past_end') →
+    codes.Success new_held') →
     TracedAgain counts stacks.session ways (visits_in first.more) (visits_in later.more) code

@@ -36,10 +36,10 @@ module _ (left : List (List ℕ)) (table : List Entry) (whole : Result (List Ent
   ended none =
       sym so_far ∙ (ap (λ (ls : List (List ℕ)). after_these table (entries_in ls)) (none_left left none) ∙ after_all table)
 
-  module _ (next : List (List ℕ)) (line : List ℕ) (here : Some line ≡ slice_get left 0) (past_end : next ≡ drop 1 left)
+  module _ (next : List (List ℕ)) (line : List ℕ) (here : Some line ≡ slice_get left 0) (the_rest : next ≡ drop 1 left)
       (note : is_note line ≡ false) where
     at_line : after_these table (entries_in (line ∷ next)) ≡ whole
-    at_line = sym (ap (λ (ls : List (List ℕ)). after_these table (entries_in ls)) (taken_next left next line here past_end)) ∙ so_far
+    at_line = sym (ap (λ (ls : List (List ℕ)). after_these table (entries_in ls)) (taken_next left next line here the_rest)) ∙ so_far
 
     pub at_bad : ◌≡◌ {A = Option Entry} (entry_in line) None → ◌≡◌ {A = Result (List Entry) (List ℕ)} whole (Err line)
     at_bad none =

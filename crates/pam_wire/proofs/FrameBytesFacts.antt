@@ -52,8 +52,8 @@ step-written : (body : List ℕ) (step : Step) → AreBytes body → step_in bod
 step-written [] step all e = absurd cc
 step-written (b ∷ []) step all e = absurd cc
 step-written (number ∷ kind ∷ rest) step all e =
-    let past_end = All-tail (λ b. b < 256) number (kind ∷ rest) all in
-    step_by_kind number kind rest (call_of_number kind) step (All-head (λ b. b < 256) number (kind ∷ rest) all) (All-tail (λ b. b < 256) kind rest past_end) refl e
+    let the_rest = All-tail (λ b. b < 256) number (kind ∷ rest) all in
+    step_by_kind number kind rest (call_of_number kind) step (All-head (λ b. b < 256) number (kind ∷ rest) all) (All-tail (λ b. b < 256) kind rest the_rest) refl e
 
 -- ---- how long it is
 
@@ -188,10 +188,10 @@ whole-written (a ∷ []) step size all w e = one _ w
     one false w = absurd cc
 whole-written (a ∷ b ∷ more) step size all w e =
     let s = said_of a b more size w in
-    let past_end = All-tail (λ b. b < 256) a (b ∷ more) all in
+    let the_rest = All-tail (λ b. b < 256) a (b ∷ more) all in
     let n : size - 2 ≡ s.said = omega (arith, s.size_is) in
     let e' : step_in (take s.said more) ≡ Some step = rw n at e in
-    let f = written_by a b more step s.said (All-head (λ b. b < 256) a (b ∷ more) all) (All-head (λ b. b < 256) b more past_end) (All-tail (λ b. b < 256) b more past_end) s.said_is s.fits e' in
+    let f = written_by a b more step s.said (All-head (λ b. b < 256) a (b ∷ more) all) (All-head (λ b. b < 256) b more the_rest) (All-tail (λ b. b < 256) b more the_rest) s.said_is s.fits e' in
     rw s.size_is f
 
 abbrev step_or : Step → Next → Step

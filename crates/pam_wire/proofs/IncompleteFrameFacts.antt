@@ -81,8 +81,8 @@ parts_two (a ∷ []) body more is some e =
     first_of (x ∷ xs) = x
 parts_two (a ∷ b ∷ rest) body more is some e =
     let two : to_be_bytes w16 (length body) ≡ a ∷ b ∷ [] = ap (take 2) e in
-    let past_end : body ≡ rest ++ more = ap (drop 2) e in
-    let size : length body ≡ length rest + length more = ap length past_end ∙ length-append rest more in
+    let the_rest : body ≡ rest ++ more = ap (drop 2) e in
+    let size : length body ≡ length rest + length more = ap length the_rest ∙ length-append rest more in
     let said : from_be_bytes w16 (a ∷ b ∷ []) ≡ length body = ap (from_be_bytes w16) (sym two) ∙ said-size body is.1 in
     let less : nat_le (length body) (length rest) ≡ false = lt-leb (length body) (length rest) (omega (arith, size, some)) in
     ap (λ n. first_frame_by n (length rest)) said ∙ in_range (length body) (length rest) is.0 is.1 ∙ rw less refl

@@ -88,8 +88,8 @@ both_readings (s ∷ ss) [] bytes rest left f none g clear = absurd (clear s (fr
 both_readings (s ∷ ss) (t ∷ ts) bytes rest left f none g clear =
     let same : frame_of s ++ (frames_of ss ++ rest) ≡ frame_of t ++ (frames_of ts ++ left) = sym (append_assoc (frame_of s) (frames_of ss) rest) ∙ sym f.parts ∙ g.parts ∙ append_assoc (frame_of t) (frames_of ts) left in
     let first = same_front s t _ _ f.framed.0 g.framed.0 same in
-    let past_end : frames_of ss ++ rest ≡ frames_of ts ++ left = same_after s _ _ (same ∙ ap (λ (z : Step). frame_of z ++ (frames_of ts ++ left)) (sym first)) in
-    let others = both_readings ss ts (frames_of ss ++ rest) rest left (record { framed = f.framed.1; parts = refl }) none (record { framed = g.framed.1; parts = past_end }) clear in
+    let the_rest : frames_of ss ++ rest ≡ frames_of ts ++ left = same_after s _ _ (same ∙ ap (λ (z : Step). frame_of z ++ (frames_of ts ++ left)) (sym first)) in
+    let others = both_readings ss ts (frames_of ss ++ rest) rest left (record { framed = f.framed.1; parts = refl }) none (record { framed = g.framed.1; parts = the_rest }) clear in
     (rw (first, others.0) refl, others.1)
 
 pub one_reading : HasOneReading

@@ -155,11 +155,11 @@ wait_is code asked wait is =
     let a : Numeral asked (number_words asked) = numbered asked is.0 in
     let w : Numeral wait (number_words wait) = numbered wait is.1 in
     let tail : List ℕ = number_words asked ++ 32 ∷ number_words wait in
-    let past_end : List ℕ = decimal (number_of code) ++ 32 ∷ tail in
-    let words : List ℕ = name_of code ++ 32 ∷ past_end in
-    let e : after_space (after_space words) ≡ tail = ap after_space (after_space-word (name_of code) past_end k.one) ∙ after_space-word (decimal (number_of code)) tail d.one in
+    let the_rest : List ℕ = decimal (number_of code) ++ 32 ∷ tail in
+    let words : List ℕ = name_of code ++ 32 ∷ the_rest in
+    let e : after_space (after_space words) ≡ tail = ap after_space (after_space-word (name_of code) the_rest k.one) ∙ after_space-word (decimal (number_of code)) tail d.one in
     ap (λ (x : List ℕ). told_wait (guessed_code (before_space words)) (guessed_number (before_space x)) (guessed_number (after_space x))) e
-    ∙ ap (λ (x : List ℕ). told_wait (guessed_code x) (guessed_number (before_space tail)) (guessed_number (after_space tail))) (before_space-word (name_of code) past_end k.one)
+    ∙ ap (λ (x : List ℕ). told_wait (guessed_code x) (guessed_number (before_space tail)) (guessed_number (after_space tail))) (before_space-word (name_of code) the_rest k.one)
     ∙ ap (λ (x : Code). told_wait x (guessed_number (before_space tail)) (guessed_number (after_space tail))) k.back
     ∙ ap (λ (x : List ℕ). told_wait code (guessed_number x) (guessed_number (after_space tail))) (before_space-word (number_words asked) (number_words wait) a.one)
     ∙ ap (λ (x : ℕ). told_wait code x (guessed_number (after_space tail))) a.value
@@ -211,9 +211,9 @@ code_is code =
     let k : KnownCode code = known_code code in
     let d = small_code code in
     let words : List ℕ = code_words code in
-    let past_end : after_space (after_space words) ≡ [] = ap after_space (after_space-word (name_of code) (decimal (number_of code)) k.one) ∙ after_space-all (decimal (number_of code)) d.one in
+    let the_rest : after_space (after_space words) ≡ [] = ap after_space (after_space-word (name_of code) (decimal (number_of code)) k.one) ∙ after_space-all (decimal (number_of code)) d.one in
     ap (by_words words) (before_space-word (name_of code) (decimal (number_of code)) k.one) ∙ k.shown words
-    ∙ ap (answer_by words) past_end ∙ ap (λ (x : List ℕ). shows_code (guessed_code x)) (before_space-word (name_of code) (decimal (number_of code)) k.one) ∙ ap shows_code k.back
+    ∙ ap (answer_by words) the_rest ∙ ap (λ (x : List ℕ). shows_code (guessed_code x)) (before_space-word (name_of code) (decimal (number_of code)) k.one) ∙ ap shows_code k.back
 
 pending_is : (func : Func) → guessed_shown (pending_words func) ≡ shows_pending func
 pending_is func =
@@ -224,8 +224,8 @@ pending_is func =
     let tail : List ℕ = codes "pending " ++ word_of_func func in
     let words : List ℕ = name ++ 32 ∷ (number ++ 32 ∷ tail) in
     let regroup : pending_words func ≡ words = append_assoc name (32 ∷ number) (32 ∷ tail) in
-    let past_end : after_space (after_space words) ≡ tail = ap after_space (after_space-word name (number ++ 32 ∷ tail) k.one) ∙ after_space-word number tail d.one in
-    ap guessed_shown regroup ∙ ap (by_words words) (before_space-word name (number ++ 32 ∷ tail) k.one) ∙ k.shown words ∙ ap (answer_by words) past_end ∙ ap shows_pending (known_func func).back
+    let the_rest : after_space (after_space words) ≡ tail = ap after_space (after_space-word name (number ++ 32 ∷ tail) k.one) ∙ after_space-word number tail d.one in
+    ap guessed_shown regroup ∙ ap (by_words words) (before_space-word name (number ++ 32 ∷ tail) k.one) ∙ k.shown words ∙ ap (answer_by words) the_rest ∙ ap shows_pending (known_func func).back
 
 refusal_is : (fault : LoadFault) → IsShown (shows_fault fault) → guessed_shown (refused_words fault) ≡ shows_fault fault
 refusal_is fault is =

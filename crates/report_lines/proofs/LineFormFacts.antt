@@ -68,11 +68,11 @@ numbered_line number word words small one =
     let line : List ℕ = line_of number word words in
     let rest : List ℕ = word ++ 32 ∷ words in
     let first : before_space line ≡ decimal number = before_space-word (decimal number) rest n.one in
-    let past_end : after_space line ≡ rest = after_space-word (decimal number) rest n.one in
+    let the_rest : after_space line ≡ rest = after_space-word (decimal number) rest n.one in
     ap (λ (x : List ℕ). if list_all is_ascii_digit x then read_numbered line (guessed_number x) (before_space (after_space line)) (after_space (after_space line)) else if_printed line (lasts (guessed_last line))) first
     ∙ ap (λ (b : Bool). if b then read_numbered line (guessed_number (decimal number)) (before_space (after_space line)) (after_space (after_space line)) else if_printed line (lasts (guessed_last line))) n.all
     ∙ ap (λ (x : ℕ). read_numbered line x (before_space (after_space line)) (after_space (after_space line))) n.value
-    ∙ ap (λ (x : List ℕ). read_numbered line number (before_space x) (after_space x)) past_end
+    ∙ ap (λ (x : List ℕ). read_numbered line number (before_space x) (after_space x)) the_rest
     ∙ ap (λ (x : List ℕ). read_numbered line number x (after_space rest)) (before_space-word word words one)
     ∙ ap (λ (x : List ℕ). read_numbered line number word x) (after_space-word word words one)
     ∙ ap (λ (b : Bool). if b then told_or line number (guessed_told word words) (guessed_result word words) else None) (lt-ltb number (2 ^ 32) small)
@@ -313,9 +313,9 @@ told_range : (word words : List ℕ) (t : Told) → guessed_told word words ≡ 
 told_range word words t is formed =
     told_by words (bytes_eq word (codes "say")) (bytes_eq word (codes "line")) (bytes_eq word (codes "clean")) (bytes_eq word (codes "wait")) (bytes_eq word (codes "note")) (bytes_eq word (codes "env")) t is formed
 
-answer_if : (words past_end : List ℕ) (a : Bool) → IsShown (if a then shows_pending (guessed_func (after_space past_end)) else shows_code (guessed_code (before_space words)))
-answer_if words past_end true = tt
-answer_if words past_end false = tt
+answer_if : (words the_rest : List ℕ) (a : Bool) → IsShown (if a then shows_pending (guessed_func (after_space the_rest)) else shows_code (guessed_code (before_space words)))
+answer_if words the_rest true = tt
+answer_if words the_rest false = tt
 
 keyword_if : (words : List ℕ) (a b c d e f : Bool) →
     IsShown (if a then shows_fault (guessed_refusal (after_space words)) else if b then shows_value (Some (unquoted (after_space words))) else if c then shows_value None else if d then shows_not_open else if e then shows_already_open else if f then shows_bad_number else guessed_answer words)

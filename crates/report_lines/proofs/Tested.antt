@@ -28,10 +28,10 @@ when_digits : (b : Bool) (x y : Option Says) → b ≡ true → (if b then x els
 when_digits true x y is = refl
 when_digits false x y is = absurd (cc)
 
-pub numbered : (line before same : List ℕ) (n : ℕ) (past_end word words : List ℕ) → before ≡ before_space line → list_all is_ascii_digit before ≡ true
-    → same ≡ before_space line → n ≡ guessed_number same → past_end ≡ after_space line → word ≡ before_space past_end → words ≡ after_space past_end
+pub numbered : (line before same : List ℕ) (n : ℕ) (the_rest word words : List ℕ) → before ≡ before_space line → list_all is_ascii_digit before ≡ true
+    → same ≡ before_space line → n ≡ guessed_number same → the_rest ≡ after_space line → word ≡ before_space the_rest → words ≡ after_space the_rest
     → read_line line ≡ read_numbered line n word words
-numbered line before same n past_end word words is digits same_is n_is past_is word_is words_is =
+numbered line before same n the_rest word words is digits same_is n_is past_is word_is words_is =
     let number : guessed_number (before_space line) ≡ n = ap guessed_number (sym same_is) ∙ sym n_is in
     let one : before_space (after_space line) ≡ word = ap before_space (sym past_is) ∙ sym word_is in
     let two : after_space (after_space line) ≡ words = ap after_space (sym past_is) ∙ sym words_is in

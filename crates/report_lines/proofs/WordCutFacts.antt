@@ -50,8 +50,8 @@ cut_again (b ∷ text) has = cut_if b text (eqb b 32) refl (cut_again text) has
 pub before-first : (text : List ℕ) (n : ℕ) → IsFirstPlace (Some n) 32 text → take n text ≡ before_space text
 before-first text n first = sym (ap before_space first.2 ∙ before_space-word (take n text) (drop (n + 1) text) first.1)
 
-pub past_end-first : (text : List ℕ) (n : ℕ) → IsFirstPlace (Some n) 32 text → drop (n + 1) text ≡ after_space text
-past_end-first text n first = sym (ap after_space first.2 ∙ after_space-word (take n text) (drop (n + 1) text) first.1)
+pub the_rest-first : (text : List ℕ) (n : ℕ) → IsFirstPlace (Some n) 32 text → drop (n + 1) text ≡ after_space text
+the_rest-first text n first = sym (ap after_space first.2 ∙ after_space-word (take n text) (drop (n + 1) text) first.1)
 
 -- ---- at the last
 

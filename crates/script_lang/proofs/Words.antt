@@ -107,9 +107,9 @@ module _ (place : Position) (before : ℕ) (line rest : List ℕ) (is : words_of
 
 -- whether a line has its words, by what follows the required words and by what follows the last
 -- allowed one
-module _ (places : List Position) (line : List ℕ) (wanted : ℕ) (least : Option (List ℕ)) (is_wanted : wanted ≡ wanted_of places) (past_end : IsPast least wanted (words_of line)) where
+module _ (places : List Position) (line : List ℕ) (wanted : ℕ) (least : Option (List ℕ)) (is_wanted : wanted ≡ wanted_of places) (are_past : IsPast least wanted (words_of line)) where
   enough : is_some least ≡ nat_lt (wanted_of places) (length (words_of line))
-  enough = is_after least line wanted past_end ∙ ap (λ (n : ℕ). nat_lt n (length (words_of line))) is_wanted
+  enough = is_after least line wanted are_past ∙ ap (λ (n : ℕ). nat_lt n (length (words_of line))) is_wanted
 
   pub too_few : is_some least ≡ false → false ≡ has_its_words places (words_of line)
   too_few e = let no = sym enough ∙ e in rw no refl

@@ -53,11 +53,11 @@ first_entry_is : (name action rest : List ℕ) → list_all is_name name ≡ tru
     → first_entry (name ++ 61 ∷ (action ++ rest)) ≡ record { entry = record { name = name; action = action }; rest = rest }
 first_entry_is name action rest named acts some stop =
     let front : before_first ends_name (name ++ 61 ∷ (action ++ rest)) ≡ name = cut_front ends_name name (61 ∷ (action ++ rest)) named refl in
-    let past_end : from_first ends_name (name ++ 61 ∷ (action ++ rest)) ≡ 61 ∷ (action ++ rest) = cut_rest ends_name name (61 ∷ (action ++ rest)) named refl in
+    let the_rest : from_first ends_name (name ++ 61 ∷ (action ++ rest)) ≡ 61 ∷ (action ++ rest) = cut_rest ends_name name (61 ∷ (action ++ rest)) named refl in
     let value : before_first is_white (action ++ rest) ≡ action = cut_front is_white action rest acts stop in
     let more : from_first is_white (action ++ rest) ≡ rest = cut_rest is_white action rest acts stop in
     ap (λ (n : List ℕ). with_name n (after_white (from_first ends_name (name ++ 61 ∷ (action ++ rest))))) front
-    ∙ ap (λ (t : List ℕ). with_name name (after_white t)) past_end
+    ∙ ap (λ (t : List ℕ). with_name name (after_white t)) the_rest
     ∙ ap (λ (t : List ℕ). with_action name t) (no_white_first action rest some)
     ∙ ap (λ (a : List ℕ). record { entry = record { name = name; action = a }; rest = from_first is_white (action ++ rest) }) value
     ∙ ap (λ (r : List ℕ). record { entry = record { name = name; action = action }; rest = r }) more

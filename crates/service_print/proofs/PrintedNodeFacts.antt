@@ -45,10 +45,10 @@ placed : (files inner : List File) (empty file : File) (number : ℕ) → number
 placed files inner empty file number is = ap (λ (fs : List File). set fs number file) (append_assoc files (empty ∷ []) inner) ∙ set_at files empty inner file number (sym is)
 
 -- the file of a substack, made of its parts
-whole : (service : List ℕ) (type : RuleType) (inner : Stack) (inner_text : List ℕ) (first number past_end : ℕ) (file : File) → number ≡ first
-    → past_end ≡ first + 1 → inner_text ≡ text_of (list_lines service type past_end inner)
+whole : (service : List ℕ) (type : RuleType) (inner : Stack) (inner_text : List ℕ) (first number next_one : ℕ) (file : File) → number ≡ first
+    → next_one ≡ first + 1 → inner_text ≡ text_of (list_lines service type next_one inner)
     → file ≡ record { name = numbered service number; text = inner_text } → file ≡ substack_file service type first inner
-whole service type inner inner_text first number past_end file counted next inside is = is ∙ rw (counted, inside, next) refl
+whole service type inner inner_text first number next_one file counted next inside is = is ∙ rw (counted, inside, next) refl
 
 pub put_files : (service : List ℕ) (type : RuleType) (inner : Stack) (inner_text : List ℕ) (files begun filled put : List File) (number : ℕ) (empty file : File)
     → number ≡ length files → begun ≡ files ++ empty ∷ [] → inner_text ≡ text_of (list_lines service type (length begun) inner) → filled ≡ begun ++ substack_files service type (length begun) inner

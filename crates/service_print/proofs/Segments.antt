@@ -68,10 +68,10 @@ stack_files_stand only texts type service number none is writable few there shor
 stack_files_stand only texts type service number (line rule rest) is writable few there short = stack_files_stand only texts type service number rest is writable.1 few there short
 stack_files_stand only texts type service number (sub inner rest) is writable few there short =
     let within = substack_files service type (number + 1) inner in
-    let past_end = substack_files service type (number + 1 + subs_in inner) rest in
-    let theres = there-parts texts within past_end there.1 in
-    let first = and_parts (is_short (substack_file service type number inner)) (list_all is_short (within ++ past_end)) short in
-    let shorts = and_parts (list_all is_short within) (list_all is_short past_end) (sym (list_all-append is_short within past_end) ∙ first.1) in (
+    let the_rest = substack_files service type (number + 1 + subs_in inner) rest in
+    let theres = there-parts texts within the_rest there.1 in
+    let first = and_parts (is_short (substack_file service type number inner)) (list_all is_short (within ++ the_rest)) short in
+    let shorts = and_parts (list_all is_short within) (list_all is_short the_rest) (sym (list_all-append is_short within the_rest) ∙ first.1) in (
       short_file only texts (substack_file service type number inner) (fields_from type service (number + 1) inner) (list_lines service type (number + 1) inner) (meanings_from type service (number + 1) inner)
           (stack_lines type service (number + 1) inner is writable.0 (omega arith)) (stack_meant type service (number + 1) inner) refl first.0 there.0,
       stack_files_stand only texts type service (number + 1) inner is writable.0 (omega arith) theres.0 shorts.0,
@@ -143,8 +143,8 @@ items-append : (texts : List ℕ → Option (List ℕ)) (levels : ℕ) (type : R
     → meanings_items texts levels type name first (ms ++ ns) ≡ meanings_items texts levels type name first ms ++ meanings_items texts levels type name (first + length ms) ns
 items-append texts levels type name first [] ns = ap (λ n. meanings_items texts levels type name n ns) (sym (add-zero first))
 items-append texts levels type name first (m ∷ ms) ns =
-    let past_end : first + 1 + length ms ≡ first + length (m ∷ ms) = omega arith in
-    ap (λ (is : List Item). meant_items texts levels type name first m ++ is) (items-append texts levels type name (first + 1) ms ns ∙ ap (λ n. meanings_items texts levels type name (first + 1) ms ++ meanings_items texts levels type name n ns) past_end)
+    let the_rest : first + 1 + length ms ≡ first + length (m ∷ ms) = omega arith in
+    ap (λ (is : List Item). meant_items texts levels type name first m ++ is) (items-append texts levels type name (first + 1) ms ns ∙ ap (λ n. meanings_items texts levels type name (first + 1) ms ++ meanings_items texts levels type name n ns) the_rest)
     ∙ sym (append_assoc (meant_items texts levels type name first m) (meanings_items texts levels type name (first + 1) ms) (meanings_items texts levels type name (first + length (m ∷ ms)) ns))
 
 -- ---- the part of a type
@@ -220,12 +220,12 @@ module _ (stack : RuleType → Stack) (service : List ℕ) where
         start = part.start;
         nodes = λ deeper. nodes-append deeper own here later ∙ ap (λ (s : Stack). joined s (meanings_nodes deeper own later)) (foreign_nodes deeper own type service number (stack type) other) ∙ part.nodes deeper;
         items = λ texts levels name first.
-            let past_end = part.items texts levels name (first + length here) in
+            let the_rest = part.items texts levels name (first + length here) in
             record {
-              first = past_end.first;
+              first = the_rest.first;
               same = items-append texts levels own name first here later
                   ∙ ap (λ (is : List Item). is ++ meanings_items texts levels own name (first + length here) later) (foreign_items texts levels own type name first service number (stack type) other)
-                  ∙ past_end.same;
+                  ∙ the_rest.same;
             };
         within = omega (arith, part.within);
         there = λ texts all. part.there texts (there-parts texts files more all).1;

@@ -23,8 +23,8 @@ pub fn printed_is_loaded()
         list_all is_short (printed stack service) ≡ true →
         LoadsTo vault root service stack }
     // The same for three calls: `load`, `print`, and `load` again.
-    ensures calls { (trees : Trees) (origin past_end : VaultState) (origin_root once : List ℕ) →
-        Loads (Ok trees) origin past_end origin_root once →
+    ensures calls { (trees : Trees) (origin was_read : VaultState) (origin_root once : List ℕ) →
+        Loads (Ok trees) origin was_read origin_root once →
         (again : Result Trees (Refuse LoadFault)) (vault after : VaultState)
         (root service : List ℕ) →
         IsLowerName service → HoldsJust vault root (printed (stacks_in trees) service) →

@@ -57,7 +57,7 @@ module _ (stacks : Stacks) where
 
   abbrev by_block : List SlotLog → ℕ → List (Option Says) → Block → Option ℕ
   by_block places n lines b = after_or stacks (after_block stacks places b) (n + 1 - length b.told + bad_line stacks (place_at places b.number) b)
-      (λ past_end. differs_from stacks past_end nothing_yet (n + 1) lines)
+      (λ new_logs. differs_from stacks new_logs nothing_yet (n + 1) lines)
 
   result_goes : (places : List SlotLog) (g : Gathered) (n number : ℕ) (told : List Told) (result : Result) (lines : List (Option Says))
       → may_follow g number ≡ true → told ≡ told_so_far g
@@ -74,7 +74,7 @@ module _ (stacks : Stacks) where
       let b : Block = block_of number told result in
       result_goes places g n number told result lines follows are
       ∙ ap (λ (x : Option (List SlotLog)). after_or stacks x (n + 1 - length b.told + bad_line stacks (place_at places b.number) b)
-      (λ past_end. differs_from stacks past_end nothing_yet (n + 1) lines)) fits
+      (λ new_logs. differs_from stacks new_logs nothing_yet (n + 1) lines)) fits
 
   pub result_named : (places : List SlotLog) (g : Gathered) (n number line : ℕ) (told : List Told) (result : Result) (lines : List (Option Says))
       → may_follow g number ≡ true → told ≡ told_so_far g
@@ -84,7 +84,7 @@ module _ (stacks : Stacks) where
       let b : Block = block_of number told result in
       result_goes places g n number told result lines follows are
       ∙ ap (λ (x : Option (List SlotLog)). after_or stacks x (n + 1 - length b.told + bad_line stacks (place_at places b.number) b)
-      (λ past_end. differs_from stacks past_end nothing_yet (n + 1) lines)) fits
+      (λ new_logs. differs_from stacks new_logs nothing_yet (n + 1) lines)) fits
       ∙ ap (λ (k : ℕ). Some (n + 1 - length told + k)) (sym is)
 
   -- ---- a block of the transaction of its number
@@ -108,15 +108,15 @@ module _ (stacks : Stacks) where
       ap (after_at stacks (map place_of old) (block_of number told result)) (found_at old i number p is at)
       ∙ ap (with_after stacks (map place_of old) number) none
 
-  pub placed_fits : (old : List held.SlotLog) (i number : ℕ) (p between past_end : held.SlotLog) (told : List Told) (result : Result) → number ≡ suc i
+  pub placed_fits : (old : List held.SlotLog) (i number : ℕ) (p between slot_log : held.SlotLog) (told : List Told) (result : Result) → number ≡ suc i
       → slice_get old i ≡ Some p
-      → after_result stacks (place_of p) (visits_told told) result ≡ Some (place_of past_end)
-      → after_block stacks (map place_of old) (block_of number told result) ≡ Some (map place_of (slice_set (slice_set old i between) i past_end))
-  placed_fits old i number p between past_end told result is at fits =
+      → after_result stacks (place_of p) (visits_told told) result ≡ Some (place_of slot_log)
+      → after_block stacks (map place_of old) (block_of number told result) ≡ Some (map place_of (slice_set (slice_set old i between) i slot_log))
+  placed_fits old i number p between slot_log told result is at fits =
       ap (after_at stacks (map place_of old) (block_of number told result)) (found_at old i number p is at)
       ∙ ap (with_after stacks (map place_of old) number) fits
-      ∙ ap (λ (m : ℕ). Some (with_place (map place_of old) m (place_of past_end))) is
-      ∙ ap Some (sym (map-set place_of old i past_end) ∙ ap (map place_of) (sym (set-set old i between past_end)))
+      ∙ ap (λ (m : ℕ). Some (with_place (map place_of old) m (place_of slot_log))) is
+      ∙ ap Some (sym (map-set place_of old i slot_log) ∙ ap (map place_of) (sym (set-set old i between slot_log)))
 
   pub unplaced : (places : List SlotLog) (number : ℕ) (told : List Told) (result : Result) (b : Bool) → place_at places number ≡ None
       → (is_bad_number stacks result && is_none (visits_told told)) ≡ b
@@ -154,13 +154,13 @@ pub a_place : (old : List held.SlotLog) (number : ℕ) → (ltb 0 number && leb 
 a_place old zero is = absurd (cc)
 a_place old (suc i) is = grind (arith, nat_tests)
 
-pub fits_at : (stacks : Stacks) (old : List held.SlotLog) (number : ℕ) (p between past_end : held.SlotLog) (told : List Told) (result : Result)
+pub fits_at : (stacks : Stacks) (old : List held.SlotLog) (number : ℕ) (p between slot_log : held.SlotLog) (told : List Told) (result : Result)
     → number ≡ suc (number - 1)
-    → slice_get old (number - 1) ≡ Some p → after_result stacks (place_of p) (visits_told told) result ≡ Some (place_of past_end)
-    → IsPlaced stacks old (block_of number told result) None (slice_set (slice_set old (number - 1) between) (number - 1) past_end)
-fits_at stacks old number p between past_end told result is at fits = (
-  placed_fits stacks old (number - 1) number p between past_end told result is at fits,
-  length-set (slice_set old (number - 1) between) (number - 1) past_end ∙ length-set old (number - 1) between,
+    → slice_get old (number - 1) ≡ Some p → after_result stacks (place_of p) (visits_told told) result ≡ Some (place_of slot_log)
+    → IsPlaced stacks old (block_of number told result) None (slice_set (slice_set old (number - 1) between) (number - 1) slot_log)
+fits_at stacks old number p between slot_log told result is at fits = (
+  placed_fits stacks old (number - 1) number p between slot_log told result is at fits,
+  length-set (slice_set old (number - 1) between) (number - 1) slot_log ∙ length-set old (number - 1) between,
 )
 
 -- a block of a number that no transaction has

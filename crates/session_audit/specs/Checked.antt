@@ -59,8 +59,8 @@ IsCall None result =
 
 -- the state of the transaction after it, or which line doesn't fit
 abbrev pub IsJudged : Judged → Option SlotLog → ℕ → Type 0
-IsJudged (judged.Fits place) past_end bad = past_end ≡ Some (place_of place)
-IsJudged (judged.Differs line) past_end bad = (past_end ≡ None) × (line ≡ bad)
+IsJudged (judged.Fits place) slot_log bad = slot_log ≡ Some (place_of place)
+IsJudged (judged.Differs line) slot_log bad = (slot_log ≡ None) × (line ≡ bad)
 
 -- a block is judged by the state of its transaction
 abbrev pub Judges : Stacks → SlotLog → List Told → Result → Judged → Type 0

@@ -40,7 +40,7 @@ pub struct Checker {
 impl Checker {
     /// A checker before the first line.
     pub fn new(alloc: Global) -> Result<Self, NoMemory>
-        ensures past_end { IfOk result (λ c. IsAfter c 0) }
+        ensures is_after { IfOk result (λ c. IsAfter c 0) }
         ensures differs { IfOk result (λ c. (stacks : Stacks) (lines : List (Option Says)) →
             differs_at stacks c lines ≡ differs stacks lines) }
     {
@@ -61,7 +61,7 @@ impl Checker {
         is_last: bool,
     ) -> Result<Option<u32>, NoMemory>
         requires bounded { AreBounded trees.now }
-        requires past_end { IsAfter self.old self.old.lines }
+        requires is_after { IsAfter self.old self.old.lines }
         requires room { self.old.lines < 2 ^ 32 - 1 }
         ensures { IfOk result (λ named. IsTaken (stacks_in trees.now) self.old
             (option_map bare (read_line line.now)) is_last named self.new) }
@@ -79,7 +79,7 @@ impl Checker {
         is_last: bool,
     ) -> Result<Option<u32>, NoMemory>
         requires bounded { AreBounded trees.now }
-        requires past_end { IsAfter self.old self.old.lines }
+        requires is_after { IsAfter self.old self.old.lines }
         requires room { self.old.lines < 2 ^ 32 - 1 }
         ensures { IfOk result (λ named. IsTaken (stacks_in trees.now) self.old
             (option_map says_of form) is_last named self.new) }
@@ -96,7 +96,7 @@ impl Checker {
 
     // A last line comes last, and not inside a block.
     fn take_last(&mut self, is_last: bool) -> Option<u32>
-        requires past_end { IsAfter self.old self.old.lines }
+        requires is_after { IsAfter self.old self.old.lines }
         requires room { self.old.lines < 2 ^ 32 - 1 }
         ensures { (stacks : Stacks) →
             IsTaken stacks self.old (Some (lasts unread)) is_last result self.new }
@@ -115,7 +115,7 @@ impl Checker {
         number: u32,
         visit: Option<Seen>,
     ) -> Result<Option<u32>, NoMemory>
-        requires past_end { IsAfter self.old self.old.lines }
+        requires is_after { IsAfter self.old self.old.lines }
         requires room { self.old.lines < 2 ^ 32 - 1 }
         ensures { IfOk result (λ named. (stacks : Stacks) (is_last : Bool) →
             IsTaken stacks self.old (Some (tells number (told_of visit))) is_last named self.new) }
@@ -138,7 +138,7 @@ impl Checker {
         outcome: ReportedOutcome,
     ) -> Result<Option<u32>, NoMemory>
         requires bounded { AreBounded trees.now }
-        requires past_end { IsAfter self.old self.old.lines }
+        requires is_after { IsAfter self.old self.old.lines }
         requires room { self.old.lines < 2 ^ 32 - 1 }
         ensures { IfOk result (λ named. (is_last : Bool) →
             IsTaken (stacks_in trees.now) self.old (Some (results number (result_of outcome)))

@@ -76,7 +76,7 @@ fn judge_quiet(place: SlotLog, told: &[Option<Seen>], outcome: ReportedOutcome) 
         return Judged::Differs(first);
     }
     match after_quiet(place, outcome) {
-        Some(past_end) => Judged::Fits(past_end),
+        Some(slot_log) => Judged::Fits(slot_log),
         None => Judged::Differs(first),
     }
 }

@@ -50,8 +50,8 @@ pub fn judge_at(
     let i = number as usize - 1;
     let place = std::mem::replace(&mut places[i], SlotLog::Closed);
     match judge(alloc, trees, place, told, outcome)? {
-        Judged::Fits(past_end) => {
-            places[i] = past_end;
+        Judged::Fits(slot_log) => {
+            places[i] = slot_log;
             Ok(None)
         }
         Judged::Differs(line) => Ok(Some(line)),

@@ -17,7 +17,7 @@ returns-then-first-told c =
 pub returns-in-Some : goal.returns-in-Some
 returns-in-Some c =
     let told = c.args.told.now in
-    quiet_as (visits_told (told_in told)) (after_quiet (place_of c.args.place) (result_of c.args.outcome)) (Some (place_of c.in-Some.past_end))
+    quiet_as (visits_told (told_in told)) (after_quiet (place_of c.args.place) (result_of c.args.outcome)) (Some (place_of c.in-Some.slot_log))
     (told_none told c.first_visit-first.result c.first_visit-first.ensures c.if-first-told.false) c.in-Some.ensures
 
 pub returns-in-None : goal.returns-in-None

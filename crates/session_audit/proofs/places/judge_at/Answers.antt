@@ -21,8 +21,8 @@ returns-in-Fits c =
     let n_is : length items ≡ c.len.result = omega (arith, c.args.places.now.ok.0, c.len.ensures) in
     let has : (ltb 0 c.args.number && leb c.args.number (length items)) ≡ true =
     ap (λ (n : ℕ). ltb 0 c.args.number && leb c.args.number n) n_is ∙ sym c.has_place.ensures ∙ c.if-not-has_place.false in
-    let judged = rw c.in-Fits.is at c.in_ok-past_end.ensures in
-    fits_at (stacks_in c.args.trees.now) items c.args.number c.replace-place.result c.replace-place.new.dest c.in-Fits.past_end (told_in c.args.told.now)
+    let judged = rw c.in-Fits.is at c.in_ok-slot_log.ensures in
+    fits_at (stacks_in c.args.trees.now) items c.args.number c.replace-place.result c.replace-place.new.dest c.in-Fits.slot_log (told_in c.args.told.now)
     (result_of c.args.outcome)
     (index_of c.args.number (length items) has)
     (get_some items (c.args.number - 1) c.replace-place.result _ (a_place items c.args.number has)
@@ -36,7 +36,7 @@ returns-in-Differs c =
     ap (λ (n : ℕ). ltb 0 c.args.number && leb c.args.number n) n_is ∙ sym c.has_place.ensures ∙ c.if-not-has_place.false in
     let at : slice_get items (c.args.number - 1) ≡ Some c.replace-place.result =
     get_some items (c.args.number - 1) c.replace-place.result _ (a_place items c.args.number has) (c.replace-place.ensures.value ∙ c.index_mut.ensures.value) in
-    let judged = rw c.in-Differs.is at c.in_ok-past_end.ensures in (
+    let judged = rw c.in-Differs.is at c.in_ok-slot_log.ensures in (
       placed_none (stacks_in c.args.trees.now) items (c.args.number - 1) c.args.number c.replace-place.result (told_in c.args.told.now)
           (result_of c.args.outcome)
           (index_of c.args.number (length items) has) at judged.0,

@@ -33,7 +33,7 @@ loop-n-preserved c =
     let short : length after ≡ length (drop (c.in-Some.n + 1) rest) = ap length c.after_newline-after.ensures in
     let first : c.in-Some.n < length rest = c.in-Some.ensures.0 in
     record {
-      past_end = subst (IsAfter c.take_line.new.self) (sym taken.0.lines_are) taken.0;
+      is_after = subst (IsAfter c.take_line.new.self) (sym taken.0.lines_are) taken.0;
       left = sym (taken.1 (bare_lines after) last) ∙ ap (differs_at stacks c.loop-n.checker) lines ∙ c.loop-n.invariant.left;
       room = omega (arith, taken.0.lines_are, short, length-drop (c.in-Some.n + 1) rest, first, c.loop-n.invariant.room);
     }

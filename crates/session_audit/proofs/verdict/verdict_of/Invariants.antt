@@ -6,7 +6,7 @@ use Rattle.session_audit.proofs.verdict.verdict_of.Given as goal
 
 abbrev pub invariant-loop-n : goal.invariant-loop-n
 invariant-loop-n l = record {
-  past_end : IsAfter l.checker l.checker.lines;
+  is_after : IsAfter l.checker l.checker.lines;
   left : differs_at (stacks_in l.trees) l.checker (bare_lines l.rest) ≡ differs (stacks_in l.trees) (bare_lines l.text);
   room : l.checker.lines + length l.rest ≤ 2 ^ 20;
 }

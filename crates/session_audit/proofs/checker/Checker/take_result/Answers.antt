@@ -11,7 +11,7 @@ overflow_cast-result-in-Some c =
     let told : length c.deref.result.now ≡ length c.begun_at-begun.result.told.items = ap (λ (x : List _). length x) c.deref.ensures.value in
     let all : length c.begun_at-begun.result.told.items ≤ c.args.self.now.lines =
     c.begun_at-begun.ensures.within c.args.self.now.lines (subst (λ (b : Option Begun). begun_within b c.args.self.now.lines) (sym c.take.ensures.value)
-    c.requires.past_end.begun) in
+    c.requires.is_after.begun) in
     omega (arith, line, told, all, c.requires.room)
 
 pub overflow_add-result-in-Some-2 : goal.overflow_add-result-in-Some-2
@@ -21,5 +21,5 @@ overflow_add-result-in-Some-2 c =
     let told : length c.deref.result.now ≡ length c.begun_at-begun.result.told.items = ap (λ (x : List _). length x) c.deref.ensures.value in
     let all : length c.begun_at-begun.result.told.items ≤ c.args.self.now.lines =
     c.begun_at-begun.ensures.within c.args.self.now.lines (subst (λ (b : Option Begun). begun_within b c.args.self.now.lines) (sym c.take.ensures.value)
-    c.requires.past_end.begun) in
+    c.requires.is_after.begun) in
     omega (arith, line, told, all, c.requires.room, c.len.ensures, c.begun_at-begun.result.told.ok.0)
