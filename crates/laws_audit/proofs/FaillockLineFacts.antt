@@ -117,5 +117,5 @@ module _ (path : List ℕ) (players : List Player) (alone : FaillockAloneWrites 
         each = l.each;
         follow = l.follow;
         failures_by_deeds = λ interval failures one stood. all path interval (calls_in l.lines) _ _ failures l.follow one stood;
-        stands = λ interval failures can stood. all path interval (calls_in l.lines) _ _ failures l.follow (l.with_one interval can) stood;
+        if_can_record = λ interval failures can stood. all path interval (calls_in l.lines) _ _ failures l.follow (l.with_one interval can) stood;
       }

@@ -81,7 +81,7 @@ CanRecordIf interval players a = (p : Player) → module_of_path players a.visit
 -- These lines lead the file from its state in some files to that in others: each line run is one of pam_faillock, and
 -- its call finds the file as the one before left it, or its module leaves the file. If the failures
 -- that these calls record have one `fail_interval` and can be written (`failures_by_deeds`), as they do
--- if each line of pam_faillock has it and can record (`stands`), the file is as at the start if
+-- if each line of pam_faillock has it and can record (`if_can_record`), the file is as at the start if
 -- nothing was written, and otherwise has the failures that count among those recorded since they were
 -- last cleared.
 pub record Tallies (path : List ℕ) (players : List Player) (before : List File)
@@ -95,7 +95,7 @@ pub record Tallies (path : List ℕ) (players : List Player) (before : List File
       → failures_on_file (file_at path before) ≡ Some failures
       → failures_on_file (file_at path after)
       ≡ Some (failures_by interval (deeds_of (calls_in lines)) failures)
-  pub stands : (interval : ℕ) (failures : List Failure)
+  pub if_can_record : (interval : ℕ) (failures : List Failure)
       → AllByRecursion (CanRecordIf interval players) asked
       → failures_on_file (file_at path before) ≡ Some failures
       → failures_on_file (file_at path after)

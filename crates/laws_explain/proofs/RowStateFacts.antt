@@ -76,7 +76,7 @@ module _ {State : Type 0} where
   leads_onward (after n) left at o by shown f w each here = each n
   leads_onward stop left at o by shown f w each here = here
 
-  -- rows of a substack, and of what is behind it
+  -- rows of a substack, and of what is after it
   leads_past : (b : Bool) (o : Opinion) (by : Option ℕ) (xs over ys : List Row) (v w : Walked State) → v.stopped ≡ b → Leads o by xs v
       → ((last : Option ℕ) → Leads v.opinion last ys w) → Leads o by (xs ++ (if b then over else ys)) (if b then v else w)
   leads_past true o by xs over ys v w is d rest = record {

@@ -26,7 +26,7 @@ SuccessNeedsALine State =
 abbrev pub NoneResets : (Visit → Action) → List Visit → Type 0
 NoneResets acts visits = list_any (λ v. resets (acts v)) visits ≡ false
 
--- after a line whose control has `bad` or `die`, and no `reset` behind it, the code isn't SUCCESS
+-- after a line whose control has `bad` or `die`, and no `reset` after it, the code isn't SUCCESS
 abbrev pub FailedLineDenies : Type 0 → Type 0
 FailedLineDenies State =
     (kind : PassKind) (kept : KeptAnswers) (answering : Answering State) (stack : Stack)

@@ -137,7 +137,7 @@ traced_session possible stacks h new_held before later code begins ended call ar
           (session_caches Telling possible as_traced stacks h t ends (subst (ArePossible possible) (sym visits_are) are)));
     }
 
--- ---- what goes by it
+-- ---- what uses it
 
 by_cached : (possible counts : CodesOf) (ways : List Way) (stack : Stack) (first later : List Visit) (code : Code) (cached used : Option KeptAnswers)
     → TracedCache possible stack first code cached → used ≡ cached → GrantedOf possible counts stack ways (answers_held used) later (following used)

@@ -19,7 +19,7 @@ controlled control = record { silent = false; control = control; path = []; args
 abbrev always : Action → List Action
 always action = map (λ (c : Code). action) all_codes
 
--- lines return these codes, in the order of their rule numbers; IGNORE behind the last
+-- lines return these codes, in the order of their rule numbers; IGNORE after the last
 abbrev returning : List Code → Answering ℕ
 returning answers rule place calls = record { answer = get_or answers (place - 1) codes.Ignore; state = calls + 1 }
 
@@ -60,7 +60,7 @@ ignores_again = refl
 ignored_again : again (two (always actions.Ignore) required) (codes.Success ∷ codes.Success ∷ []) (codes.AuthErr ∷ codes.Success ∷ []) ≡ codes.Success
 ignored_again = refl
 
--- nor one behind which a line resets
+-- nor one after which a line resets
 reset_again : again (line (controlled required) (two (always actions.Reset) required)) (codes.Success ∷ codes.Success ∷ codes.Success ∷ [])
     (codes.AuthErr ∷ codes.Success ∷ codes.Success ∷ []) ≡ codes.Success
 reset_again = refl

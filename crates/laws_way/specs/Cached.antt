@@ -24,7 +24,7 @@ pub record CachedBy (possible : CodesOf) (stack : Stack) (ran : List Visit) (end
   pub ends : StackMayEnd possible stack ran end
   pub kept_is : kept ≡ kept_in ran
 
--- each line whose control lets its cached code count (`ok`, `done` or a jump), and behind which no
+-- each line whose control lets its cached code count (`ok`, `done` or a jump), and after which no
 -- line resets, returned SUCCESS or IGNORE
 abbrev pub SayYesAgain : Stack → KeptAnswers → List Visit → Type 0
 SayYesAgain stack kept ran = (before after : List Visit) (v : Visit) → ran ≡ before ++ v ∷ after →

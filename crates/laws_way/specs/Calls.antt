@@ -71,7 +71,7 @@ pub record AreCached (possible : CodesOf) (stack : Stack) (ran : List Visit) (en
   pub is : cached ≡ Some kept
   pub by : CachedBy possible stack ran end kept
 
--- after an authentication that has ended these are its own; setcred goes by them
+-- after an authentication that has ended these are its own; setcred uses them
 abbrev pub AuthenticationCaches : Type 0 → Type 0
 AuthenticationCaches State = (possible : CodesOf) (asking : Asking State) (stacks : Stacks)
     (h : Held) (s : State) →
@@ -80,7 +80,7 @@ AuthenticationCaches State = (possible : CodesOf) (asking : Asking State) (stack
     AreCached possible stacks.auth w.state.visits w.opinion
     (goes asking stacks Authenticate h s).held.authenticated
 
--- and after an opened session; close_session goes by them
+-- and after an opened session; close_session uses them
 abbrev pub SessionCaches : Type 0 → Type 0
 SessionCaches State = (possible : CodesOf) (asking : Asking State) (stacks : Stacks) (h : Held)
     (s : State) →

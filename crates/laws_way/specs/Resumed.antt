@@ -33,7 +33,7 @@ pub record WithEarlier (past : List Code) (added : List Visit) (Holds : List Vis
   pub resumed : past ≡ answers_of early ++ left
   pub holds : Holds (early ++ added)
 
--- a call that begins or is resumed, and returns SUCCESS, goes by a listed way
+-- a call that begins or is resumed, and returns SUCCESS, takes a listed way
 abbrev pub ResumedCallsGrantedBy : Type 0
 ResumedCallsGrantedBy = (possible counts : CodesOf) (ways : List Way) (stacks : Stacks)
     (func : Func) (h new_held : Held) (before after : List Visited) → func ≢ ChAuthTok →
@@ -70,7 +70,7 @@ LeftInUpdateByTrace = (possible : CodesOf) (stacks : Stacks) (h new_held : Held)
     WithEarlier (past_in h.pending) (visits_in call.more) (λ ran. ArePossible possible ran →
     FirstIsKept possible stacks.password ran kept)
 
--- and resumed in its second pass, it goes by them
+-- and resumed in its second pass, it uses them
 abbrev pub ResumedUpdatesGrantedBy : Type 0
 ResumedUpdatesGrantedBy = (possible counts : CodesOf) (ways : List Way) (stacks : Stacks)
     (first : List Visit) (kept : KeptAnswers) (h new_held : Held) (before after : List Visited) →

@@ -24,7 +24,7 @@ use Rattle.laws_way.specs.Cached.{GoesAgain}
 use Rattle.laws_way.specs.Calls.{AreCached, GrantedOf, cached_for, stack_of_call}
 
 -- A call that begins and returns SUCCESS, by what each of the six calls ensures of the lines that
--- it added to the trace: it goes by a listed way.
+-- it added to the trace: it takes a listed way.
 abbrev pub TracedCallsGrantedBy : Type 0
 TracedCallsGrantedBy = (possible counts : CodesOf) (ways : List Way) (stacks : Stacks)
     (func : Func) (h new_held : Held) (before after : List Visited) → func ≢ ChAuthTok →
@@ -61,7 +61,7 @@ pub record TracedCache (possible : CodesOf) (stack : Stack) (ran : List Visit) (
   pub code_is : code ≡ verdict end
   pub are_cached : AreCached possible stack ran end cached
 
--- so it is after an authentication that begins and ends: setcred goes by the lines that it added to
+-- so it is after an authentication that begins and ends: setcred uses the lines that it added to
 -- the trace
 abbrev pub TracedAuthenticationCaches : Type 0
 TracedAuthenticationCaches = (possible : CodesOf) (stacks : Stacks) (h new_held : Held)
@@ -70,7 +70,7 @@ TracedAuthenticationCaches = (possible : CodesOf) (stacks : Stacks) (h new_held 
     ArePossible possible (visits_in call.more) →
     TracedCache possible stacks.auth (visits_in call.more) code new_held.authenticated
 
--- and after an opened session: close_session goes by those
+-- and after an opened session: close_session uses those
 abbrev pub TracedSessionCaches : Type 0
 TracedSessionCaches = (possible : CodesOf) (stacks : Stacks) (h new_held : Held)
     (before after : List Visited) (code : Code) → h.pending ≡ None → new_held.pending ≡ None →
