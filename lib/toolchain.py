@@ -71,13 +71,30 @@ class Crate:
         return 0 if is_well else 1
 
     def try_mutants(self, jobs):
-        """Tries its mutants. The last line says how many of how many were refused."""
+        """Tries its mutants, each over what a check of the crate has proved. The last line says how many of how many were
+        refused."""
         good, bad = self.rt.edits_of(self.crate)
-        tried = self.rt.must_fail_all(self.crate, good, ["--jobs", jobs])
-        for _, text in tried:
+        flags = ["--jobs", jobs]
+        room = self.rt.seeded(self.crate, flags) if len(good) > 1 else None
+        refused = 0
+        for edit in good:
+            verdict, text = self.tried(edit, flags, room)
             print(f"rt: {text}", flush=True)
-        print(f"{sum(well for well, _ in tried)} of {len(good) + len(bad)} refused", flush=True)
-        return 0 if not bad and all(well for well, _ in tried) else 1
+            refused += verdict in (self.rt.REFUSED, self.rt.AT_LIMIT)
+        if room:
+            shutil.rmtree(room)
+        print(f"{refused} of {len(good) + len(bad)} refused", flush=True)
+        return 0 if not bad and refused == len(good) else 1
+
+    def tried(self, edit, flags, room):
+        """What a try of one mutant gives; from nothing if it isn't refused over what was proved."""
+        if room:
+            self.rt.linked(f"{room}/seed", f"{room}/tried")
+            tried = self.rt.must_fail(self.crate, edit, flags, f"{room}/tried")
+            shutil.rmtree(f"{room}/tried")
+            if tried[0] in self.rt.SETTLED:
+                return tried
+        return self.rt.must_fail(self.crate, edit, flags)
 
 
 def hand_out(top, names, to):
