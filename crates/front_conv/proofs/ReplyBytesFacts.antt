@@ -1,5 +1,5 @@
 -- The replies in bytes that begin with frames of replies.
-use Rattle.std.proofs.Common.{◌≡◌, ◌≢◌, ℕ, Bool, true, false, ◌&&◌, Option, Some, None, is_some, List, [], ◌∷◌, ◌++◌, length, refl, sym, ap, ◌∙◌, append_assoc}
+use Rattle.std.proofs.Common.{◌≡◌, ◌≢◌, ℕ, true, false, ◌&&◌, Option, Some, None, is_some, List, [], ◌∷◌, ◌++◌, refl, sym, ap, ◌∙◌, append_assoc}
 use Rattle.std.proofs.lemmas.List.{append-nil}
 use Rattle.std.specs.Io.KnownBytes.{Consumes}
 use Rattle.pam_wire.specs.declared.prefix.FirstFrame.{FirstFrame}
@@ -7,7 +7,7 @@ use Rattle.pam_wire.specs.declared.prefix.FirstFrame.TheVariants.{Open, OutOfRan
 use Rattle.pam_wire.specs.Laws.{Settles}
 use Rattle.pam_wire.specs.Read.{first_frame_of, step_of}
 use Rattle.pam_wire.proofs.BytePrefixFacts.{first_frame_settles}
-use Rattle.front_conv.specs.Front.{AreReplyFrames, IsFirst, IsReplyFrame, is_open, open_by, reply_in}
+use Rattle.front_conv.specs.Front.{AreReplyFrames, IsFirst, is_open, open_by, reply_in}
 use Rattle.front_conv.specs.Spelled.{reply_then, only_from, only_in, texts_from, texts_in}
 
 -- the beginning of what is incomplete is incomplete

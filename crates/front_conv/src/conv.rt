@@ -1,5 +1,5 @@
 ghost use Rattle.std.specs.Prelude.{◌≡◌, ◌≢◌, ◌≤◌, [], length, IsTrue, IfOk, None, Err};
-ghost use Rattle.pam_base.specs.Counts.{Rose, next_count};
+ghost use Rattle.pam_base.specs.Counts.{next_count};
 ghost use Rattle.conv_port.specs.declared.conv.ConvFault.{ConvFault};
 ghost use Rattle.conv_port.specs.Message.{AreReplies, HasPrompt, IsExchange};
 ghost use Rattle.conv_port.specs.Conv.{Answers, TakesOffer};
@@ -156,10 +156,8 @@ impl<F: FrontEnd> Conv for FrontConv<F> {
         ensures told { IsTrue (is_modelled F.front_tells F.incoming self.old.begun) →
             Answers result messages.now (held F.incoming self.old) (held F.incoming self.new) }
         ensures faults { self.old.faults ≤ self.new.faults }
-        ensures gone { result ≡ Err ConvFault.Gone → Rose self.old.faults self.new.faults }
         ensures no_fault { result ≢ Err ConvFault.Gone → self.new.faults ≡ self.old.faults }
         ensures deferrals { self.old.deferrals ≤ self.new.deferrals }
-        ensures again { result ≡ Err ConvFault.Again → Rose self.old.deferrals self.new.deferrals }
         ensures prompt { result ≡ Err ConvFault.Again → HasPrompt messages.now }
         ensures no_deferral { result ≢ Err ConvFault.Again →
             self.new.deferrals ≡ self.old.deferrals }
@@ -194,11 +192,8 @@ impl<F: FrontEnd> Conv for FrontConv<F> {
     /// A front end replies only when it is asked, so the text is no reply to a later exchange.
     fn offer(&mut self, alloc: Global, text: &[u8]) -> Result<(), NoMemory>
         requires { length text.now ≤ MAX_TEXT }
-        ensures begun { self.new.begun ≡ self.old.begun }
         ensures told { IsTrue (is_modelled F.front_tells F.incoming self.old.begun) →
             TakesOffer result text.now (held F.incoming self.old) (held F.incoming self.new) }
-        ensures faults { self.new.faults ≡ self.old.faults }
-        ensures deferrals { self.new.deferrals ≡ self.old.deferrals }
         ensures nothing { self.new ≡ record self.old { offered = self.new.offered } }
     {
         let copy = Text::from_bytes(alloc, text)?;

@@ -1,6 +1,6 @@
 ghost use Rattle.std.specs.Prelude.{◌≡◌, ◌≢◌, ◌≤◌, ◌↔◌, [], Some, false, true, length, IfOk, Err};
 ghost use Rattle.std.specs.Str.{IsUtf8};
-ghost use Rattle.pam_outside.specs.Counts.{Rose, next_count};
+ghost use Rattle.pam_outside.specs.Counts.{next_count};
 ghost use Rattle.pam_outside.specs.Files.{no_locks};
 
 use crate::beside::Replacement;
@@ -96,8 +96,6 @@ impl Vault for FolderVault {
     fn read(&mut self, alloc: Global, path: &[u8], limit: u32) -> Result<Text, VaultFault>
         ensures bound { IfOk result (λ text. length text ≤ limit) }
         ensures faults { self.old.faults ≤ self.new.faults }
-        ensures failed { result ≡ Err VaultFault.Failed → Rose self.old.faults self.new.faults }
-        ensures no_fault { result ≢ Err VaultFault.Failed → self.new.faults ≡ self.old.faults }
         ensures fault { result ≡ Err VaultFault.Failed →
             self.new ≡ record self.old { faults = next_count self.old.faults } }
         ensures stays { result ≢ Err VaultFault.Failed → self.new ≡ self.old }
@@ -114,8 +112,6 @@ impl Vault for FolderVault {
     /// system is Failed.
     fn folder(&mut self, alloc: Global, path: &[u8]) -> Result<bool, ReplaceFault>
         ensures faults { self.old.faults ≤ self.new.faults }
-        ensures failed { result ≡ Err ReplaceFault.Failed → Rose self.old.faults self.new.faults }
-        ensures no_fault { result ≢ Err ReplaceFault.Failed → self.new.faults ≡ self.old.faults }
         ensures fault { result ≡ Err ReplaceFault.Failed →
             self.new ≡ record self.old { faults = next_count self.old.faults } }
         ensures stays { result ≢ Err ReplaceFault.Failed → self.new ≡ self.old }
@@ -138,8 +134,6 @@ impl Vault for FolderVault {
     /// although the new file is there.
     fn replace(&mut self, alloc: Global, path: &[u8], bytes: &[u8]) -> Result<(), ReplaceFault>
         ensures faults { self.old.faults ≤ self.new.faults }
-        ensures failed { result ≡ Err ReplaceFault.Failed → Rose self.old.faults self.new.faults }
-        ensures no_fault { result ≢ Err ReplaceFault.Failed → self.new.faults ≡ self.old.faults }
         ensures fault { result ≡ Err ReplaceFault.Failed →
             self.new ≡ record self.old { faults = next_count self.old.faults } }
         ensures stays { result ≢ Err ReplaceFault.Failed → self.new ≡ self.old }
@@ -158,8 +152,6 @@ impl Vault for FolderVault {
     fn hold(&mut self, alloc: Global, path: &[u8], kind: LockKind) -> Result<Held, ReplaceFault>
         ensures held { IfOk result (λ held. held ≡ true) }
         ensures faults { self.old.faults ≤ self.new.faults }
-        ensures failed { result ≡ Err ReplaceFault.Failed → Rose self.old.faults self.new.faults }
-        ensures no_fault { result ≢ Err ReplaceFault.Failed → self.new.faults ≡ self.old.faults }
         ensures fault { result ≡ Err ReplaceFault.Failed →
             self.new ≡ record self.old { faults = next_count self.old.faults } }
         ensures stays { result ≢ Err ReplaceFault.Failed → self.new ≡ self.old }
@@ -174,7 +166,6 @@ impl Vault for FolderVault {
 
     /// Closes the file that is locked. A record lock that isn't let go here ends with the next `hold`, and with the store.
     fn let_go(&mut self, _held: Held)
-        ensures faults { self.new.faults ≡ self.old.faults }
         ensures stays { self.new ≡ self.old }
     {
         self.lock = None;
