@@ -125,7 +125,7 @@ fn own_part<V: Vault>(
         V.vault_holds inner.new ≡ counted (V.vault_holds inner.old) }
 {
     let whole = inner.read(alloc, path, limit)?;
-    let own = own_lines(alloc, user, whole.bytes()).map_err(|_| VaultFault::NoMemory)?;
+    let own = own_lines(alloc, user, whole.bytes())?;
     if own.len() > limit as usize {
         return Err(VaultFault::TooLong);
     }
