@@ -277,9 +277,7 @@ fn note_read(
     found: Option<&Metadata>,
 ) -> Result<(), VaultFault> {
     match lock {
-        Some(lock) => lock
-            .note_read(alloc, path, found)
-            .map_err(|_| VaultFault::NoMemory),
+        Some(lock) => Ok(lock.note_read(alloc, path, found)?),
         None => Ok(()),
     }
 }
