@@ -67,7 +67,7 @@ module _ (players : List Player) (interval : ℕ) where
       → AllByRecursion WithinIf asked
   nothing_asked w trail asked last r = subst (AllByRecursion WithinIf) (sym r.asked_are) tt
 
-  by_slot : (w : PlainWorld) (slot : Option PlainSlot) (call : Option StackCall) (trail : List Visit) (asked : List AskedLine) (last : List File)
+  pub by_slot : (w : PlainWorld) (slot : Option PlainSlot) (call : Option StackCall) (trail : List Visit) (asked : List AskedLine) (last : List File)
       → HasIf Such slot
       → RunsBy players w slot call trail asked last → AllByRecursion WithinIf asked
   by_slot w (Some (opened h)) (Some call) trail asked last has r =
