@@ -2,4 +2,4 @@
 #![tactic(auto)]
 
 pub mod laws;
-pub mod refused;
+pub mod refused_laws;

@@ -1,5 +1,5 @@
 use Rattle.laws_lockout.proofs.AttemptFacts.{refused_lock_out}
-use Rattle.laws_lockout.proofs.refused.refused_passwords_lock_out.Goals as goal
+use Rattle.laws_lockout.proofs.refused_laws.refused_passwords_lock_out.Goals as goal
 
 pub returns : goal.returns
 returns c = refused_lock_out c.recorded_failures_are_kept.ensures.one c.recorded_failures_are_kept.ensures.all c.written_tallies_are_read.ensures.tally
