@@ -1,5 +1,5 @@
 -- The lines of pam_faillock among those that a run runs.
-use Rattle.std.proofs.Common.{◌≡◌, ◌≢◌, ◌⊎◌, inl, inr, ◌<◌, ◌^◌, ℕ, List, [], ◌∷◌, map, Option, Some, None, unwrap_or, slice_get, refl, ap, ◌∙◌, sym, subst}
+use Rattle.std.proofs.Common.{◌≡◌, ◌≢◌, ◌⊎◌, inl, inr, ◌<◌, ◌^◌, ℕ, List, [], ◌∷◌, map, Option, Some, None, unwrap_or, refl, ap, ◌∙◌, sym, subst}
 use Rattle.std.specs.List.{AllByRecursion}
 use Rattle.pam_room.specs.item_store.specs.Items.{ItemTexts}
 use Rattle.pam_outside.specs.Files.{File, file_at}

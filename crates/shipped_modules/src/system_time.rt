@@ -1,8 +1,10 @@
+ghost use Rattle.std.specs.Prelude.{false};
+
 use cmd_all::TimeOfDay;
 use std::rt::Clock as SystemClock;
 use system_objects::system_moment;
 
-/// The system's time of day, which isn't modelled.
+/// The system's time of day.
 #[derive(Drop)]
 pub struct SystemTime<R: SystemClock + Drop> {
     rt: R,
@@ -16,13 +18,12 @@ impl<R: SystemClock + Drop> SystemTime<R> {
 }
 
 impl<R: SystemClock + Drop> TimeOfDay for SystemTime<R> {
-    ghost use Rattle.std.specs.Prelude.{false};
-
     ghost time_tells = { λ t. false };
 
-    ghost time_gives = { λ t asked. 0 };
+    // nothing is known of it
+    ghost time_gives = { λ t n. 0 };
 
-    fn seconds(&self, _asked: u32) -> u64 {
+    fn seconds(&self, _before: u32) -> u64 {
         system_moment(&self.rt)
     }
 }
