@@ -12,11 +12,11 @@ ghost use Rattle.cmd_all.specs.Opened.{IsOpened};
 ghost use Rattle.cmd_all.specs.Run.{IsReset};
 
 use crate::desk::{Desk, DeskTold};
-use pam_library::pam_handle::{Gear, GearTold};
-use pam_library::{Library, LibraryTold, Session, Told};
 use data_cleanup::Ledger;
 use fail_delay::{DelayFn, DelayRule, DelayTold};
 use pam_base::{NoMemory, Text};
+use pam_library::pam_handle::{Gear, GearTold};
+use pam_library::{Library, LibraryTold, Session, Told};
 use pam_outside::{set_moment, set_word};
 use pam_room::{World, WorldTold};
 use std::alloc::Global;
