@@ -23,7 +23,7 @@ use Rattle.cmd_run.specs.Whole.{RunsScript}
 use Rattle.cmd_run.specs.Seen.{Seen, setting_at}
 use Rattle.cmd_all.specs.declared.exit.Exit.TheVariants as exits
 use Rattle.cmd_all.specs.Exit.{exit_status, script_exit}
-use Rattle.cmd_all.specs.Setup.{Around, Object, Setup, setting_with}
+use Rattle.cmd_all.specs.Setup.{Around, Moments, Object, Setup}
 use Rattle.cmd_all.specs.Login.{at_root}
 use Rattle.cmd_all.specs.Opened.{IsOpened}
 use Rattle.cmd_all.specs.Under.{IsBegunSo}
@@ -104,15 +104,15 @@ module _ {Kind : Type 0} (runs_so : RunTold Kind) (root : List ℕ) (world : Aro
     none_yet = none_yet;
   }
 
-  pub begun : (setup given : Setup) (s : Seen) (now : PlainWorld) (number : Code → ℕ → ℕ) → given.players ≡ setup.players → given.slots ≡ setup.slots
-      → IsOpened root given world.old s → IsReset s.world now
-      → runs_so (setting_at setup.moments s number) result (state_of s.slots now) (state_of ends world.new) input.old input.new output.old output.new
-      → IsBegunSo runs_so (setting_with setup number) result (opening setup.slots root world.old) world input output
-  begun setup given s now number same_players same_slots opened reset ran =
-      subst₂ (λ (players : List Player) (slots : List PlainSlot).
-      IsBegunSo runs_so (record { players = players; delay = number; moments = setup.moments }) result (opening slots root world.old) world input output)
+  pub begun : (moments : Moments) (players : List Player) (slots : List PlainSlot) (given : Setup) (s : Seen) (now : PlainWorld) (number : Code → ℕ → ℕ)
+      → given.players ≡ players → given.slots ≡ slots → IsOpened root given world.old s → IsReset s.world now
+      → runs_so (setting_at moments s number) result (state_of s.slots now) (state_of ends world.new) input.old input.new output.old output.new
+      → IsBegunSo runs_so (record { players = players; delay = number; moments = moments }) result (opening slots root world.old) world input output
+  begun moments players slots given s now number same_players same_slots opened reset ran =
+      subst₂ (λ (ps : List Player) (ss : List PlainSlot).
+      IsBegunSo runs_so (record { players = ps; delay = number; moments = moments }) result (opening ss root world.old) world input output)
       (opened.players ∙ same_players) (opened.slots ∙ same_slots)
-      (begun_at (setting_at setup.moments s number) s.slots now (under_now root world.old s.world now opened.world_is reset) opened.none_yet ran)
+      (begun_at (setting_at moments s number) s.slots now (under_now root world.old s.world now opened.world_is reset) opened.none_yet ran)
 
 -- ---- by the status
 
