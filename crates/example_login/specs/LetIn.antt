@@ -13,22 +13,22 @@ pub record IsSameWorld {A B C : Type 0} {VA : A → Type 0} {VB : B → Type 0} 
   pub nap : new.nap ≡ old.nap
   pub process : new.process ≡ old.process
 
-module _ {X : Type 0} {V : X → Type 0} {W : Type 0} where
-  -- Three calls, one after another on one transaction, returned SUCCESS. `Succeeds` says of a call of a function with these
-  -- flags that it did, with the transaction and the world before and after it; between two calls only the clock is set.
-  pub record IsLetIn (Succeeds : Func → ℕ → Handle X V → Handle X V → W → W → Type 0)
-      (Same : W → W → Type 0) (old new : Handle X V) (before after : W) : Type 0 where
-    -- the transaction and the world before and after each call
-    pub authenticated : Handle X V
-    pub checked : Handle X V
-    pub at_first : W
-    pub after_first : W
-    pub at_second : W
-    pub after_second : W
-    pub at_third : W
-    pub authenticate : Succeeds Authenticate 0 old authenticated at_first after_first
-    pub acct_mgmt : Succeeds AcctMgmt 0 authenticated checked at_second after_second
-    pub setcred : Succeeds SetCred ESTABLISH_CRED checked new at_third after
-    pub first : Same before at_first
-    pub second : Same after_first at_second
-    pub third : Same after_second at_third
+-- Three calls, one after another on one transaction, returned SUCCESS. `Succeeds` says of a call of a function with these
+-- flags that it did, with the transaction and the world before and after it; between two calls only the clock is set.
+pub record IsLetIn {X : Type 0} {V : X → Type 0} {W : Type 0}
+    (Succeeds : Func → ℕ → Handle X V → Handle X V → W → W → Type 0) (Same : W → W → Type 0)
+    (old new : Handle X V) (before after : W) : Type 0 where
+  -- the transaction and the world before and after each call
+  pub authenticated : Handle X V
+  pub checked : Handle X V
+  pub at_first : W
+  pub after_first : W
+  pub at_second : W
+  pub after_second : W
+  pub at_third : W
+  pub authenticate : Succeeds Authenticate 0 old authenticated at_first after_first
+  pub acct_mgmt : Succeeds AcctMgmt 0 authenticated checked at_second after_second
+  pub setcred : Succeeds SetCred ESTABLISH_CRED checked new at_third after
+  pub first : Same before at_first
+  pub second : Same after_first at_second
+  pub third : Same after_second at_third

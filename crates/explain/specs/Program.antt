@@ -74,9 +74,11 @@ pub record Exits (status : ℕ) (w : Written) (old new : SinkState) : Type 0 whe
   pub ends : ((status ≡ w.status) × (front ≡ w.text)) ⊎ (status ≡ 6)
 
 -- if an allocation failed, nothing is written and the status is 4
-abbrev pub Ends : ℕ → ((Written → Type 0) → Type 0) → SinkState → SinkState → Type 0
-Ends status Says old new =
-    ((status ≡ 4) × (new ≡ old)) ⊎ Says (λ w. Exits status w old new)
+abbrev pub Ends : ℕ → Option Asked → VaultState → List ℕ → VaultState → ℕ → ℕ → SinkState
+    → SinkState → Type 0
+Ends status words old input new before now out_old out_new =
+    ((status ≡ 4) × (out_new ≡ out_old))
+    ⊎ Answers (λ w. Exits status w out_old out_new) words old input new before now
 
 -- ---- with any objects
 

@@ -50,10 +50,9 @@ pub fn explain_to<S: Source, K: Sink>(
     ensures sink_tells { K.sink_tells out.new ≡ K.sink_tells out.old }
     ensures vault_tells { vault_tells vault.new ≡ vault_tells vault.old }
     ensures told { IsTrue (vault_tells vault.old) → IsTrue (S.source_tells source.old) →
-        IsTrue (K.sink_tells out.old) → Ends result (λ P. Answers P (asked_of words.now)
-        (vault_holds vault.old) (S.source_holds source.old).left (vault_holds vault.new)
-        (S.source_faults source.old) (S.source_faults source.new)) (K.sink_holds out.old)
-        (K.sink_holds out.new) }
+        IsTrue (K.sink_tells out.old) → Ends result (asked_of words.now) (vault_holds vault.old)
+        (S.source_holds source.old).left (vault_holds vault.new) (S.source_faults source.old)
+        (S.source_faults source.new) (K.sink_holds out.old) (K.sink_holds out.new) }
     ensures stays { IsTrue (vault_tells vault.old) →
         OnlyCalls (vault_holds vault.old) (vault_holds vault.new) }
     // What holds with real objects, too.

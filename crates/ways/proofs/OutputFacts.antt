@@ -93,6 +93,6 @@ module _ (P Q : Written → Type 0) (also : (w : Written) → P w → Q w) where
 pub ends_so : (status : ℕ) (e : Output) (words : Option Asked) (old : VaultState) (input : List ℕ) (new : VaultState) (before now : ℕ)
     (out_old out_new : SinkState)
     → Answers (λ w. IsWritten e w) words old input new before now → ((w : Written) → IsWritten e w → Exits status w out_old out_new)
-    → Ends status (λ P. Answers P words old input new before now) out_old out_new
+    → Ends status words old input new before now out_old out_new
 ends_so status e words old input new before now out_old out_new given exits =
     inr (answers_too (λ w. IsWritten e w) (λ w. Exits status w out_old out_new) exits words old input new before now given)
