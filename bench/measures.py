@@ -35,7 +35,7 @@ NINE = (
 ).split()
 CALLS = ("Authenticate", "SetCred", "AcctMgmt", "OpenSession", "CloseSession", "ChAuthTok")
 WAY = (
-    "main run run_words run_modules run_world pamsess run_under run_stream serve_items serve_next serve serve_now "
+    "main run run_words run_modules run_world pamsess run_under run_stream serve_items serve_next serve apply_line "
     "apply step call_open call passes pass dispatch walk next_answer serve_line serve_by play"
 ).split()
 IMPORT = re.compile(r"\s*(use |ghost use |pub use |--|//)")

@@ -71,8 +71,8 @@ class Crate:
         return 0 if is_well else 1
 
     def try_mutants(self, jobs):
-        """Tries its mutants, each over what a check of the crate has proved. The last line says how many of how many were
-        refused."""
+        """Tries its mutants, each over what a check of the crate has proved. The last line says how many of how many
+        were refused."""
         good, bad = self.rt.edits_of(self.crate)
         flags = ["--jobs", jobs]
         room = self.rt.seeded(self.crate, flags) if len(good) > 1 else None

@@ -5,7 +5,7 @@ use Rattle.record_reader.specs.LineTurns.{Ending}
 use Rattle.record_reader.specs.declared.ending.Ending.TheVariants.{Done, ReadFault, Refused}
 use Rattle.record_reader.specs.declared.ending.Stop.{Stop}
 use Rattle.record_reader.specs.declared.ending.Stop.TheVariants.{NoMemory, WriteFault}
-use Rattle.cmd_login.specs.cmd_run.specs.Reading.{ReadsScript, WritesScript}
+use Rattle.cmd_run.specs.Reading.{ReadsScript, WritesScript}
 use Rattle.cmd_all.specs.declared.exit.Exit.TheVariants as exits
 use Rattle.cmd_all.specs.Exit.{exit_status, script_exit}
 use Rattle.cmd_all.specs.Run.{HasRefused, IsAccepted, ReadsBy}

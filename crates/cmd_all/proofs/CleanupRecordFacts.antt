@@ -9,11 +9,11 @@ use Rattle.data_cleanup.specs.Due.{Event, birth, ends}
 use Rattle.data_cleanup.specs.declared.datum.Birth.{Birth}
 use Rattle.data_cleanup.specs.Ledger.{PlainLedger}
 use Rattle.data_cleanup.specs.Modelled.{Lists, ModelsEvents, times_held, receipts_in}
-use Rattle.cmd_check.specs.pam_library.specs.Calls.{Moved, births_added, events_of}
-use Rattle.cmd_check.specs.pam_library.specs.Slots.{NoneIsOpen, PlainSlot, closed, opened, data_in, lists_of}
-use Rattle.cmd_login.specs.cmd_run.specs.AnyWorld.{AllEndsAre, Proceeds, ProceedsBy}
-use Rattle.cmd_login.specs.cmd_run.specs.Ends.{EndsAre}
-use Rattle.cmd_login.specs.cmd_run.specs.Seen.{Seen, Went}
+use Rattle.pam_library.specs.Calls.{Moved, births_added, events_of}
+use Rattle.pam_library.specs.Slots.{NoneIsOpen, PlainSlot, closed, opened, data_in, lists_of}
+use Rattle.cmd_run.specs.AnyWorld.{AllEndsAre, Proceeds, ProceedsBy}
+use Rattle.cmd_run.specs.Ends.{EndsAre}
+use Rattle.cmd_run.specs.Seen.{Seen, Went}
 use Rattle.pam_room.specs.Module.{Player, notes_of}
 use Rattle.pam_room.specs.State.{PlainProcess, PlainWorld}
 use Rattle.cmd_all.specs.ByCommand.{Setup}

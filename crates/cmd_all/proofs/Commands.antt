@@ -8,13 +8,12 @@ use Rattle.record_reader.specs.declared.ending.Ending.{Ending}
 use Rattle.record_reader.specs.declared.ending.Ending.TheVariants.{Done, ReadFault, Refused}
 use Rattle.record_reader.specs.declared.ending.Stop.{Stop}
 use Rattle.record_reader.specs.declared.ending.Stop.TheVariants.{NoMemory, WriteFault}
-use Rattle.cmd_login.specs.cmd_run.specs.Reading.{WritesScript}
-use Rattle.cmd_login.specs.cmd_run.specs.State.{setting_of}
+use Rattle.cmd_run.specs.Reading.{WritesScript}
 use Rattle.cmd_wire.specs.frame_stream.specs.declared.fault.FrameFault.{FrameFault}
 use Rattle.cmd_all.specs.declared.exit.Exit.TheVariants as exits
 use Rattle.cmd_all.specs.Exit.{audit_exit, check_exit, exit_status, frames_exit, generate_exit, login_exit, script_exit, tally_exit}
-use Rattle.cmd_all.specs.ByCommand.{Around, AuditsSo, ChecksSo, GeneratesSo, GoesBy, IfAllTold, LogsInSo, Object, ReadCauses, ReadsNone}
-use Rattle.cmd_all.specs.ByCommand.{ReportsFrames, ReportsScript, RunsSo, Setup, TalliesSo, WiresSo}
+use Rattle.cmd_all.specs.ByCommand.{Around, AuditsSo, ChecksSo, GeneratesSo, GoesBy, LogsInSo, Object, ReadCauses, ReadsNone}
+use Rattle.cmd_all.specs.ByCommand.{ReportsFrames, ReportsScript, RunsSo, Setup, TalliesSo, WiresSo, setting_with}
 use Rattle.cmd_check.specs.declared.finding.Checked.{Checked}
 use Rattle.cmd_check.specs.declared.finding.Checked.TheVariants as founds
 use Rattle.cmd_generate.specs.declared.generating.Generated.{Generated}
@@ -28,6 +27,7 @@ use Rattle.cmd_audit.specs.declared.finding.Audited.{Audited}
 use Rattle.cmd_audit.specs.declared.finding.Audited.TheVariants as audits_found
 use Rattle.cmd_all.specs.Generate.{IsGenerateStatus}
 use Rattle.cmd_all.specs.Login.{IsLoginStatus}
+use Rattle.cmd_all.specs.Setup.{IfAllTold}
 use Rattle.cmd_all.specs.Status.{IsCheckStatus, IsTallyStatus}
 use Rattle.cmd_all.specs.Command.{Command, runs, checks, logs_in, generates, tallies, audits, wires}
 use Rattle.cmd_all.specs.Run.{Completes, IsStatus, ReadsBy, Runs}
@@ -57,21 +57,20 @@ module _ (status before now : ℕ) where
 
 module _ (root : List ℕ) (status : ℕ) (setup : Setup) (world : Around) (input : Object SourceState) (output : Object SinkState) where
   -- a run of a script
-  pub runs_so : IfAllTold setup world input output (λ setting. Runs setting status setup.slots root world.old world.new input.old input.new output.old
-      output.new) → IsStatus status
+  pub runs_so : IfAllTold setup world input output (λ setting. Runs setting status setup.slots root world input output) → IsStatus status
       → (IsTrue input.tells → ReadsBy status input.old input.new)
       → (IsTrue input.tells → Completes status input.old.left (Rose input.faults_before input.faults_after) (Rose output.faults_before output.faults_after))
       → (IsTrue output.tells → WritesScript output.old output.new) → (IsTrue output.tells → ReportsScript status setup output.old output.new)
       → RunsSo root status setup world input output
   runs_so told known reads complete writes reports = record {
     done = λ number given source sink both. λ is.
-        done_of (setting_of setup.players number) status setup.slots root world.old world.new input.old input.new output.old output.new
+        done_of (setting_with setup number) status setup.slots root world input output
         (told number given source sink both) is;
     refused = λ number given source sink both. λ is.
-        refused_of (setting_of setup.players number) status setup.slots root world.old world.new input.old input.new output.old output.new
+        refused_of (setting_with setup number) status setup.slots root world input output
         (told number given source sink both) is;
     unread = λ number given source sink both. λ is.
-        unread_of (setting_of setup.players number) status setup.slots root world.old world.new input.old input.new output.old output.new
+        unread_of (setting_with setup number) status setup.slots root world input output
         (told number given source sink both) is;
     told = told;
     statuses = known;
@@ -84,8 +83,7 @@ module _ (root : List ℕ) (status : ℕ) (setup : Setup) (world : Around) (inpu
   }
 
   -- a run of frames
-  pub wires_so : IfAllTold setup world input output (λ setting. Serves setting status setup.slots root world.old world.new input.old input.new output.old
-      output.new) → IsWireStatus status
+  pub wires_so : IfAllTold setup world input output (λ setting. Serves setting status setup.slots root world input output) → IsWireStatus status
       → (IsTrue input.tells → ReadsFramesBy status input.old input.new)
       → (IsTrue input.tells → WireCompletes status input.old.left (Rose input.faults_before input.faults_after) (Rose output.faults_before output.faults_after))
       → (IsTrue output.tells → WritesScript output.old output.new) → (IsTrue output.tells → ReportsFrames status setup output.old output.new)
@@ -93,7 +91,7 @@ module _ (root : List ℕ) (status : ℕ) (setup : Setup) (world : Around) (inpu
       → WiresSo root status setup world input output
   wires_so told known reads complete writes reports through = record {
     wire_answered = λ number given source sink both.
-        answered (setting_of setup.players number) status setup.slots root world.old world.new input.old input.new output.old output.new
+        answered (setting_with setup number) status setup.slots root world input output
         (told number given source sink both);
     wire_told = told;
     wire_statuses = known;

@@ -9,21 +9,21 @@ use Rattle.pam_outside.specs.Streams.{SourceState, SinkState}
 use Rattle.pam_base.specs.declared.code.Code.{Code}
 use Rattle.pam_room.specs.Module.{Player, notes_of}
 use Rattle.pam_room.specs.State.{PlainWorld}
-use Rattle.cmd_check.specs.pam_library.specs.Slots.{NoneIsOpen, PlainSlot, closed, lists_of}
-use Rattle.cmd_check.specs.pam_library.specs.Sound.{IsSound}
+use Rattle.pam_library.specs.Slots.{NoneIsOpen, PlainSlot, closed, lists_of}
+use Rattle.pam_library.specs.Sound.{IsSound}
 use Rattle.record_reader.specs.LineTurns.{Ending}
 use Rattle.record_reader.specs.declared.ending.Ending.{Ending as StreamEnding}
 use Rattle.record_reader.specs.declared.ending.Ending.TheVariants.{Done, ReadFault, Refused}
 use Rattle.record_reader.specs.declared.ending.Stop.{Stop}
 use Rattle.record_reader.specs.declared.ending.Stop.TheVariants.{NoMemory, WriteFault}
-use Rattle.cmd_login.specs.cmd_run.specs.Made.{ReportsRun}
-use Rattle.cmd_login.specs.cmd_run.specs.Run.{RunTold}
-use Rattle.cmd_login.specs.cmd_run.specs.State.{Setting, RunState, setting_of, state_of}
-use Rattle.cmd_login.specs.cmd_run.specs.Whole.{RunsScript}
-use Rattle.cmd_login.specs.cmd_run.specs.Seen.{Seen}
+use Rattle.cmd_run.specs.Made.{ReportsRun}
+use Rattle.cmd_run.specs.Run.{RunTold}
+use Rattle.cmd_run.specs.State.{Setting, RunState, state_of}
+use Rattle.cmd_run.specs.Whole.{RunsScript}
+use Rattle.cmd_run.specs.Seen.{Seen, setting_at}
 use Rattle.cmd_all.specs.declared.exit.Exit.TheVariants as exits
 use Rattle.cmd_all.specs.Exit.{exit_status, script_exit}
-use Rattle.cmd_all.specs.ByCommand.{Setup}
+use Rattle.cmd_all.specs.Setup.{Around, Moments, Object, Setup}
 use Rattle.cmd_all.specs.Login.{at_root}
 use Rattle.cmd_all.specs.Opened.{IsOpened}
 use Rattle.cmd_all.specs.Under.{IsBegunSo}
@@ -91,27 +91,28 @@ none_open_at_first holds convs slots are = subst NoneIsOpen (sym are) (none_open
 pub under_now : (root : List ℕ) (old at now : PlainWorld) → at ≡ at_root root old → IsReset at now → now ≡ under_root root old
 under_now root old at now is reset = reset.world_is ∙ ap (λ (w : PlainWorld). record w { clock = record w.clock { moment = 0; word = 0 } }) is
 
-module _ {Kind : Type 0} (runs_so : RunTold Kind) where
-  begun_at : (setting : Setting) (slots ends : List PlainSlot) (root : List ℕ) (old now new : PlainWorld) (x y : SourceState) (p q : SinkState)
-      (result : Result (StreamEnding Kind) Stop) → now ≡ under_root root old
-      → ModelsEvents (notes_of setting.players) 17 old.process.ledger (lists_of slots) []
-      → runs_so setting result (state_of slots now) (state_of ends new) x y p q → IsBegunSo runs_so setting result (opening slots root old) new x y p q
-  begun_at setting slots ends root old now new x y p q result under none_yet ran = record {
-    end = state_of ends new;
+module _ {Kind : Type 0} (runs_so : RunTold Kind) (root : List ℕ) (world : Around) (input : Object SourceState) (output : Object SinkState)
+    (result : Result (StreamEnding Kind) Stop) (ends : List PlainSlot) where
+  begun_at : (setting : Setting) (slots : List PlainSlot) (now : PlainWorld) → now ≡ under_root root world.old
+      → ModelsEvents (notes_of setting.players) 17 world.old.process.ledger (lists_of slots) []
+      → runs_so setting result (state_of slots now) (state_of ends world.new) input.old input.new output.old output.new
+      → IsBegunSo runs_so setting result (opening slots root world.old) world input output
+  begun_at setting slots now under none_yet ran = record {
+    end = state_of ends world.new;
     world_is = refl;
-    runs = subst (λ (w : PlainWorld). runs_so setting result (state_of slots w) (state_of ends new) x y p q) under ran;
+    runs = subst (λ (w : PlainWorld). runs_so setting result (state_of slots w) (state_of ends world.new) input.old input.new output.old output.new) under ran;
     none_yet = none_yet;
   }
 
-  pub begun : (root : List ℕ) (setup : Setup) (old : PlainWorld) (s : Seen) (now new : PlainWorld) (ends : List PlainSlot) (x y : SourceState) (p q : SinkState)
-      (number : Code → ℕ → ℕ) (result : Result (StreamEnding Kind) Stop)
-      → IsOpened root setup old s → IsReset s.world now → runs_so (setting_of s.players number) result (state_of s.slots now) (state_of ends new) x y p q
-      → IsBegunSo runs_so (setting_of setup.players number) result (opening setup.slots root old) new x y p q
-  begun root setup old s now new ends x y p q number result opened reset ran =
-      subst₂ (λ (players : List Player) (slots : List PlainSlot). IsBegunSo runs_so (setting_of players number) result (opening slots root old) new x y p q)
-      opened.players opened.slots
-      (begun_at (setting_of s.players number) s.slots ends root old now new x y p q result (under_now root old s.world now opened.world_is reset)
-      opened.none_yet ran)
+  pub begun : (moments : Moments) (players : List Player) (slots : List PlainSlot) (given : Setup) (s : Seen) (now : PlainWorld) (number : Code → ℕ → ℕ)
+      → given.players ≡ players → given.slots ≡ slots → IsOpened root given world.old s → IsReset s.world now
+      → runs_so (setting_at moments s number) result (state_of s.slots now) (state_of ends world.new) input.old input.new output.old output.new
+      → IsBegunSo runs_so (record { players = players; delay = number; moments = moments }) result (opening slots root world.old) world input output
+  begun moments players slots given s now number same_players same_slots opened reset ran =
+      subst₂ (λ (ps : List Player) (ss : List PlainSlot).
+      IsBegunSo runs_so (record { players = ps; delay = number; moments = moments }) result (opening ss root world.old) world input output)
+      (opened.players ∙ same_players) (opened.slots ∙ same_slots)
+      (begun_at (setting_at moments s number) s.slots now (under_now root world.old s.world now opened.world_is reset) opened.none_yet ran)
 
 -- ---- by the status
 
@@ -143,19 +144,24 @@ module _ (setting : Setting) (start end : RunState) (x y : SourceState) (p q : S
   unread_by (Err NoMemory) none_yet ran is = absurd (omega (arith, is))
   unread_by (Err WriteFault) none_yet ran is = absurd (omega (arith, is))
 
-module _ (setting : Setting) (status : ℕ) (slots : List PlainSlot) (root : List ℕ) (old new : PlainWorld) (x y : SourceState) (p q : SinkState) where
-  pub done_of : Runs setting status slots root old new x y p q → status ≡ exit_status exits.Done → IsDone setting (opening slots root old) new x y p q
-  done_of (inl b) is = subst (λ (w : PlainWorld). IsDone setting (opening slots root old) w x y p q) (sym b.world_is)
-      (done_by setting (opening slots root old) b.end x y p q b.result b.none_yet b.runs (sym b.is ∙ is))
+module _ (setting : Setting) (status : ℕ) (slots : List PlainSlot) (root : List ℕ) (world : Around) (input : Object SourceState) (output : Object SinkState) where
+  abbrev start : RunState
+  start = opening slots root world.old
+
+  pub done_of : Runs setting status slots root world input output → status ≡ exit_status exits.Done
+      → IsDone setting (opening slots root world.old) world.new input.old input.new output.old output.new
+  done_of (inl b) is = subst (λ (w : PlainWorld). IsDone setting start w input.old input.new output.old output.new) (sym b.world_is)
+      (done_by setting start b.end input.old input.new output.old output.new b.result b.none_yet b.runs (sym b.is ∙ is))
   done_of (inr n) is = absurd (omega (arith, n.0, is))
 
-  pub refused_of : Runs setting status slots root old new x y p q → status ≡ exit_status exits.LineRefused
-      → IsRefused setting (opening slots root old) new x y p q
-  refused_of (inl b) is = subst (λ (w : PlainWorld). IsRefused setting (opening slots root old) w x y p q) (sym b.world_is)
-      (refused_by setting (opening slots root old) b.end x y p q b.result b.none_yet b.runs (sym b.is ∙ is))
+  pub refused_of : Runs setting status slots root world input output → status ≡ exit_status exits.LineRefused
+      → IsRefused setting (opening slots root world.old) world.new input.old input.new output.old output.new
+  refused_of (inl b) is = subst (λ (w : PlainWorld). IsRefused setting start w input.old input.new output.old output.new) (sym b.world_is)
+      (refused_by setting start b.end input.old input.new output.old output.new b.result b.none_yet b.runs (sym b.is ∙ is))
   refused_of (inr n) is = absurd (omega (arith, n.0, is))
 
-  pub unread_of : Runs setting status slots root old new x y p q → status ≡ exit_status exits.ReadFault → IsUnread setting (opening slots root old) new x y p q
-  unread_of (inl b) is = subst (λ (w : PlainWorld). IsUnread setting (opening slots root old) w x y p q) (sym b.world_is)
-      (unread_by setting (opening slots root old) b.end x y p q b.result b.none_yet b.runs (sym b.is ∙ is))
+  pub unread_of : Runs setting status slots root world input output → status ≡ exit_status exits.ReadFault
+      → IsUnread setting (opening slots root world.old) world.new input.old input.new output.old output.new
+  unread_of (inl b) is = subst (λ (w : PlainWorld). IsUnread setting start w input.old input.new output.old output.new) (sym b.world_is)
+      (unread_by setting start b.end input.old input.new output.old output.new b.result b.none_yet b.runs (sym b.is ∙ is))
   unread_of (inr n) is = absurd (omega (arith, n.0, is))

@@ -4,14 +4,14 @@ use Rattle.pam_base.specs.declared.fault.ScriptKind.{ScriptKind}
 use Rattle.pam_outside.specs.Streams.{SourceState, SinkState}
 use Rattle.data_cleanup.specs.Modelled.{ModelsEvents}
 use Rattle.pam_room.specs.Module.{notes_of}
-use Rattle.cmd_check.specs.pam_library.specs.Slots.{lists_of}
+use Rattle.pam_library.specs.Slots.{lists_of}
 use Rattle.record_reader.specs.Run.{come_to}
 use Rattle.record_reader.specs.LineRun.{Run}
 use Rattle.record_reader.specs.LineTurns.{Ending}
 use Rattle.record_reader.specs.declared.ending.Ending.TheVariants.{Done, ReadFault, Refused}
-use Rattle.cmd_login.specs.cmd_run.specs.State.{Setting, RunState}
-use Rattle.cmd_login.specs.cmd_run.specs.Events.{AreDue, AddsEvents, run_events}
-use Rattle.cmd_login.specs.cmd_run.specs.Whole.{RunsScript, ending_status}
+use Rattle.cmd_run.specs.State.{Setting, RunState}
+use Rattle.cmd_run.specs.Events.{AreDue, AddsEvents, run_events}
+use Rattle.cmd_run.specs.Whole.{RunsScript, ending_status}
 use Rattle.cmd_all.specs.Run.{IsDone, IsRefused, IsUnread, events_in, report_of, world_after}
 
 module _ (setting : Setting) (start end : RunState) (x y : SourceState) (p q : SinkState) where

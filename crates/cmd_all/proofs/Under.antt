@@ -3,21 +3,20 @@ use Rattle.std.proofs.Common.{◌≡◌, ◌≢◌, ◌⊎◌, inl, inr, ℕ, Li
 use Rattle.pam_base.specs.declared.fault.ScriptKind.{ScriptKind}
 use Rattle.pam_outside.specs.Counts.{RisesIf, Rose}
 use Rattle.pam_outside.specs.Streams.{SourceState, SinkState}
-use Rattle.pam_room.specs.State.{PlainWorld}
-use Rattle.cmd_check.specs.pam_library.specs.Slots.{PlainSlot}
+use Rattle.pam_library.specs.Slots.{PlainSlot}
 use Rattle.record_reader.specs.declared.ending.Ending.{Ending}
 use Rattle.record_reader.specs.declared.ending.Ending.TheVariants.{Done, ReadFault, Refused}
 use Rattle.record_reader.specs.declared.ending.Stop.{Stop}
 use Rattle.record_reader.specs.declared.ending.Stop.TheVariants.{NoMemory, WriteFault}
 use Rattle.record_reader.specs.Object.{Object}
 use Rattle.record_reader.specs.Turns.{has_read_fault, has_write_fault}
-use Rattle.cmd_login.specs.cmd_run.specs.Ends.{IsEndOfRun}
-use Rattle.cmd_login.specs.cmd_run.specs.Reading.{ReadsScript}
-use Rattle.cmd_login.specs.cmd_run.specs.SideBySide.{NumbersGoAlone}
-use Rattle.cmd_login.specs.cmd_run.specs.State.{Setting}
-use Rattle.cmd_login.specs.cmd_run.specs.Made.{ReportsRun}
-use Rattle.cmd_login.specs.cmd_run.specs.Script.{as_it_is}
-use Rattle.cmd_login.specs.cmd_run.specs.Whole.{Completes, RunsScript, script_last}
+use Rattle.cmd_run.specs.Ends.{IsEndOfRun}
+use Rattle.cmd_run.specs.Reading.{ReadsScript}
+use Rattle.cmd_run.specs.SideBySide.{NumbersGoAlone}
+use Rattle.cmd_run.specs.State.{Setting}
+use Rattle.cmd_run.specs.Made.{ReportsRun}
+use Rattle.cmd_run.specs.Script.{as_it_is}
+use Rattle.cmd_run.specs.Whole.{Completes, RunsScript, script_last}
 use Rattle.cmd_wire.specs.pam_wire.specs.Frame.{answer_of}
 use Rattle.cmd_wire.specs.Answered.{nothing_last}
 use Rattle.cmd_wire.specs.frame_stream.specs.declared.fault.FrameFault.{FrameFault}
@@ -29,7 +28,7 @@ use Rattle.cmd_all.specs.declared.exit.Exit.TheVariants as exits
 use Rattle.cmd_all.specs.Exit.{exit_status, frames_exit, script_exit}
 use Rattle.cmd_all.specs.ByCommand.{Around, ReadCauses, RunsSo, Setup, WiresSo, WriteCauses}
 use Rattle.cmd_all.specs.Run.{Completes as CompletesBy, ReadsBy, Runs, opening}
-use Rattle.cmd_all.specs.Under.{ReadsOrNot, RunsOrNot, RunsUnder}
+use Rattle.cmd_all.specs.Under.{ReadsOrNot, RunsOrNot, RunsUnder, stream_runs}
 use Rattle.cmd_all.specs.Wire.{ReadsFramesBy, Serves}
 use Rattle.cmd_all.proofs.Alone.{nothing_read}
 use Rattle.cmd_all.proofs.Commands.{run_read_fault, run_write_fault, runs_so, wires_so}
@@ -65,9 +64,9 @@ module _ (result : Result (Ending ScriptKind) Stop) (status before now : ℕ) (i
   run_no_write_fault rises other = no_failed_write result rises (λ six. other (is ∙ six))
 
 module _ (setting : Setting) (result : Result (Ending ScriptKind) Stop) (status : ℕ) (is : status ≡ exit_status (script_exit result))
-    (slots : List PlainSlot) (root : List ℕ) (old new : PlainWorld) (x y : SourceState) (p q : SinkState) where
-  script_told : NumbersGoAlone → RunsOrNot RunsScript setting result (opening slots root old) old new x y p q
-      → Runs setting status slots root old new x y p q
+    (slots : List PlainSlot) (root : List ℕ) (world : Around) (input : Object SourceState) (output : Object SinkState) where
+  script_told : NumbersGoAlone → RunsOrNot RunsScript setting result (opening slots root world.old) world input output
+      → Runs setting status slots root world input output
   script_told apart (inl b) = inl (record {
     result = result;
     is = is;
@@ -76,8 +75,8 @@ module _ (setting : Setting) (result : Result (Ending ScriptKind) Stop) (status 
     runs = b.runs;
     none_yet = b.none_yet;
     side_by_side = λ bytes ended. record {
-      alone = λ number slot there. apart.alone setting (opening slots root old) bytes ended number slot there;
-      steps = apart.steps setting (opening slots root old) bytes ended;
+      alone = λ number slot there. apart.alone setting (opening slots root world.old) bytes ended number slot there;
+      steps = apart.steps setting (opening slots root world.old) bytes ended;
     };
   })
   script_told apart (inr n) = inr (is ∙ ap exit_status (ap script_exit n.0), n.1)
@@ -98,13 +97,12 @@ script_read result status is x y (inr n) =
 
 module _ (root : List ℕ) (result : Result (Ending ScriptKind) Stop) (status : ℕ) (is : status ≡ exit_status (script_exit result)) (setup : Setup)
     (world : Around) (input : Object SourceState) (output : Object SinkState)
-    (u : RunsUnder RunsScript ReadsScript Completes IsEndOfRun root result setup world input output) where
+    (u : RunsUnder (stream_runs RunsScript ReadsScript Completes IsEndOfRun) root result setup world input output) where
   pub script_so : NumbersGoAlone → (IsTrue output.tells → ReportsRun as_it_is script_last setup.players result setup.slots output.old output.new)
       → RunsSo root status setup world input output
   script_so apart reports =
       runs_so root status setup world input output
-      (λ number given source sink both. script_told _ result status is setup.slots root world.old world.new input.old input.new output.old output.new apart
-      (u.told number given source sink both))
+      (λ number given source sink both. script_told _ result status is setup.slots root world input output apart (u.told number given source sink both))
       (result, is)
       (λ source. script_read result status is input.old input.new (u.reads source))
       (λ source. script_completes result status is input.old.left (Rose input.faults_before input.faults_after) (Rose output.faults_before output.faults_after)
@@ -157,8 +155,8 @@ module _ (before now : ℕ) where
   no_write_failed (Err WriteFault) rises other = absurd (other refl)
 
 module _ (setting : Setting) (result : Result (Ending FrameFault) Stop) (status : ℕ) (is : status ≡ exit_status (frames_exit result))
-    (slots : List PlainSlot) (root : List ℕ) (old new : PlainWorld) (x y : SourceState) (p q : SinkState) where
-  frames_told : RunsOrNot RunsAnswered setting result (opening slots root old) old new x y p q → Serves setting status slots root old new x y p q
+    (slots : List PlainSlot) (root : List ℕ) (world : Around) (input : Object SourceState) (output : Object SinkState) where
+  frames_told : RunsOrNot RunsAnswered setting result (opening slots root world.old) world input output → Serves setting status slots root world input output
   frames_told (inl b) = inl (record { result = result; is = is; end = b.end; world_is = b.world_is; answers = b.runs.answered })
   frames_told (inr n) = inr (is ∙ ap exit_status (ap frames_exit n.0), n.1)
 
@@ -170,13 +168,12 @@ frames_read result status is x y (inr n) =
 
 module _ (root : List ℕ) (result : Result (Ending FrameFault) Stop) (status : ℕ) (is : status ≡ exit_status (frames_exit result)) (setup : Setup)
     (world : Around) (input : Object SourceState) (output : Object SinkState)
-    (u : RunsUnder RunsAnswered ReadsFrames FramesComplete IsEndOfFrames root result setup world input output) where
+    (u : RunsUnder (stream_runs RunsAnswered ReadsFrames FramesComplete IsEndOfFrames) root result setup world input output) where
   pub frames_so : (IsTrue output.tells → ReportsRun answer_of nothing_last setup.players result setup.slots output.old output.new)
       → WiresSo root status setup world input output
   frames_so reports =
       wires_so root status setup world input output
-      (λ number given source sink both. frames_told _ result status is setup.slots root world.old world.new input.old input.new output.old output.new
-      (u.told number given source sink both))
+      (λ number given source sink both. frames_told _ result status is setup.slots root world input output (u.told number given source sink both))
       (result, is)
       (λ source. frames_read result status is input.old input.new (u.reads source))
       (λ source. completes_by result status is input.old.left (Rose input.faults_before input.faults_after) (Rose output.faults_before output.faults_after)

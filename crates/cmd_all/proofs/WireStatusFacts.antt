@@ -3,9 +3,8 @@ use Rattle.std.proofs.Common.{◌≡◌, ◌⊎◌, inl, inr, ℕ, ◌<◌, if�
 use Rattle.std.proofs.Common.{IfOk, refl, sym, ap, ◌∙◌, subst, arith}
 use Rattle.std.specs.Int.{w16, to_be_bytes}
 use Rattle.std.specs.Prelude.{nat_eq}
-use Rattle.pam_outside.specs.Streams.{SourceState, SinkState}
-use Rattle.pam_room.specs.State.{PlainWorld}
-use Rattle.cmd_check.specs.pam_library.specs.Slots.{PlainSlot}
+use Rattle.pam_outside.specs.Streams.{SinkState, SourceState}
+use Rattle.pam_library.specs.Slots.{PlainSlot}
 use Rattle.cmd_wire.specs.pam_wire.specs.Frame.{sized}
 use Rattle.cmd_wire.specs.pam_wire.specs.Stream.{IsOpen}
 use Rattle.pam_outside.specs.Counts.{RisesIf}
@@ -16,12 +15,13 @@ use Rattle.record_reader.specs.declared.ending.Stop.{Stop}
 use Rattle.record_reader.specs.declared.ending.Stop.TheVariants.{NoMemory, WriteFault}
 use Rattle.cmd_wire.specs.frame_stream.specs.declared.fault.FrameFault.{FrameFault}
 use Rattle.cmd_wire.specs.frame_stream.specs.declared.fault.FrameFault.TheVariants.{BadFrame, TooManyFrames}
-use Rattle.cmd_login.specs.cmd_run.specs.State.{Setting}
+use Rattle.cmd_run.specs.State.{Setting}
 use Rattle.cmd_wire.specs.Reading.{EndsAtBytes, ReadsFrames}
 use Rattle.cmd_wire.specs.Whole.{Answers, Completes}
 use Rattle.cmd_all.specs.declared.exit.Exit.TheVariants as exits
 use Rattle.cmd_all.specs.Exit.{exit_status, frames_exit}
 use Rattle.cmd_all.specs.Run.{opening}
+use Rattle.cmd_all.specs.Setup.{Around, Object}
 use Rattle.cmd_all.specs.Wire.{AnswersBy, IsReadThrough, IsWireStatus, ReadsFramesBy, Serves, WireCompletes}
 
 -- ---- the ending of a status
@@ -95,13 +95,14 @@ through result status is before now rises read = through_by result before now ri
 
 -- ---- what is answered
 
-module _ (setting : Setting) (status : ℕ) (slots : List PlainSlot) (root : List ℕ) (old new : PlainWorld) (x y : SourceState) (p q : SinkState) where
-  pub answered : Serves setting status slots root old new x y p q → AnswersBy setting status (opening slots root old) new x y p q
+module _ (setting : Setting) (status : ℕ) (slots : List PlainSlot) (root : List ℕ) (world : Around) (input : Object SourceState) (output : Object SinkState) where
+  pub answered : Serves setting status slots root world input output
+      → AnswersBy setting status (opening slots root world.old) world.new input.old input.new output.old output.new
   answered (inl s) = λ ending is. record {
     end = s.end;
     world_is = s.world_is;
-    all = subst (λ (r : Result (Ending FrameFault) Stop). Answers setting r (opening slots root old) s.end x y p q)
-        (is_ending s.result ending (sym s.is ∙ is)) s.answers;
+    all = subst (λ (r : Result (Ending FrameFault) Stop).
+        Answers setting r (opening slots root world.old) s.end input.old input.new output.old output.new) (is_ending s.result ending (sym s.is ∙ is)) s.answers;
   }
   answered (inr n) = λ ending is. no_ending status ending n.0 is
 

@@ -1,95 +1,38 @@
 -- What the program promises for each command: a record for each, about what its objects hold before
 -- and after it (this project's own).
 use Rattle.std.specs.Prelude.{◌≡◌, ◌≢◌, ◌⊎◌, ◌≤◌, ◌<◌, ◌^◌, ◌&&◌, ℕ, Bool, List, [], IsTrue, Option, Some, None, Result}
-use Rattle.pam_base.specs.declared.code.Code.{Code}
 use Rattle.pam_base.specs.declared.fault.ScriptKind.{ScriptKind}
 use Rattle.record_reader.specs.declared.ending.Ending.{Ending}
 use Rattle.record_reader.specs.declared.ending.Stop.{Stop}
-use Rattle.cmd_login.specs.cmd_run.specs.Made.{ReportsRun}
-use Rattle.cmd_login.specs.cmd_run.specs.Script.{as_it_is}
-use Rattle.cmd_login.specs.cmd_run.specs.Whole.{script_last}
+use Rattle.cmd_run.specs.Made.{ReportsRun}
+use Rattle.cmd_run.specs.Script.{as_it_is}
+use Rattle.cmd_run.specs.Whole.{script_last}
 use Rattle.cmd_wire.specs.frame_stream.specs.declared.fault.FrameFault.{FrameFault}
 use Rattle.cmd_wire.specs.pam_wire.specs.Frame.{answer_of}
 use Rattle.cmd_wire.specs.Answered.{nothing_last}
-use Rattle.data_cleanup.specs.Ledger.{PlainLedger}
-use Rattle.fail_delay.specs.DelayFn.{GivesOneNumber}
-use Rattle.fail_delay.specs.declared.delay_fn.TheConstants.{LONGEST_ASKED}
 use Rattle.pam_outside.specs.Counts.{Rose}
-use Rattle.pam_outside.specs.Files.{VaultState}
 use Rattle.pam_outside.specs.Streams.{SourceState, SinkState}
-use Rattle.pam_room.specs.Module.{Player}
-use Rattle.pam_room.specs.State.{PlainWorld}
-pub use Rattle.record_reader.specs.Object.{Object, object_of}
 use Rattle.record_reader.specs.Written.{WritesText}
 use Rattle.cmd_check.specs.Check.{check_of}
-use Rattle.cmd_check.specs.pam_library.specs.Slots.{PlainSlot}
 use Rattle.cmd_generate.specs.service_load.specs.Loading.{OnlyCalls}
-use Rattle.cmd_login.specs.cmd_run.specs.Reading.{WritesScript}
-use Rattle.cmd_login.specs.cmd_run.specs.State.{Setting, setting_of}
+use Rattle.cmd_run.specs.Reading.{WritesScript}
+use Rattle.cmd_login.specs.Login.{TriesLogin}
+use Rattle.cmd_login.specs.Reported.{possible_calls}
+use Rattle.cmd_login.specs.Told.{exact_calls}
 use Rattle.cmd_tally.specs.Tally.{tally_of}
 use Rattle.cmd_audit.specs.Audit.{audit_of}
 use Rattle.cmd_audit.specs.Transcript.{Takes}
 use Rattle.cmd_all.specs.declared.exit.Exit.TheVariants.{Done, Usage, ConfigRefused, ReadFault, WriteFault, LineRefused}
+pub use Rattle.cmd_all.specs.Setup.{Around, IsReady, Object, Setup, object_of, setting_with}
+use Rattle.cmd_all.specs.Setup.{IfAllTold, IfTold}
 use Rattle.cmd_all.specs.Audit.{AuditsBy, IsAuditStatus, ReadsAudited}
 use Rattle.cmd_all.specs.Command.{Command, runs, audits, wires}
 use Rattle.cmd_all.specs.Exit.{exit_status, frames_exit, script_exit}
-use Rattle.cmd_all.specs.Generate.{GeneratesBy, IsGenerateStatus}
-use Rattle.cmd_all.specs.Login.{IsLoginStatus, LogsInBy, ShowsLogin}
+use Rattle.cmd_all.specs.Generate.{GeneratesBy, IsGenerateStatus, at_its_clock}
+use Rattle.cmd_all.specs.Login.{IsLoginStatus, LogsInBy}
 use Rattle.cmd_all.specs.Run.{Completes, HasRefused, IsAccepted, IsDone, IsRefused, IsStatus, IsUnread, ReadsBy, Runs, opening}
 use Rattle.cmd_all.specs.Status.{CallsOnce, ChecksBy, CountsUnread, FindsBy, FindsTally, IsCheckStatus, IsTallyStatus, TalliesBy, WritesUsage}
 use Rattle.cmd_all.specs.Wire.{AnswersBy, IsReadThrough, IsWireStatus, ReadsFramesBy, Serves, WireCompletes}
-
--- ---- what a command gets, and what it leaves
-
--- the modules, the closed slots that the conversations make, which numbers the delay function gives, and whether the
--- conversations are modelled and nothing gives the time of day
-pub record Setup : Type 1 where
-  pub players : List Player
-  pub slots : List PlainSlot
-  pub gives : (Code → ℕ → ℕ) → Type 0
-  pub tells : Bool
-
-abbrev pub setup_of : List Player → List PlainSlot → ((Code → ℕ → ℕ) → Type 0) → Bool → Setup
-setup_of players slots gives tells = record {
-  players = players;
-  slots = slots;
-  gives = gives;
-  tells = tells;
-}
-
--- a world before and after a command, with its files, and that nothing but these changed
-pub record Around : Type 1 where
-  pub tells : Bool
-  pub tells_after : Bool
-  pub old : PlainWorld
-  pub new : PlainWorld
-  pub is_kept : Type 0
-  pub files : Object VaultState
-  pub only_files : Type 0
-
--- There are sixteen conversations and fewer than 2^32 modules, the delay function may be called and gives one number, and
--- no module data have been set.
-pub record IsReady (convs modules : ℕ) (Callable : Code → ℕ → Type 0)
-    (Gives : Code → ℕ → ℕ → Type 0) (ledger : PlainLedger) : Type 0 where
-  pub sixteen : convs ≡ 16
-  pub few : modules < 2 ^ 32
-  pub callable : (code : Code) (asked : ℕ) → asked ≤ LONGEST_ASKED → Callable code asked
-  pub one_number : GivesOneNumber Gives
-  pub no_births : ledger.births ≡ []
-  pub no_receipts : ledger.filed ≡ []
-
--- for any numbers that the delay function gives, if output, world and conversations are modelled
-abbrev pub IfTold : Setup → Around → Object SinkState → (Setting → Type 0) → Type 0
-IfTold setup world output Holds =
-    (number : Code → ℕ → ℕ) → setup.gives number → IsTrue output.tells
-    → IsTrue (world.tells && setup.tells) → Holds (setting_of setup.players number)
-
--- the same if the input is modelled, too
-abbrev pub IfAllTold : Setup → Around → Object SourceState → Object SinkState → (Setting → Type 0)
-    → Type 0
-IfAllTold setup world input output Holds =
-    (number : Code → ℕ → ℕ) → setup.gives number → IsTrue input.tells → IsTrue output.tells
-    → IsTrue (world.tells && setup.tells) → Holds (setting_of setup.players number)
 
 -- ---- the reports of a run
 
@@ -126,7 +69,7 @@ pub record RunsSo (root : List ℕ) (status : ℕ) (setup : Setup) (world : Arou
   -- With any status, including 4 and 6: what was read and written, how often, and the world after
   -- it.
   pub told : IfAllTold setup world input output (λ setting. Runs setting status setup.slots root
-      world.old world.new input.old input.new output.old output.new)
+      world input output)
   pub statuses : IsStatus status
   -- If only the source is modelled: the run stops early only if an allocation, a read or a write fails; there was at
   -- most one read more than bytes were read; and what the status says about the script's bytes. If only the sink is:
@@ -162,12 +105,13 @@ pub record ChecksSo (root service : List ℕ) (status : ℕ) (world : Around)
 
 pub record LogsInSo (root service : List ℕ) (user : Option (List ℕ)) (status : ℕ) (setup : Setup)
     (world : Around) (output : Object SinkState) : Type 0 where
-  -- If all objects are modelled: what a login writes by its definition is written, or a prefix of it, and the world is
-  -- the one after it. With 0, 3 and 8 all of it is written.
-  pub logged_in : IfTold setup world output (λ setting. LogsInBy setting status setup.slots root
-      service user world.old world.new output.old output.new)
-  -- If only the sink is: its lines, whatever the other objects are.
-  pub login_shows : IsTrue output.tells → ShowsLogin service user status output.old output.new
+  -- If all objects are modelled: its calls are exactly the library's, each at the time of day of its place, what is
+  -- written is their lines, and the world is the one after them.
+  pub logged_in : IfTold setup world output (λ setting. LogsInBy (TriesLogin service user)
+      (exact_calls setting) setup status root world output)
+  -- If only the sink is: the same of calls that the library can make, whatever the other objects are.
+  pub login_shows : IsTrue output.tells → LogsInBy (TriesLogin service user) possible_calls setup
+      status root world output
   pub login_statuses : IsLoginStatus status
 
 -- ---- generate SEED LINES
@@ -176,8 +120,8 @@ pub record GeneratesSo (seed lines : ℕ) (status : ℕ) (setup : Setup) (world 
     (output : Object SinkState) : Type 0 where
   -- If all objects are modelled: the line of the result is written, or a prefix of it, and the world is the one after
   -- it.
-  pub generated : IfTold setup world output (λ setting. GeneratesBy setting status setup.slots seed
-      lines world.old world.new output.old output.new)
+  pub generated : IfTold setup world output (λ setting. GeneratesBy (at_its_clock setting) status
+      setup.slots seed lines world output)
   pub generate_writes : IsTrue output.tells → WritesScript output.old output.new
   pub generate_statuses : IsGenerateStatus status
 
@@ -226,7 +170,7 @@ pub record WiresSo (root : List ℕ) (status : ℕ) (setup : Setup) (world : Aro
   pub wire_answered : IfAllTold setup world input output (λ setting. AnswersBy setting status
       (opening setup.slots root world.old) world.new input.old input.new output.old output.new)
   pub wire_told : IfAllTold setup world input output (λ setting. Serves setting status setup.slots
-      root world.old world.new input.old input.new output.old output.new)
+      root world input output)
   pub wire_statuses : IsWireStatus status
   -- If only the source is modelled: how the bytes that were read end the run, and that it stops early only if an
   -- allocation, a read or a write fails. If only the sink is: how often it was written.

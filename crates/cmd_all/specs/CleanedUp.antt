@@ -11,7 +11,7 @@ use Rattle.cmd_generate.specs.declared.generating.Generated.{Generated}
 use Rattle.cmd_generate.specs.Generated.{IsEndOfGenerate}
 use Rattle.cmd_login.specs.declared.attempt.Verdict.{Verdict}
 use Rattle.cmd_login.specs.Ends.{IsEndOfLogin}
-use Rattle.cmd_login.specs.cmd_run.specs.Ends.{EndsAre, IsEndOfRun}
+use Rattle.cmd_run.specs.Ends.{EndsAre, IsEndOfRun}
 use Rattle.cmd_wire.specs.Ends.{IsEndOfRun as IsEndOfWire}
 use Rattle.cmd_all.specs.Command.{Command, runs, logs_in, generates, wires}
 use Rattle.cmd_all.specs.Exit.{exit_status, generate_exit, login_exit}

@@ -1,3 +1,4 @@
+pub mod Setup
 pub mod Command
 pub mod Asked
 pub mod Exit

@@ -1,16 +1,17 @@
 -- A login under a root, by the status with which the program ends (this project's own).
-use Rattle.std.specs.Prelude.{◌≡◌, ◌⊎◌, ℕ, List, Option, Result}
+use Rattle.std.specs.Prelude.{◌≡◌, ◌⊎◌, ℕ, List, Result}
 use Rattle.pam_outside.specs.Streams.{SinkState}
+use Rattle.pam_room.specs.Module.{Player}
 use Rattle.pam_room.specs.State.{PlainWorld}
-use Rattle.cmd_check.specs.pam_library.specs.Slots.{PlainSlot}
+use Rattle.pam_library.specs.Slots.{PlainSlot}
 use Rattle.record_reader.specs.declared.ending.Stop.{Stop}
 use Rattle.cmd_login.specs.declared.attempt.Verdict.{Verdict}
-use Rattle.cmd_login.specs.Login.{login_of}
-use Rattle.cmd_login.specs.Reported.{Reports, SaysLogin}
-use Rattle.cmd_login.specs.Told.{LogsIn, SaysVerdict, WritesLines}
-use Rattle.cmd_login.specs.cmd_run.specs.State.{Setting, RunState, state_of}
+use Rattle.cmd_login.specs.Login.{KnownCalls, Part}
+use Rattle.cmd_login.specs.Reported.{LogsIn}
+use Rattle.cmd_run.specs.State.{RunState, state_of}
 use Rattle.cmd_all.specs.declared.exit.Exit.TheVariants.{NoMemory}
 use Rattle.cmd_all.specs.Exit.{exit_status, login_exit}
+use Rattle.cmd_all.specs.Setup.{Around, Object, Setup}
 
 abbrev pub IsLoginStatus : ℕ → Type 0
 IsLoginStatus n = (result : Result Verdict Stop) × (n ≡ exit_status (login_exit result))
@@ -26,34 +27,24 @@ pub record IsAtRoot (root : List ℕ) (old new : PlainWorld) : Type 0 where
 abbrev pub entry : List PlainSlot → List ℕ → PlainWorld → RunState
 entry slots root w = state_of slots (at_root root w)
 
--- a login was begun: how much of the report of the definition's login is written, and the world
--- after it
-pub record IsLogin (setting : Setting) (status : ℕ) (service : List ℕ) (user : Option (List ℕ))
-    (start : RunState) (world : PlainWorld) (p q : SinkState) : Type 0 where
+-- a login was begun: what it did and wrote, and the world after it
+pub record IsLogin (Does : Part Verdict) (known : KnownCalls) (players : List Player) (status : ℕ)
+    (start : RunState) (world : PlainWorld) (output : Object SinkState) : Type 0 where
   pub result : Result Verdict Stop
   pub is : status ≡ exit_status (login_exit result)
   pub end : RunState
   pub world_is : world ≡ end.world
-  pub logs_in : LogsIn setting (login_of setting service user start) result start end p q
+  pub logs_in : LogsIn Does known players result start end output.old output.new
 
 -- an allocation for the root or the slots failed, and nothing happened
-pub record IsNoLogin (status : ℕ) (old new : PlainWorld) (p q : SinkState) : Type 0 where
+pub record IsNoLogin (status : ℕ) (around : Around) (output : Object SinkState) : Type 0 where
   pub is : status ≡ exit_status NoMemory
-  pub world : new ≡ old
-  pub sink : q ≡ p
+  pub world : around.new ≡ around.old
+  pub sink : output.new ≡ output.old
 
--- a login with modelled objects
-abbrev pub LogsInBy : Setting → ℕ → List PlainSlot → List ℕ → List ℕ → Option (List ℕ) → PlainWorld
-    → PlainWorld → SinkState → SinkState → Type 0
-LogsInBy setting status slots root service user old new p q =
-    IsLogin setting status service user (entry slots root old) new p q
-    ⊎ IsNoLogin status old new p q
-
--- If only the sink is modelled: how often it was written, and what the verdict is written as; and that what is written is
--- a line for each call with its result, and the verdict is the one that these results lead to.
-pub record ShowsLogin (service : List ℕ) (user : Option (List ℕ)) (status : ℕ) (p q : SinkState) : Type
-    0 where
-  pub result : Result Verdict Stop
-  pub is : status ≡ exit_status (login_exit result)
-  pub shows : WritesLines SaysVerdict result p q
-  pub reports : Reports (SaysLogin service user) result p q
+-- a login over the slots of a setup, by what is known of its calls
+abbrev pub LogsInBy : Part Verdict → KnownCalls → Setup → ℕ → List ℕ → Around → Object SinkState
+    → Type 0
+LogsInBy Does known setup status root world output =
+    IsLogin Does known setup.players status (entry setup.slots root world.old) world.new output
+    ⊎ IsNoLogin status world output

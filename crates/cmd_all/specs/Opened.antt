@@ -4,8 +4,8 @@ use Rattle.pam_base.specs.declared.code.Code.{Code}
 use Rattle.data_cleanup.specs.Modelled.{ModelsEvents}
 use Rattle.pam_room.specs.Module.{notes_of}
 use Rattle.pam_room.specs.State.{PlainWorld}
-use Rattle.cmd_check.specs.pam_library.specs.Slots.{handle_limit, lists_of}
-use Rattle.cmd_login.specs.cmd_run.specs.Seen.{IsSoundIn, NoneIsOpenIn, Seen}
+use Rattle.pam_library.specs.Slots.{handle_limit, lists_of}
+use Rattle.cmd_run.specs.Seen.{IsSoundIn, NoneIsOpenIn, Seen}
 use Rattle.cmd_all.specs.ByCommand.{Setup}
 use Rattle.cmd_all.specs.Login.{at_root}
 

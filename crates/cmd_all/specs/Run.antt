@@ -5,21 +5,22 @@ use Rattle.pam_base.specs.declared.fault.ScriptKind.{ScriptKind}
 use Rattle.pam_outside.specs.Streams.{SourceState, SinkState}
 use Rattle.pam_room.specs.Module.{notes_of}
 use Rattle.pam_room.specs.State.{PlainWorld}
-use Rattle.cmd_check.specs.pam_library.specs.Slots.{PlainSlot, handle_limit, lists_of, slot_at}
+use Rattle.pam_library.specs.Slots.{PlainSlot, handle_limit, lists_of, slot_at}
 use Rattle.record_reader.specs.LineTurns.{Ending}
 use Rattle.record_reader.specs.declared.ending.Ending.TheVariants.{Done, ReadFault, Refused}
 use Rattle.record_reader.specs.declared.ending.Stop.{Stop}
 use Rattle.record_reader.specs.LineRun.{Run, run_of}
 use Rattle.data_cleanup.specs.Due.{Event}
-use Rattle.cmd_login.specs.cmd_run.specs.Events.{AreDue, run_events}
-use Rattle.cmd_login.specs.cmd_run.specs.Reading.{ReadsScript, refused_in}
-use Rattle.cmd_login.specs.cmd_run.specs.SideBySide.{ComesAlone, TellsSteps}
-use Rattle.cmd_login.specs.cmd_run.specs.State.{Setting, RunState, state_of}
-use Rattle.cmd_login.specs.cmd_run.specs.Step.{line_step}
-use Rattle.cmd_login.specs.cmd_run.specs.Closings.{all_closed}
-use Rattle.cmd_login.specs.cmd_run.specs.Whole.{RunsScript, ending_status, last_words}
+use Rattle.cmd_run.specs.Events.{AreDue, run_events}
+use Rattle.cmd_run.specs.Reading.{ReadsScript, refused_in}
+use Rattle.cmd_run.specs.SideBySide.{ComesAlone, TellsSteps}
+use Rattle.cmd_run.specs.State.{Setting, RunState, state_of}
+use Rattle.cmd_run.specs.Step.{line_step}
+use Rattle.cmd_run.specs.Closings.{all_closed}
+use Rattle.cmd_run.specs.Whole.{RunsScript, ending_status, last_words}
 use Rattle.cmd_all.specs.declared.exit.Exit.TheVariants as exits
 use Rattle.cmd_all.specs.Exit.{exit_status, script_exit}
+use Rattle.cmd_all.specs.Setup.{Around, Object}
 
 -- the world under a root, at the time 0 and with the random word 0
 abbrev pub under_root : List ℕ → PlainWorld → PlainWorld
@@ -95,10 +96,11 @@ pub record IsUnread (setting : Setting) (start : RunState) (world : PlainWorld) 
 -- ---- by any status
 
 -- an allocation for the root or the slots failed, and nothing happened
-pub record IsNotBegun (old new : PlainWorld) (x y : SourceState) (p q : SinkState) : Type 0 where
-  pub world : new ≡ old
-  pub source : y ≡ x
-  pub sink : q ≡ p
+pub record IsNotBegun (around : Around) (input : Object SourceState)
+    (output : Object SinkState) : Type 0 where
+  pub world : around.new ≡ around.old
+  pub source : input.new ≡ input.old
+  pub sink : output.new ≡ output.old
 
 -- The lines among some bytes, number by number: the slot of each after them and the outcomes of its steps are those of
 -- its own steps alone, each in the world before it; and what is reported of the lines is the report of these steps.
@@ -123,11 +125,12 @@ pub record IsBegun (setting : Setting) (status : ℕ) (start : RunState) (world 
   pub side_by_side : (bytes : List ℕ) (ended : Bool) → NumbersAlone setting start bytes ended
 
 -- a run with modelled objects, by its status
-abbrev pub Runs : Setting → ℕ → List PlainSlot → List ℕ → PlainWorld → PlainWorld → SourceState
-    → SourceState → SinkState → SinkState → Type 0
-Runs setting status slots root old new x y p q =
-    IsBegun setting status (opening slots root old) new x y p q
-    ⊎ ((status ≡ exit_status exits.NoMemory) × IsNotBegun old new x y p q)
+abbrev pub Runs : Setting → ℕ → List PlainSlot → List ℕ → Around → Object SourceState
+    → Object SinkState → Type 0
+Runs setting status slots root world input output =
+    IsBegun setting status (opening slots root world.old) world.new input.old input.new output.old
+    output.new
+    ⊎ ((status ≡ exit_status exits.NoMemory) × IsNotBegun world input output)
 
 -- if no line of a modelled script is refused and nothing failed, it is run, or out of memory
 abbrev pub Completes : ℕ → List ℕ → Type 0 → Type 0 → Type 0

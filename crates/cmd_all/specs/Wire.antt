@@ -4,18 +4,19 @@ use Rattle.std.specs.Prelude.{◌≡◌, ◌⊎◌, ℕ, ◌+◌, ◌≤◌, tru
 use Rattle.pam_base.specs.declared.call.Step.{Step}
 use Rattle.pam_outside.specs.Streams.{SourceState, SinkState}
 use Rattle.pam_room.specs.State.{PlainWorld}
-use Rattle.cmd_check.specs.pam_library.specs.Slots.{PlainSlot}
+use Rattle.pam_library.specs.Slots.{PlainSlot}
 use Rattle.cmd_wire.specs.pam_wire.specs.Frame.{AreBytes}
 use Rattle.record_reader.specs.declared.ending.Ending.{Ending}
 use Rattle.record_reader.specs.declared.ending.Stop.{Stop}
 use Rattle.cmd_wire.specs.frame_stream.specs.declared.fault.FrameFault.{FrameFault}
 use Rattle.cmd_wire.specs.frame_stream.specs.Spelled.{Spells}
-use Rattle.cmd_login.specs.cmd_run.specs.State.{RunState, Setting}
+use Rattle.cmd_run.specs.State.{RunState, Setting}
 use Rattle.cmd_wire.specs.Reading.{LooksBefore, SpellsTo}
 use Rattle.cmd_wire.specs.Whole.{Answers, AnswersAll, ending_by}
 use Rattle.cmd_all.specs.declared.exit.Exit.TheVariants.{Done, NoMemory, BadFrame, TooManyFrames}
 use Rattle.cmd_all.specs.Exit.{exit_status, frames_exit}
 use Rattle.cmd_all.specs.Run.{IsNotBegun, opening}
+use Rattle.cmd_all.specs.Setup.{Around, Object}
 
 abbrev pub IsWireStatus : ℕ → Type 0
 IsWireStatus n = (result : Result (Ending FrameFault) Stop) × (n ≡ exit_status (frames_exit result))
@@ -39,11 +40,12 @@ pub record IsServed (setting : Setting) (status : ℕ) (start : RunState) (world
 
 -- a run of frames with modelled objects, by its status; or an allocation for the root or the slots failed, and nothing
 -- happened
-abbrev pub Serves : Setting → ℕ → List PlainSlot → List ℕ → PlainWorld → PlainWorld → SourceState
-    → SourceState → SinkState → SinkState → Type 0
-Serves setting status slots root old new x y p q =
-    IsServed setting status (opening slots root old) new x y p q
-    ⊎ ((status ≡ exit_status NoMemory) × IsNotBegun old new x y p q)
+abbrev pub Serves : Setting → ℕ → List PlainSlot → List ℕ → Around → Object SourceState
+    → Object SinkState → Type 0
+Serves setting status slots root world input output =
+    IsServed setting status (opening slots root world.old) world.new input.old input.new output.old
+    output.new
+    ⊎ ((status ≡ exit_status NoMemory) × IsNotBegun world input output)
 
 -- the run ended so: all steps that the bytes taken spell are answered, and the implicit ends after them
 pub record IsAnswered (setting : Setting) (ending : Ending FrameFault) (start : RunState)

@@ -1,6 +1,7 @@
 ghost use Rattle.std.specs.Prelude.{◌≡◌, ◌<◌, length};
+ghost use Rattle.cmd_all.specs.Setup.{IsSameSetup};
 
-use cmd_login::cmd_run::TimeOfDay;
+use cmd_run::TimeOfDay;
 use fail_delay::DelayRule;
 use pam_room::Module;
 use pam_room::conv_port::Conv;
@@ -20,7 +21,7 @@ pub struct Desk {
 
 /// What contracts see of a `Desk`.
 pub trait DeskTold {
-    ghost use Rattle.cmd_all.specs.ByCommand.{Setup};
+    ghost use Rattle.cmd_all.specs.Setup.{Setup};
 
     /// The part of it that transactions get.
     ghost given: { Self → Setup };
@@ -30,10 +31,11 @@ pub trait DeskTold {
 }
 
 impl DeskTold for Desk {
-    ghost use Rattle.std.specs.Prelude.{◌&&◌, is_none, map, slice_set};
+    ghost use Rattle.std.specs.Prelude.{◌&&◌, map, slice_set};
     ghost use Rattle.std.specs.List.{list_all};
     ghost use Rattle.fail_delay.specs.DelayFn.{IsNumberGiven};
-    ghost use Rattle.cmd_check.specs.pam_library.specs.Slots.{closed};
+    ghost use Rattle.pam_library.specs.Slots.{closed};
+    ghost use Rattle.cmd_run.specs.Time.{timing_of};
     ghost use Rattle.pam_room.specs.Module.{player_of};
 
     ghost given = { λ d. record {
@@ -42,7 +44,11 @@ impl DeskTold for Desk {
           (Module-box b).breaks b.value)) d.mods.items;
       slots = map (λ b. closed ((Conv-box b).conv_holds b.value)) d.convs.items;
       gives = IsNumberGiven (DelayRule.post d.delay);
-      tells = is_none d.time && list_all (λ b. (Conv-box b).conv_tells b.value) d.convs.items;
+      moments = (timing_of (λ b. (TimeOfDay-box b).time_tells b.value) (λ b.
+          (TimeOfDay-box b).time_gives b.value) d.time).moments;
+      tells = (timing_of (λ b. (TimeOfDay-box b).time_tells b.value) (λ b.
+          (TimeOfDay-box b).time_gives b.value) d.time).tells
+          && list_all (λ b. (Conv-box b).conv_tells b.value) d.convs.items;
     } };
 
     ghost at_terminal = { λ d. record {
@@ -52,7 +58,10 @@ impl DeskTold for Desk {
       slots = map (λ b. closed ((Conv-box b).conv_holds b.value))
           (slice_set d.convs.items 0 d.term);
       gives = IsNumberGiven (DelayRule.post d.delay);
-      tells = is_none d.time
+      moments = (timing_of (λ b. (TimeOfDay-box b).time_tells b.value) (λ b.
+          (TimeOfDay-box b).time_gives b.value) d.time).moments;
+      tells = (timing_of (λ b. (TimeOfDay-box b).time_tells b.value) (λ b.
+          (TimeOfDay-box b).time_gives b.value) d.time).tells
           && list_all (λ b. (Conv-box b).conv_tells b.value) (slice_set d.convs.items 0 d.term);
     } };
 }
@@ -60,16 +69,11 @@ impl DeskTold for Desk {
 /// Puts the terminal's conversation in the first slot.
 pub(crate) fn with_terminal(desk: Desk) -> Desk
     requires { 0 < length desk.convs.items }
-    ensures players { (⟦<Desk as DeskTold>⟧.given result).players
-        ≡ (⟦<Desk as DeskTold>⟧.at_terminal desk).players }
-    ensures slots { (⟦<Desk as DeskTold>⟧.given result).slots
-        ≡ (⟦<Desk as DeskTold>⟧.at_terminal desk).slots }
-    ensures tells { (⟦<Desk as DeskTold>⟧.given result).tells
-        ≡ (⟦<Desk as DeskTold>⟧.at_terminal desk).tells }
+    ensures setup { IsSameSetup (⟦<Desk as DeskTold>⟧.given result)
+        (⟦<Desk as DeskTold>⟧.at_terminal desk) }
     ensures sixteen { length result.convs.items ≡ length desk.convs.items }
     ensures mods { result.mods ≡ desk.mods }
     ensures delay { result.delay ≡ desk.delay }
-    ensures time { result.time ≡ desk.time }
 {
     let Desk {
         mods,

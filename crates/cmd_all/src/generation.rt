@@ -36,7 +36,7 @@ pub(crate) fn generate_lines<K: Sink>(
     ensures cleaned_up { IsCleanedUp (EndsGenerate (exit_status result))
         (notes_of (⟦<Desk as DeskTold>⟧.given desk).players) world.new.process.ledger }
 {
-    cmd_login::cmd_run::laws::proceeding_adds_events();
+    cmd_run::laws::proceeding_adds_events();
     match library_of(alloc, desk, &world.process.ledger) {
         Err(NoMemory) => Exit::NoMemory,
         Ok(library) => {

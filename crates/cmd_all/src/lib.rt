@@ -17,7 +17,7 @@ mod program;
 mod stream;
 mod usage;
 
-pub use cmd_login::cmd_run::TimeOfDay;
+pub use cmd_run::TimeOfDay;
 pub use cmd_tally::mod_tally;
 pub use desk::{Desk, DeskTold};
 pub use exit::Exit;

@@ -41,7 +41,7 @@ pub(crate) fn log_in<K: Sink>(
     ensures cleaned_up { IsCleanedUp (EndsLogin (exit_status result))
         (notes_of (⟦<Desk as DeskTold>⟧.given desk).players) world.new.process.ledger }
 {
-    cmd_login::cmd_run::laws::proceeding_adds_events();
+    cmd_run::laws::proceeding_adds_events();
     let desk = with_terminal(desk);
     let Desk {
         mods,

@@ -3,20 +3,20 @@ ghost use Rattle.pam_base.specs.declared.code.Code.{Code};
 ghost use Rattle.fail_delay.specs.DelayFn.{IsNumberGiven};
 ghost use Rattle.data_cleanup.specs.Modelled.{ModelsEvents};
 ghost use Rattle.pam_room.specs.Module.{notes_of};
-ghost use Rattle.cmd_check.specs.pam_library.specs.Slots.{NoneIsOpen, handle_limit, lists_of};
-ghost use Rattle.cmd_check.specs.pam_library.specs.Plain.{gear_in};
-ghost use Rattle.cmd_check.specs.pam_library.specs.Sound.{IsSoundFor};
+ghost use Rattle.pam_library.specs.Slots.{NoneIsOpen, handle_limit, lists_of};
+ghost use Rattle.pam_library.specs.Plain.{gear_in};
+ghost use Rattle.pam_library.specs.Sound.{IsSoundFor};
 ghost use Rattle.cmd_all.specs.ByCommand.{IsReady};
 ghost use Rattle.cmd_all.specs.Login.{IsAtRoot};
 ghost use Rattle.cmd_all.specs.Opened.{IsOpened};
 ghost use Rattle.cmd_all.specs.Run.{IsReset};
 
 use crate::desk::{Desk, DeskTold};
-use cmd_check::pam_handle::{Gear, GearTold};
-use cmd_check::pam_library::{Library, LibraryTold, Session, Told};
 use data_cleanup::Ledger;
 use fail_delay::{DelayFn, DelayRule, DelayTold};
 use pam_base::{NoMemory, Text};
+use pam_library::pam_handle::{Gear, GearTold};
+use pam_library::{Library, LibraryTold, Session, Told};
 use pam_outside::{set_moment, set_word};
 use pam_room::{World, WorldTold};
 use std::alloc::Global;
@@ -44,7 +44,7 @@ pub(crate) fn library_of(alloc: Global, desk: Desk, ledger: &Ledger) -> Result<L
         (⟦<Gear as GearTold>⟧.players (gear_in library))
         (⟦<Library as LibraryTold>⟧.slots library) ledger.now) }
 {
-    cmd_check::pam_library::laws::closed_places_have_no_events();
+    pam_library::laws::closed_places_have_no_events();
     let Desk {
         mods,
         convs,

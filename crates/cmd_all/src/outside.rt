@@ -9,7 +9,7 @@ pub struct Outside {
 
 /// What contracts see of a world before and after a command.
 pub trait OutsideTold {
-    ghost use Rattle.cmd_all.specs.ByCommand.{Around};
+    ghost use Rattle.cmd_all.specs.Setup.{Around};
 
     /// Files, clock, sleep and what transactions share.
     type World;

@@ -15,7 +15,7 @@ use crate::login::log_in;
 use crate::outside::{Outside, OutsideTold};
 use crate::stream::run_under;
 use crate::usage::write_usage;
-use cmd_login::cmd_run::Script;
+use cmd_run::Script;
 use cmd_wire::Frames;
 use fail_delay::{DelayRule, LONGEST_ASKED};
 use pam_base::Code;
@@ -120,7 +120,7 @@ pub fn pamsess<S: Source, K: Sink>(
     match command_in(words) {
         None => write_usage(out).status(),
         Some(Command::Run(root)) => {
-            cmd_login::cmd_run::laws::numbers_go_alone();
+            cmd_run::laws::numbers_go_alone();
             script_exit(run_under::<Script, S, K>(alloc, root, script, out, world, desk)).status()
         }
         Some(Command::Check(root, service)) => check_service(

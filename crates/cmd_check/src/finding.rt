@@ -7,7 +7,7 @@ ghost use Rattle.record_reader.specs.Turns.{has_write_fault};
 ghost use Rattle.record_reader.specs.Written.{WritesText};
 ghost use Rattle.cmd_check.specs.Check.{Checks, Finds, IsCheck, check_of, file_text, files_text};
 
-use pam_base::{Failed, NoMemory, Refuse, lowercase};
+use pam_base::{NoMemory, Refuse, lowercase};
 use pam_outside::{Sink, Vault, write_all};
 use record_reader::Stop;
 use report_step::refused_report;
@@ -57,13 +57,9 @@ pub fn check<K: Sink>(
     ensures faults { RisesIf (has_write_fault result) (K.sink_faults out.old)
         (K.sink_faults out.new) }
 {
-    match find(alloc, root, service, vault) {
-        Err(NoMemory) => Err(Stop::NoMemory),
-        Ok(finding) => match write_all(out, &finding.text) {
-            Ok(()) => Ok(finding.found),
-            Err(Failed) => Err(Stop::WriteFault),
-        },
-    }
+    let finding = find(alloc, root, service, vault)?;
+    write_all(out, &finding.text)?;
+    Ok(finding.found)
 }
 
 fn find(

@@ -6,7 +6,7 @@ ghost use Rattle.cmd_run.specs.record_reader.specs.Turns.{has_write_fault};
 ghost use Rattle.cmd_run.specs.Reading.{WritesScript};
 ghost use Rattle.cmd_run.specs.Seen.{AllTell, IsSoundIn, NoneIsOpenIn, Went, setting_in, state};
 ghost use Rattle.cmd_generate.specs.Generated.{AttemptStops, FindsOrStops, Generates, IsEndOfFinding, IsEndOfGenerate, IsFound, attempted, generated_text, generation};
-ghost use Rattle.cmd_generate.specs.Login.{ComesTo, IsEndWith, end_status};
+ghost use Rattle.cmd_generate.specs.Login.{ComesTo, IsEndWith, IsOver, end_status};
 
 use crate::login::{Login, log_in};
 use crate::place::set_process;
@@ -98,13 +98,9 @@ fn find(
     requires few { lines ≤ MAX_RANDOM_LINES }
     requires none_open { NoneIsOpenIn (⟦<Session as Told>⟧.seen library.old world.old) }
     requires sound { IsSoundIn (⟦<Session as Told>⟧.seen library.old world.old) }
-    ensures told { let seen = ⟦<Session as Told>⟧.seen in (delay : TheCode → ℕ → ℕ) →
-        (seen library.old world.old).gives delay → AllTell (seen library.old world.old) →
-        FindsOrStops result (generation (setting_in (seen library.old world.old) delay) seed lines
-        (state (seen library.old world.old))) (state (seen library.new world.new)) }
-    ensures none_open { NoneIsOpenIn (⟦<Session as Told>⟧.seen library.new world.new) }
-    ensures went { let seen = ⟦<Session as Told>⟧.seen in Went (IsEndOfFinding result)
-        (seen library.old world.old) (seen library.new world.new) }
+    ensures { let seen = ⟦<Session as Told>⟧.seen in
+        IsOver (λ setting before. FindsOrStops result (generation setting seed lines before))
+        (IsEndOfFinding result) (seen library.old world.old) (seen library.new world.new) }
 {
     let login = attempt(alloc, library, seed, lines, world);
     describe(alloc, lines, login)
@@ -121,16 +117,10 @@ fn attempt(
     requires few { lines ≤ MAX_RANDOM_LINES }
     requires none_open { NoneIsOpenIn (⟦<Session as Told>⟧.seen library.old world.old) }
     requires sound { IsSoundIn (⟦<Session as Told>⟧.seen library.old world.old) }
-    ensures told { let seen = ⟦<Session as Told>⟧.seen in (delay : TheCode → ℕ → ℕ) →
-        (seen library.old world.old).gives delay → AllTell (seen library.old world.old) →
-        (let setting = setting_in (seen library.old world.old) delay in
-        let before = state (seen library.old world.old) in
-        ComesTo result (attempted setting seed lines before)
-        (AttemptStops setting seed lines before) (state (seen library.new world.new))) }
-    ensures none_open { NoneIsOpenIn (⟦<Session as Told>⟧.seen library.new world.new) }
-    ensures went { let seen = ⟦<Session as Told>⟧.seen in Went
-        (IsEndWith (number_of (end_status result))) (seen library.old world.old)
-        (seen library.new world.new) }
+    ensures { let seen = ⟦<Session as Told>⟧.seen in
+        IsOver (λ setting before. ComesTo result (attempted setting seed lines before)
+        (AttemptStops setting seed lines before)) (IsEndWith (number_of (end_status result)))
+        (seen library.old world.old) (seen library.new world.new) }
 {
     set_process(alloc, world)?;
     let files = random_files(alloc, seed, lines)?;

@@ -2,8 +2,8 @@ ghost use Rattle.std.specs.Prelude.{◌≡◌, ℕ, false, IfOk};
 ghost use Rattle.pam_base.specs.declared.code.Code.{Code as TheCode};
 ghost use Rattle.pam_base.specs.Code.{number_of};
 ghost use Rattle.cmd_run.specs.pam_library.specs.Slots.{is_open_at, slot_at};
-ghost use Rattle.cmd_run.specs.Seen.{AllTell, IsSoundIn, NoneIsOpenIn, Went, setting_in, state};
-ghost use Rattle.cmd_generate.specs.Login.{Authenticates, ComesTo, IsEndWith, LoginStops, NoEnd, Starts, Tries, authenticate_call, code_in, end_status, ended, logged_in, refusal_in, start_call, step_of};
+ghost use Rattle.cmd_run.specs.Seen.{IsSoundIn, NoneIsOpenIn, Went, setting_in, state};
+ghost use Rattle.cmd_generate.specs.Login.{Authenticates, ComesTo, IsEndWith, IsOver, LoginStops, MakesCalls, NoEnd, Starts, Tries, authenticate_call, code_in, end_status, ended, logged_in, refusal_in, start_call, step_of};
 
 use cmd_run::pam_library::{Answer, Library, Outcome, Session, Told};
 use cmd_run::pam_room::World;
@@ -30,16 +30,10 @@ pub(crate) fn log_in(
 ) -> Result<Login, Refuse<LoadFault>>
     requires none_open { NoneIsOpenIn (⟦<Session as Told>⟧.seen library.old world.old) }
     requires sound { IsSoundIn (⟦<Session as Told>⟧.seen library.old world.old) }
-    ensures told { let seen = ⟦<Session as Told>⟧.seen in (delay : TheCode → ℕ → ℕ) →
-        (seen library.old world.old).gives delay → AllTell (seen library.old world.old) →
-        (let setting = setting_in (seen library.old world.old) delay in
-        let before = state (seen library.old world.old) in
-        ComesTo result (logged_in setting before) (LoginStops setting before)
-        (state (seen library.new world.new))) }
-    ensures none_open { NoneIsOpenIn (⟦<Session as Told>⟧.seen library.new world.new) }
-    ensures went { let seen = ⟦<Session as Told>⟧.seen in Went
-        (IsEndWith (number_of (end_status result))) (seen library.old world.old)
-        (seen library.new world.new) }
+    ensures { let seen = ⟦<Session as Told>⟧.seen in
+        IsOver (λ setting before. ComesTo result (logged_in setting before)
+        (LoginStops setting before)) (IsEndWith (number_of (end_status result)))
+        (seen library.old world.old) (seen library.new world.new) }
 {
     let login = attempt(alloc, library, world);
     let status = end_status(&login);
@@ -64,15 +58,8 @@ fn attempt(
     world: &mut World,
 ) -> Result<Login, Refuse<LoadFault>>
     requires sound { IsSoundIn (⟦<Session as Told>⟧.seen library.old world.old) }
-    ensures told { let seen = ⟦<Session as Told>⟧.seen in (delay : TheCode → ℕ → ℕ) →
-        (seen library.old world.old).gives delay → AllTell (seen library.old world.old) →
-        Tries result (setting_in (seen library.old world.old) delay)
-        (state (seen library.old world.old)) (state (seen library.new world.new)) }
-    ensures others { let seen = ⟦<Session as Told>⟧.seen in (number : ℕ) → (number ≡ 1 → ⊥) →
-        slot_at (seen library.new world.new).slots number
-        ≡ slot_at (seen library.old world.old).slots number }
-    ensures went { let seen = ⟦<Session as Told>⟧.seen in Went NoEnd (seen library.old world.old)
-        (seen library.new world.new) }
+    ensures { let seen = ⟦<Session as Told>⟧.seen in MakesCalls (Tries result) NoEnd
+        (seen library.old world.old) (seen library.new world.new) }
 {
     match start(alloc, library, world) {
         Err(refuse) => Err(refuse),
@@ -85,15 +72,8 @@ fn attempt(
 
 fn start(alloc: Global, library: &mut Library, world: &mut World) -> Result<(), Refuse<LoadFault>>
     requires sound { IsSoundIn (⟦<Session as Told>⟧.seen library.old world.old) }
-    ensures told { let seen = ⟦<Session as Told>⟧.seen in (delay : TheCode → ℕ → ℕ) →
-        (seen library.old world.old).gives delay → AllTell (seen library.old world.old) →
-        Starts result (setting_in (seen library.old world.old) delay)
-        (state (seen library.old world.old)) (state (seen library.new world.new)) }
-    ensures others { let seen = ⟦<Session as Told>⟧.seen in (number : ℕ) → (number ≡ 1 → ⊥) →
-        slot_at (seen library.new world.new).slots number
-        ≡ slot_at (seen library.old world.old).slots number }
-    ensures went { let seen = ⟦<Session as Told>⟧.seen in Went NoEnd (seen library.old world.old)
-        (seen library.new world.new) }
+    ensures { let seen = ⟦<Session as Told>⟧.seen in MakesCalls (Starts result) NoEnd
+        (seen library.old world.old) (seen library.new world.new) }
 {
     let step = start_step(alloc)?;
     match library.apply(alloc, world, &step) {
@@ -134,15 +114,8 @@ fn start_step(alloc: Global) -> Result<Step, NoMemory>
 
 fn authenticate(alloc: Global, library: &mut Library, world: &mut World) -> Result<Login, NoMemory>
     requires sound { IsSoundIn (⟦<Session as Told>⟧.seen library.old world.old) }
-    ensures told { let seen = ⟦<Session as Told>⟧.seen in (delay : TheCode → ℕ → ℕ) →
-        (seen library.old world.old).gives delay → AllTell (seen library.old world.old) →
-        Authenticates result (setting_in (seen library.old world.old) delay)
-        (state (seen library.old world.old)) (state (seen library.new world.new)) }
-    ensures others { let seen = ⟦<Session as Told>⟧.seen in (number : ℕ) → (number ≡ 1 → ⊥) →
-        slot_at (seen library.new world.new).slots number
-        ≡ slot_at (seen library.old world.old).slots number }
-    ensures went { let seen = ⟦<Session as Told>⟧.seen in Went NoEnd (seen library.old world.old)
-        (seen library.new world.new) }
+    ensures { let seen = ⟦<Session as Told>⟧.seen in MakesCalls (Authenticates result) NoEnd
+        (seen library.old world.old) (seen library.new world.new) }
 {
     let step = authenticate_step();
     match library.apply(alloc, world, &step) {

@@ -10,10 +10,9 @@ const NOBODY: u32 = 65534;
 
 /// Sets the root `/` and the user ID of nobody. If an allocation fails, the world stays as it was.
 pub(crate) fn set_process(alloc: Global, world: &mut World) -> Result<(), NoMemory>
-    ensures tells { ⟦<World as WorldTold>⟧.tells world.new
-        ≡ ⟦<World as WorldTold>⟧.tells world.old }
-    ensures ok { OnOk result (⟦<World as WorldTold>⟧.plain world.new
-        ≡ from_root (⟦<World as WorldTold>⟧.plain world.old)) }
+    ensures tells { let told = ⟦<World as WorldTold>⟧ in told.tells world.new ≡ told.tells world.old }
+    ensures ok { let plain = ⟦<World as WorldTold>⟧.plain in
+        OnOk result (plain world.new ≡ from_root (plain world.old)) }
     ensures err { OnErr result (world.new ≡ world.old) }
     ensures ledger { world.new.process.ledger ≡ world.old.process.ledger }
 {

@@ -15,14 +15,12 @@ pub(crate) fn place_in_world(
     files: &[RandomFile],
     world: &mut World,
 ) -> Result<(), Refuse<LoadFault>>
-    ensures tells { ⟦<World as WorldTold>⟧.tells world.new
-        ≡ ⟦<World as WorldTold>⟧.tells world.old }
+    ensures tells { let told = ⟦<World as WorldTold>⟧ in told.tells world.new ≡ told.tells world.old }
     ensures told { IsTrue (vault_tells (in_box world.old.vault)) →
         Places result files.now (vault_holds (in_box world.old.vault))
         (vault_holds (in_box world.new.vault)) }
-    ensures rest { ⟦<World as WorldTold>⟧.plain world.new
-        ≡ with_vault (vault_holds (in_box world.new.vault))
-        (⟦<World as WorldTold>⟧.plain world.old) }
+    ensures rest { let plain = ⟦<World as WorldTold>⟧.plain in plain world.new
+        ≡ with_vault (vault_holds (in_box world.new.vault)) (plain world.old) }
     ensures process { world.new.process ≡ world.old.process }
 {
     place_files(alloc, files, &mut *world.vault)

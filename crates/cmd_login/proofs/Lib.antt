@@ -1,9 +1,8 @@
 mod Rows
-pub mod CallLineFacts
+pub mod PartFacts
+pub mod GoesFacts
 pub mod CallSequenceFacts
 pub mod LoginCallFacts
+pub mod LoginStartFacts
 pub mod MiddleCallFacts
 pub mod TransactionEndFacts
-pub mod WholeLoginFacts
-pub mod LoginOutputFacts
-pub mod LoginReportFacts

@@ -31,8 +31,9 @@ accepts SuccessOrTooOld code = false
 accepts Any code = true
 
 -- the table: PAM_CHANGE_EXPIRED_AUTHTOK is 0x20, PAM_ESTABLISH_CRED 2, PAM_DELETE_CRED 4
-abbrev row : Func → ℕ → When → Accepted → LoginCall
-row func flags when accepted = record {
+abbrev row : ℕ → Func → ℕ → When → Accepted → LoginCall
+row place func flags when accepted = record {
+  place = place;
   func = func;
   flags = flags;
   when = when;
@@ -41,14 +42,18 @@ row func flags when accepted = record {
 
 abbrev pub login_calls : List LoginCall
 login_calls =
-    row funcs.Authenticate 0 Always Success
-    ∷ row funcs.AcctMgmt 0 Always SuccessOrTooOld
-    ∷ row funcs.ChAuthTok 0x20 TokenIsTooOld Success
-    ∷ row funcs.SetCred 2 Always Success
-    ∷ row funcs.OpenSession 0 Always Success
-    ∷ row funcs.CloseSession 0 Always Any
-    ∷ row funcs.SetCred 4 Always Any
+    row 1 funcs.Authenticate 0 Always Success
+    ∷ row 2 funcs.AcctMgmt 0 Always SuccessOrTooOld
+    ∷ row 3 funcs.ChAuthTok 0x20 TokenIsTooOld Success
+    ∷ row 4 funcs.SetCred 2 Always Success
+    ∷ row 5 funcs.OpenSession 0 Always Success
+    ∷ row 6 funcs.CloseSession 0 Always Any
+    ∷ row 7 funcs.SetCred 4 Always Any
     ∷ []
+
+-- the place of the end; that of the start is 0
+abbrev pub last_place : ℕ
+last_place = 8
 
 abbrev pub call_of : LoginCall → AppCall
 call_of c = stack_call c.func c.flags

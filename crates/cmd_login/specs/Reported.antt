@@ -1,114 +1,82 @@
--- What a login reports, with real objects too (this project's own): a line for each call that it makes, with a result
--- that the library can return for it; and these results lead to the verdict.
-use Rattle.std.specs.Prelude.{◌≡◌, Bool, true, false, List, [], ◌∷◌, ◌++◌, ℕ, Option, Some, None, Result, Ok, Err}
+-- What a login and its parts do, with real objects too (this project's own): each line is that of a call that the library
+-- made on the slot as the calls before it left it.
+use Rattle.std.specs.Prelude.{◌≡◌, ℕ, ◌+◌, ◌≤◌, false, List, ◌++◌, length, Option, Result, OnOk, IsTrue}
 use Rattle.pam_base.specs.declared.code.Code.{Code}
-use Rattle.pam_base.specs.declared.code.Code.TheVariants.{Success}
 use Rattle.pam_base.specs.declared.call.AppCall.{AppCall}
-use Rattle.pam_base.specs.declared.call.AppCall.TheVariants.{Start}
+use Rattle.pam_outside.specs.Counts.{RisesIf}
 use Rattle.pam_outside.specs.Streams.{SinkState}
-use Rattle.cmd_run.specs.pam_library.specs.AnyWorld.{AnswersBy, is_refused, refusal}
+use Rattle.cmd_run.specs.pam_room.specs.Module.{Player}
+use Rattle.cmd_run.specs.pam_library.specs.AnyWorld.{AnswersBy, FailsAt, refusal}
 use Rattle.cmd_run.specs.pam_library.specs.Outcome.{PlainOutcome}
-use Rattle.cmd_run.specs.pam_library.specs.Slots.{PlainSlot}
+use Rattle.cmd_run.specs.pam_library.specs.Slots.{PlainSlot, slot_at}
 use Rattle.cmd_run.specs.pam_library.specs.Traced.{TracesAt}
 use Rattle.cmd_run.specs.pam_library.specs.declared.outcome.Answer.{Answer}
+use Rattle.cmd_run.specs.Seen.{AllTell, Seen, Went, setting_at, state}
+use Rattle.cmd_run.specs.State.{RunState, setting_of}
+use Rattle.cmd_run.specs.Time.{Timing}
+use Rattle.record_reader.specs.Object.{Object}
+use Rattle.record_reader.specs.Turns.{has_write_fault}
 use Rattle.record_reader.specs.declared.ending.Stop.{Stop}
 use Rattle.cmd_login.specs.declared.attempt.Verdict.{Verdict}
-use Rattle.cmd_login.specs.declared.attempt.Verdict.TheVariants.{Denied, Refused}
-use Rattle.cmd_login.specs.declared.calls.LoginCall.{LoginCall}
-use Rattle.cmd_login.specs.Calls.{accepts, call_of, code_in, is_due, login_calls}
-use Rattle.cmd_login.specs.Login.{answer_line, denied_line, end_call, end_code, last_line, verdict_by}
+use Rattle.cmd_login.specs.Ends.{closing_code}
+use Rattle.cmd_login.specs.Login.{KnownCalls, Part, end_call}
+use Rattle.cmd_login.specs.Told.{exact_calls, state_made}
 
--- A result that the library can return for a call on a transaction, with modelled objects or not: the code of a stack
--- call is the one to which some lines lead, which its outcome lists.
-pub record IsResult (call : AppCall) (answer : Answer) : Type 0 where
-  pub slot : Option PlainSlot
-  pub next : Option PlainSlot
+-- ---- calls, with real objects too
+
+-- The result of a call, by the slot before it and the slot after it: one that the call can have there. The code of a
+-- stack call, and what is held after it, are those to which some lines lead, which its outcome lists.
+pub record IsResult (call : AppCall) (before after : Option PlainSlot) (answer : Answer) : Type
+    0 where
   pub outcome : PlainOutcome
   pub answer_is : outcome.answer ≡ answer
-  pub answers : AnswersBy (refusal slot call) call answer
-  pub traces : TracesAt call slot next outcome
+  pub answers : AnswersBy (refusal before call) call answer
+  pub traces : TracesAt call before after outcome
 
--- the text is the line of the result of a call
-abbrev pub SaysResult : AppCall → Answer → List ℕ → Type 0
-SaysResult call answer text = IsResult call answer × (text ≡ answer_line call answer)
+abbrev pub possible_calls : KnownCalls
+possible_calls = record {
+  made = λ place call s answer after. IsResult call (slot_at s.slots 1) (slot_at after.slots 1)
+      answer;
+  fails = λ place call s after. FailsAt false call (slot_at s.slots 1) (slot_at after.slots 1);
+}
 
--- ---- the calls between start and end
+-- ---- what a part does
 
--- what some calls report, given the code before them: which code denied the login, if one did, and
--- their lines
-abbrev pub Reporting : Type 1
-Reporting = Code → Option Code → List ℕ → Type 0
+-- What it wrote to a modelled sink, with at most one call more than there are bytes; without that one if nothing failed.
+pub record Writes {T : Type 0} (Does : Part T) (known : KnownCalls) (result : Result T Stop)
+    (s after : RunState) (p q : SinkState) : Type 0 where
+  pub text : List ℕ
+  pub written : q.written ≡ p.written ++ text
+  pub calls : q.calls ≤ p.calls + length text + 1
+  pub calls_ok : OnOk result (q.calls ≤ p.calls + length text)
+  pub does : Does known s result after text
 
--- after a code with which the login goes on the other calls follow; any other code denies it, and no call follows
-abbrev pub SaysOthers : Bool → Code → Reporting → Option Code → List ℕ → Type 0
-SaysOthers true code Others denied text = Others code denied text
-SaysOthers false code Others denied text = (denied ≡ Some code) × (text ≡ [])
-
--- the line of a call, and then what follows its code
-pub record SaysMade (c : LoginCall) (Others : Reporting) (denied : Option Code)
-    (text : List ℕ) : Type 0 where
-  pub answer : Answer
-  pub can : IsResult (call_of c) answer
-  pub rest : List ℕ
-  pub text_is : text ≡ answer_line (call_of c) answer ++ rest
-  pub follows : SaysOthers (accepts c.accepted (code_in answer)) (code_in answer) Others denied rest
-
--- a call is made if the code before it asks for it
-abbrev pub SaysTurn : Bool → LoginCall → Code → Reporting → Option Code → List ℕ → Type 0
-SaysTurn false c last Others denied text = Others last denied text
-SaysTurn true c last Others denied text = SaysMade c Others denied text
-
--- the calls of a table, each by the code of the one before it
-abbrev pub SaysCourse : List LoginCall → Reporting
-SaysCourse [] last denied text = (denied ≡ None) × (text ≡ [])
-SaysCourse (c ∷ calls) last denied text =
-    SaysTurn (is_due c.when last) c last (SaysCourse calls) denied text
+-- Exactly what it does if library, world, time and sink are modelled; what it writes if only the sink is; and with real
+-- objects too, which ends it made, and what stays as it was.
+pub record Goes {T : Type 0} (Does : Part T) (Is : ℕ → ℕ → Type 0) (time : Timing)
+    (result : Result T Stop) (old new : Seen) (output : Object SinkState) : Type 0 where
+  pub told : IsTrue time.tells → (delay : Code → ℕ → ℕ) → old.gives delay → AllTell old
+      → IsTrue output.tells
+      → Writes Does (exact_calls (setting_at time.moments old delay)) result (state old) (state new)
+      output.old output.new
+  pub reports : IsTrue output.tells
+      → Writes Does possible_calls result (state old) (state new) output.old output.new
+  pub others : (number : ℕ) → (number ≡ 1 → ⊥)
+      → slot_at new.slots number ≡ slot_at old.slots number
+  pub went : Went Is old new
+  pub faults : RisesIf (has_write_fault result) output.faults_before output.faults_after
+  pub sink_tells : output.tells_after ≡ output.tells
 
 -- ---- the whole login
 
--- the line of the end, which has the status SUCCESS or the code that denied, and a last line if one did
-pub record SaysLastLines (denied : Option Code) (verdict : Verdict) (text : List ℕ) : Type 0 where
-  pub verdict_is : verdict ≡ verdict_by denied
-  pub answer : Answer
-  pub can : IsResult (end_call (end_code denied)) answer
-  pub text_is : text ≡ answer_line (end_call (end_code denied)) answer ++ last_line verdict
+-- the transaction was ended for a result, if it was still open, and nothing was written for that
+abbrev pub IsEndedFor : Result Verdict Stop → List Player → RunState → RunState → Type 0
+IsEndedFor result players last after = (delay : Code → ℕ → ℕ)
+    → after ≡ state_made (setting_of players delay) (end_call (closing_code result)) last
 
--- the last line alone
-abbrev pub SaysDenial : Code → Verdict → List ℕ → Type 0
-SaysDenial code verdict text = (verdict ≡ Denied code) × (text ≡ denied_line code)
-
--- the lines of the calls, and those of the end
-pub record SaysCalls (verdict : Verdict) (text : List ℕ) : Type 0 where
-  pub denied : Option Code
-  pub lines : List ℕ
-  pub end : List ℕ
-  pub text_is : text ≡ lines ++ end
-  pub course : SaysCourse login_calls Success denied lines
-  pub last_lines : SaysLastLines denied verdict end
-
--- after a start that is refused nothing follows
-abbrev pub SaysAfter : Bool → Verdict → List ℕ → Type 0
-SaysAfter true verdict text = (verdict ≡ Refused) × (text ≡ [])
-SaysAfter false verdict text = SaysCalls verdict text
-
--- the line of the start, and then the others
-pub record SaysLogin (service : List ℕ) (user : Option (List ℕ)) (verdict : Verdict)
-    (text : List ℕ) : Type 0 where
-  pub answer : Answer
-  pub can : IsResult (Start service user) answer
-  pub rest : List ℕ
-  pub text_is : text ≡ answer_line (Start service user) answer ++ rest
-  pub follows : SaysAfter (is_refused answer) verdict rest
-
--- ---- what is written
-
--- the text says this about a result; after an Err it is a prefix of such a text
-abbrev pub SaysSo : {T : Type 0} → (T → List ℕ → Type 0) → Result T Stop → List ℕ → Type 0
-SaysSo {T} Says (Ok t) text = Says t text
-SaysSo {T} Says (Err stop) text = (t : T) × (more : List ℕ) × Says t (text ++ more)
-
-pub record Reports {T : Type 0} (Says : T → List ℕ → Type 0) (result : Result T Stop)
-    (old new : SinkState) : Type 0 where
-  pub text : List ℕ
-  pub written : new.written ≡ old.written ++ text
-  pub says : SaysSo Says result text
+-- what a login did and wrote, and then that end
+pub record LogsIn (Does : Part Verdict) (known : KnownCalls) (players : List Player)
+    (result : Result Verdict Stop) (s after : RunState) (p q : SinkState) : Type 0 where
+  pub last : RunState
+  pub writes : Writes Does known result s last p q
+  pub ended : IsEndedFor result players last after

@@ -1,24 +1,26 @@
-ghost use Rattle.std.specs.Prelude.{◌≡◌, ℕ, Ok, Some, IfOk, IsTrue, is_none, string_bytes};
+ghost use Rattle.std.specs.Prelude.{◌≡◌, ℕ, Ok, Some, IfOk, IsTrue, string_bytes};
 ghost use Rattle.std.specs.Option.{option_copied};
 ghost use Rattle.pam_base.specs.ServiceName.{is_service_name};
 ghost use Rattle.pam_base.specs.declared.code.Code.{Code};
 ghost use Rattle.pam_outside.specs.Counts.{RisesIf};
 ghost use Rattle.cmd_run.specs.pam_library.specs.AnyWorld.{is_refused};
 ghost use Rattle.cmd_run.specs.pam_library.specs.Slots.{slot_at};
+ghost use Rattle.record_reader.specs.Object.{object_of};
 ghost use Rattle.record_reader.specs.Turns.{has_write_fault};
-ghost use Rattle.cmd_run.specs.Seen.{AllTell, IsSoundIn, NoneIsOpenIn, Went, setting_in, state};
+ghost use Rattle.cmd_run.specs.Seen.{AllTell, IsSoundIn, NoneIsOpenIn, Went, setting_at, setting_in, state};
+ghost use Rattle.cmd_run.specs.State.{RunState};
 ghost use Rattle.cmd_login.specs.Ends.{IsDenial, IsEndOfLogin, IsEndWith, closing_code};
-ghost use Rattle.cmd_login.specs.Login.{denied_line, end_call, end_code, logging_in, login_end, login_of, make, verdict_by};
-ghost use Rattle.cmd_login.specs.Reported.{Reports, SaysCalls, SaysDenial, SaysLastLines, SaysLogin};
-ghost use Rattle.cmd_login.specs.Told.{LogsInThen, LogsIn, SaysEnd, SaysVerdict, WritesLines, WritesDenial, as_it_is};
+ghost use Rattle.cmd_login.specs.Login.{AfterStart, Denies, FinalVerdict, TriesLogin, denied_line, end_call, end_code, verdict_by};
+ghost use Rattle.cmd_login.specs.Reported.{Goes, LogsIn, Writes, possible_calls};
+ghost use Rattle.cmd_login.specs.Told.{exact_calls, state_made};
 
-use crate::calls::LOGIN_CALLS;
+use crate::calls::{FIRST_PLACE, LAST_PLACE, LOGIN_CALLS};
 use crate::course::go_through;
 use crate::making::make;
 use cmd_run::pam_library::{Answer, Library, Session, Told};
 use cmd_run::pam_room::World;
-use cmd_run::{TimeOfDay, stop_status};
-use pam_base::{AppCall, Code, Failed, NoMemory, Step, Text, code_name, code_number};
+use cmd_run::{TimeOfDay, TimeTold, stop_status};
+use pam_base::{AppCall, Code, NoMemory, Step, Text, code_name, code_number};
 use pam_outside::{Sink, write_all};
 use record_reader::Stop;
 use std::alloc::Global;
@@ -66,24 +68,24 @@ pub fn login<K: Sink>(
     requires none_open { NoneIsOpenIn (⟦<Session as Told>⟧.seen library.old world.old) }
     requires sound { IsSoundIn (⟦<Session as Told>⟧.seen library.old world.old) }
 
-    // If all objects are modelled and the clock stands still: the verdict, what is written, and the library and world afterwards.
-    ensures told { let seen = ⟦<Session as Told>⟧.seen in IsTrue (is_none time.now) →
-        (delay : Code → ℕ → ℕ) → (seen library.old world.old).gives delay →
+    // If all objects are modelled, and the time of day if there is one: each call is exactly the library's, at the time of
+    // day of its place. The calls, what is written of them, and the verdict are those of `TriesLogin`; after an Err the
+    // first of them, and of the last line perhaps a prefix.
+    ensures told { let seen = ⟦<Session as Told>⟧.seen in
+        let time = ⟦<Option<Box<dyn TimeOfDay>> as TimeTold>⟧.timing time.now in
+        IsTrue time.tells → (delay : Code → ℕ → ℕ) → (seen library.old world.old).gives delay →
         AllTell (seen library.old world.old) → IsTrue (K.sink_tells out.old) →
-        (let setting = setting_in (seen library.old world.old) delay in
-        LogsIn setting (login_of setting service.now (option_copied user.entry)
-        (state (seen library.old world.old))) result (state (seen library.old world.old))
-        (state (seen library.new world.new)) (K.sink_holds out.old) (K.sink_holds out.new)) }
+        LogsIn (TriesLogin service.now (option_copied user.entry))
+        (exact_calls (setting_at time.moments (seen library.old world.old) delay))
+        (seen library.old world.old).players result (state (seen library.old world.old))
+        (state (seen library.new world.new)) (K.sink_holds out.old) (K.sink_holds out.new) }
 
-    // If only the sink is modelled: how often it was written, and how the verdict is written.
-    ensures shows { IsTrue (K.sink_tells out.old) →
-        WritesLines SaysVerdict result (K.sink_holds out.old) (K.sink_holds out.new) }
-
-    // If only the sink is modelled: what is written is a line for each call with its result, and the verdict is the one
-    // that these results lead to; after an Err it is a prefix of that.
-    ensures reports { IsTrue (K.sink_tells out.old) →
-        Reports (SaysLogin service.now (option_copied user.entry)) result (K.sink_holds out.old)
-        (K.sink_holds out.new) }
+    // If only the sink is modelled: the same, where each call is one that the library can make on the slot as the calls
+    // before it left it, with a result that it can have there.
+    ensures reports { let seen = ⟦<Session as Told>⟧.seen in IsTrue (K.sink_tells out.old) →
+        LogsIn (TriesLogin service.now (option_copied user.entry)) possible_calls
+        (seen library.old world.old).players result (state (seen library.old world.old))
+        (state (seen library.new world.new)) (K.sink_holds out.old) (K.sink_holds out.new) }
 
     // With real objects too: SUCCESS denies nobody; no transaction is open; and the cleanup log and the module data
     // are what calls of the library, with these statuses of pam_end, made of them.
@@ -116,41 +118,19 @@ fn try_login<K: Sink>(
 ) -> Result<Verdict, Stop>
     requires service { IsTrue (is_service_name service.now) }
     requires sound { IsSoundIn (⟦<Session as Told>⟧.seen library.old world.old) }
-    ensures sink_tells { K.sink_tells out.new ≡ K.sink_tells out.old }
-    ensures told { let seen = ⟦<Session as Told>⟧.seen in IsTrue (is_none time.now) →
-        (delay : Code → ℕ → ℕ) → (seen library.old world.old).gives delay →
-        AllTell (seen library.old world.old) → IsTrue (K.sink_tells out.old) →
-        (let setting = setting_in (seen library.old world.old) delay in
-        LogsInThen setting as_it_is (login_of setting service.now (option_copied user.entry)
-        (state (seen library.old world.old))) result (state (seen library.old world.old))
-        (state (seen library.new world.new)) (K.sink_holds out.old) (K.sink_holds out.new)) }
+    ensures goes { let seen = ⟦<Session as Told>⟧.seen in
+        Goes (TriesLogin service.now (option_copied user.entry)) (IsEndOfLogin result)
+        (⟦<Option<Box<dyn TimeOfDay>> as TimeTold>⟧.timing time.now) result
+        (seen library.old world.old) (seen library.new world.new)
+        (object_of K.sink_tells K.sink_holds K.sink_faults out.old out.new) }
     ensures denies { (code : Code) → result ≡ Ok (Verdict.Denied code) → IsDenial code }
-    ensures others { let seen = ⟦<Session as Told>⟧.seen in (number : ℕ) → (number ≡ 1 → ⊥) →
-        slot_at (seen library.new world.new).slots number
-        ≡ slot_at (seen library.old world.old).slots number }
-    ensures went { let seen = ⟦<Session as Told>⟧.seen in Went (IsEndOfLogin result)
-        (seen library.old world.old) (seen library.new world.new) }
-    ensures shows { IsTrue (K.sink_tells out.old) →
-        WritesLines SaysVerdict result (K.sink_holds out.old) (K.sink_holds out.new) }
-    ensures reports { IsTrue (K.sink_tells out.old) →
-        Reports (SaysLogin service.now (option_copied user.entry)) result (K.sink_holds out.old)
-        (K.sink_holds out.new) }
-    ensures faults { RisesIf (has_write_fault result) (K.sink_faults out.old)
-        (K.sink_faults out.new) }
 {
-    let start = match start_of(alloc, service, user) {
-        Ok(start) => start,
-        Err(NoMemory) => return Err(Stop::NoMemory),
-    };
-    match make(alloc, library, start, time, out, world) {
-        Err(stop) => Err(stop),
-        Ok(answer) => {
-            if is_refused(&answer) {
-                Ok(Verdict::Refused)
-            } else {
-                log_in(alloc, library, time, out, world)
-            }
-        }
+    let start = start_of(alloc, service, user)?;
+    let answer = make(alloc, library, FIRST_PLACE, start, time, out, world)?;
+    if is_refused(&answer) {
+        Ok(Verdict::Refused)
+    } else {
+        log_in(alloc, library, time, out, world)
     }
 }
 
@@ -181,28 +161,14 @@ fn log_in<K: Sink>(
     world: &mut World,
 ) -> Result<Verdict, Stop>
     requires { IsSoundIn (⟦<Session as Told>⟧.seen library.old world.old) }
-    ensures sink_tells { K.sink_tells out.new ≡ K.sink_tells out.old }
-    ensures told { let seen = ⟦<Session as Told>⟧.seen in IsTrue (is_none time.now) →
-        (delay : Code → ℕ → ℕ) → (seen library.old world.old).gives delay →
-        AllTell (seen library.old world.old) → IsTrue (K.sink_tells out.old) →
-        (let setting = setting_in (seen library.old world.old) delay in
-        LogsInThen setting as_it_is (logging_in setting (state (seen library.old world.old))) result
-        (state (seen library.old world.old)) (state (seen library.new world.new))
-        (K.sink_holds out.old) (K.sink_holds out.new)) }
+    ensures goes { let seen = ⟦<Session as Told>⟧.seen in
+        Goes AfterStart (IsEndOfLogin result)
+        (⟦<Option<Box<dyn TimeOfDay>> as TimeTold>⟧.timing time.now) result
+        (seen library.old world.old) (seen library.new world.new)
+        (object_of K.sink_tells K.sink_holds K.sink_faults out.old out.new) }
     ensures denies { (code : Code) → result ≡ Ok (Verdict.Denied code) → IsDenial code }
-    ensures others { let seen = ⟦<Session as Told>⟧.seen in (number : ℕ) → (number ≡ 1 → ⊥) →
-        slot_at (seen library.new world.new).slots number
-        ≡ slot_at (seen library.old world.old).slots number }
-    ensures went { let seen = ⟦<Session as Told>⟧.seen in Went (IsEndOfLogin result)
-        (seen library.old world.old) (seen library.new world.new) }
-    ensures shows { IsTrue (K.sink_tells out.old) →
-        WritesLines SaysEnd result (K.sink_holds out.old) (K.sink_holds out.new) }
-    ensures reports { IsTrue (K.sink_tells out.old) →
-        Reports SaysCalls result (K.sink_holds out.old) (K.sink_holds out.new) }
-    ensures faults { RisesIf (has_write_fault result) (K.sink_faults out.old)
-        (K.sink_faults out.new) }
 {
-    match go_through(
+    let denied = go_through(
         alloc,
         library,
         &LOGIN_CALLS,
@@ -210,10 +176,8 @@ fn log_in<K: Sink>(
         time,
         out,
         world,
-    ) {
-        Err(stop) => Err(stop),
-        Ok(denied) => final_verdict(alloc, library, denied, time, out, world),
-    }
+    )?;
+    final_verdict(alloc, library, denied, time, out, world)
 }
 
 // Ends the transaction with SUCCESS or with the code that denied the login, and writes its result
@@ -227,58 +191,41 @@ fn final_verdict<K: Sink>(
     world: &mut World,
 ) -> Result<Verdict, Stop>
     requires { IsSoundIn (⟦<Session as Told>⟧.seen library.old world.old) }
-    ensures sink_tells { K.sink_tells out.new ≡ K.sink_tells out.old }
-    ensures told { let seen = ⟦<Session as Told>⟧.seen in IsTrue (is_none time.now) →
-        (delay : Code → ℕ → ℕ) → (seen library.old world.old).gives delay →
-        AllTell (seen library.old world.old) → IsTrue (K.sink_tells out.old) →
-        (let setting = setting_in (seen library.old world.old) delay in
-        LogsInThen setting as_it_is
-        (login_end setting denied (state (seen library.old world.old))) result
-        (state (seen library.old world.old)) (state (seen library.new world.new))
-        (K.sink_holds out.old) (K.sink_holds out.new)) }
+    ensures goes { let seen = ⟦<Session as Told>⟧.seen in
+        Goes (FinalVerdict denied) (IsEndWith (end_code denied))
+        (⟦<Option<Box<dyn TimeOfDay>> as TimeTold>⟧.timing time.now) result
+        (seen library.old world.old) (seen library.new world.new)
+        (object_of K.sink_tells K.sink_holds K.sink_faults out.old out.new) }
     ensures verdict { IfOk result (λ verdict. verdict ≡ verdict_by denied) }
-    ensures others { let seen = ⟦<Session as Told>⟧.seen in (number : ℕ) → (number ≡ 1 → ⊥) →
-        slot_at (seen library.new world.new).slots number
-        ≡ slot_at (seen library.old world.old).slots number }
-    ensures went { let seen = ⟦<Session as Told>⟧.seen in Went (IsEndWith (end_code denied))
-        (seen library.old world.old) (seen library.new world.new) }
-    ensures shows { IsTrue (K.sink_tells out.old) →
-        WritesLines SaysEnd result (K.sink_holds out.old) (K.sink_holds out.new) }
-    ensures reports { IsTrue (K.sink_tells out.old) →
-        Reports (SaysLastLines denied) result (K.sink_holds out.old) (K.sink_holds out.new) }
-    ensures faults { RisesIf (has_write_fault result) (K.sink_faults out.old)
-        (K.sink_faults out.new) }
 {
-    match make(alloc, library, end_call(end_code(denied)), time, out, world) {
-        Err(stop) => Err(stop),
-        Ok(_) => match denied {
-            None => Ok(Verdict::Passed),
-            Some(code) => deny(alloc, code, out),
-        },
+    make(
+        alloc,
+        library,
+        LAST_PLACE,
+        end_call(end_code(denied)),
+        time,
+        out,
+        world,
+    )?;
+    match denied {
+        None => Ok(Verdict::Passed),
+        Some(code) => deny(alloc, code, out),
     }
 }
 
 // Writes the last line of a denied login.
 fn deny<K: Sink>(alloc: Global, code: Code, out: &mut K) -> Result<Verdict, Stop>
-    ensures sink_tells { K.sink_tells out.new ≡ K.sink_tells out.old }
-    ensures told { IsTrue (K.sink_tells out.old) →
-        WritesDenial code result (K.sink_holds out.old) (K.sink_holds out.new) }
+    ensures writes { (s : RunState) → IsTrue (K.sink_tells out.old) →
+        Writes (Denies code) possible_calls result s s (K.sink_holds out.old)
+        (K.sink_holds out.new) }
     ensures verdict { IfOk result (λ verdict. verdict ≡ Verdict.Denied code) }
-    ensures shows { IsTrue (K.sink_tells out.old) →
-        WritesLines SaysEnd result (K.sink_holds out.old) (K.sink_holds out.new) }
-    ensures reports { IsTrue (K.sink_tells out.old) →
-        Reports (SaysDenial code) result (K.sink_holds out.old) (K.sink_holds out.new) }
     ensures faults { RisesIf (has_write_fault result) (K.sink_faults out.old)
         (K.sink_faults out.new) }
+    ensures sink_tells { K.sink_tells out.new ≡ K.sink_tells out.old }
 {
-    let line = match denied_line(alloc, code) {
-        Ok(line) => line,
-        Err(NoMemory) => return Err(Stop::NoMemory),
-    };
-    match write_all(out, line.as_bytes()) {
-        Ok(()) => Ok(Verdict::Denied(code)),
-        Err(Failed) => Err(Stop::WriteFault),
-    }
+    let line = denied_line(alloc, code)?;
+    write_all(out, line.as_bytes())?;
+    Ok(Verdict::Denied(code))
 }
 
 fn denied_line(alloc: Global, code: Code) -> Result<String, NoMemory>
@@ -321,9 +268,9 @@ fn closing_code(outcome: Result<Verdict, Stop>) -> Code
 fn end_silently(alloc: Global, library: &mut Library, code: Code, world: &mut World)
     requires { IsSoundIn (⟦<Session as Told>⟧.seen library.old world.old) }
     ensures ended { let seen = ⟦<Session as Told>⟧.seen in (delay : Code → ℕ → ℕ) →
-        (let setting = setting_in (seen library.old world.old) delay in
-        state (seen library.new world.new) ≡ (make setting (end_call code)
-        (state (seen library.old world.old))).state) }
+        state (seen library.new world.new)
+        ≡ state_made (setting_in (seen library.old world.old) delay) (end_call code)
+        (state (seen library.old world.old)) }
     ensures others { let seen = ⟦<Session as Told>⟧.seen in (number : ℕ) → (number ≡ 1 → ⊥) →
         slot_at (seen library.new world.new).slots number
         ≡ slot_at (seen library.old world.old).slots number }

@@ -45,10 +45,17 @@ impl Accepted {
     }
 }
 
-/// A call of a login: the function that it calls in the modules, its flags, when it is made, and the codes after
-/// which the login goes on.
+/// The place of `pam_start(3)`; the time of day is asked by a call's place.
+pub(crate) const FIRST_PLACE: u32 = 0;
+
+/// The place of `pam_end(3)`.
+pub(crate) const LAST_PLACE: u32 = 8;
+
+/// A call of a login: its place, the function that it calls in the modules, its flags, when it is made, and the codes
+/// after which the login goes on.
 #[derive(Clone, Copy, Debug)]
 pub(crate) struct LoginCall {
+    pub(crate) place: u32,
     pub(crate) func: Func,
     pub(crate) flags: u32,
     pub(crate) when: When,
@@ -66,42 +73,49 @@ impl LoginCall {
 /// The calls between `pam_start(3)` and `pam_end(3)`, in order.
 pub(crate) const LOGIN_CALLS: [LoginCall; 7] = [
     LoginCall {
+        place: 1,
         func: Func::Authenticate,
         flags: 0,
         when: When::Always,
         accepted: Accepted::Success,
     },
     LoginCall {
+        place: 2,
         func: Func::AcctMgmt,
         flags: 0,
         when: When::Always,
         accepted: Accepted::SuccessOrTooOld,
     },
     LoginCall {
+        place: 3,
         func: Func::ChAuthTok,
         flags: CHANGE_EXPIRED_AUTHTOK,
         when: When::TokenIsTooOld,
         accepted: Accepted::Success,
     },
     LoginCall {
+        place: 4,
         func: Func::SetCred,
         flags: ESTABLISH_CRED,
         when: When::Always,
         accepted: Accepted::Success,
     },
     LoginCall {
+        place: 5,
         func: Func::OpenSession,
         flags: 0,
         when: When::Always,
         accepted: Accepted::Success,
     },
     LoginCall {
+        place: 6,
         func: Func::CloseSession,
         flags: 0,
         when: When::Always,
         accepted: Accepted::Any,
     },
     LoginCall {
+        place: 7,
         func: Func::SetCred,
         flags: DELETE_CRED,
         when: When::Always,

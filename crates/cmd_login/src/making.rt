@@ -1,30 +1,31 @@
-ghost use Rattle.std.specs.Prelude.{◌≡◌, ℕ, IfOk, IsTrue, is_none, string_bytes};
+ghost use Rattle.std.specs.Prelude.{◌≡◌, ℕ, IfOk, IsTrue, string_bytes};
 ghost use Rattle.pam_base.specs.declared.code.Code.{Code};
-ghost use Rattle.pam_base.specs.declared.call.AppCall.{AppCall};
 ghost use Rattle.pam_base.specs.Call.{is_fit};
 ghost use Rattle.pam_outside.specs.Counts.{RisesIf};
 ghost use Rattle.cmd_run.specs.pam_library.specs.Slots.{slot_at};
+ghost use Rattle.record_reader.specs.Object.{object_of};
 ghost use Rattle.record_reader.specs.Turns.{has_write_fault};
 ghost use Rattle.cmd_run.specs.Ends.{IsEndStep};
 ghost use Rattle.cmd_run.specs.Seen.{AllTell, IsSoundIn, Went, setting_in, state};
-ghost use Rattle.cmd_login.specs.Login.{answer_line, make};
-ghost use Rattle.cmd_login.specs.Reported.{Reports, SaysResult};
-ghost use Rattle.cmd_login.specs.Told.{Makes, SaysAnswer, WritesLines};
+ghost use Rattle.cmd_login.specs.Login.{MakesCall, answer_line};
+ghost use Rattle.cmd_login.specs.Reported.{Goes, Writes, possible_calls};
+ghost use Rattle.cmd_login.specs.Told.{exact_calls, step_of};
 
 use cmd_run::pam_library::{Answer, Library, Session, Told};
 use cmd_run::pam_room::World;
 use cmd_run::report_step::{refused_report, result_report};
-use cmd_run::{TimeOfDay, keep_time};
-use pam_base::{AppCall, Failed, NoMemory, Step};
+use cmd_run::{TimeOfDay, TimeTold, keep_time};
+use pam_base::{AppCall, NoMemory, Step};
 use pam_outside::{Sink, write_all};
 use record_reader::Stop;
 use std::alloc::Global;
 
-/// Makes a call in the first transaction, at the time of day if that is known, and writes the result line alone, not the
-/// rest of the report. If a start is refused, that is the line of the fault.
+/// Makes a call in the first transaction, at the time of day of its place if there is one, and writes the result line
+/// alone, not the rest of the report. If a start is refused, that is the line of the fault.
 pub(crate) fn make<K: Sink>(
     alloc: Global,
     library: &mut Library,
+    place: u32,
     call: AppCall,
     time: &Option<Box<dyn TimeOfDay>>,
     out: &mut K,
@@ -32,28 +33,13 @@ pub(crate) fn make<K: Sink>(
 ) -> Result<Answer, Stop>
     requires fit { IsTrue (is_fit call) }
     requires sound { IsSoundIn (⟦<Session as Told>⟧.seen library.old world.old) }
-    ensures sink_tells { K.sink_tells out.new ≡ K.sink_tells out.old }
-    ensures told { let seen = ⟦<Session as Told>⟧.seen in IsTrue (is_none time.now) →
-        (delay : Code → ℕ → ℕ) → (seen library.old world.old).gives delay →
-        AllTell (seen library.old world.old) → IsTrue (K.sink_tells out.old) →
-        (let setting = setting_in (seen library.old world.old) delay in
-        Makes setting (make setting call (state (seen library.old world.old))) result
-        (state (seen library.old world.old)) (state (seen library.new world.new))
-        (K.sink_holds out.old) (K.sink_holds out.new)) }
-    ensures others { let seen = ⟦<Session as Told>⟧.seen in (number : ℕ) → (number ≡ 1 → ⊥) →
-        slot_at (seen library.new world.new).slots number
-        ≡ slot_at (seen library.old world.old).slots number }
-    ensures went { let seen = ⟦<Session as Told>⟧.seen in Went
-        (IsEndStep (record { number = 1; call = call })) (seen library.old world.old)
-        (seen library.new world.new) }
-    ensures shows { IsTrue (K.sink_tells out.old) →
-        WritesLines (SaysAnswer call) result (K.sink_holds out.old) (K.sink_holds out.new) }
-    ensures reports { IsTrue (K.sink_tells out.old) →
-        Reports (SaysResult call) result (K.sink_holds out.old) (K.sink_holds out.new) }
-    ensures faults { RisesIf (has_write_fault result) (K.sink_faults out.old)
-        (K.sink_faults out.new) }
+    ensures goes { let seen = ⟦<Session as Told>⟧.seen in
+        Goes (MakesCall place call) (IsEndStep (step_of call))
+        (⟦<Option<Box<dyn TimeOfDay>> as TimeTold>⟧.timing time.now) result
+        (seen library.old world.old) (seen library.new world.new)
+        (object_of K.sink_tells K.sink_holds K.sink_faults out.old out.new) }
 {
-    keep_time(time, world);
+    keep_time(time, place, world);
     make_now(alloc, library, call, out, world)
 }
 
@@ -67,40 +53,31 @@ fn make_now<K: Sink>(
 ) -> Result<Answer, Stop>
     requires fit { IsTrue (is_fit call) }
     requires sound { IsSoundIn (⟦<Session as Told>⟧.seen library.old world.old) }
-    ensures sink_tells { K.sink_tells out.new ≡ K.sink_tells out.old }
-    ensures told { let seen = ⟦<Session as Told>⟧.seen in (delay : Code → ℕ → ℕ) →
+    ensures told { let seen = ⟦<Session as Told>⟧.seen in (place : ℕ) → (delay : Code → ℕ → ℕ) →
         (seen library.old world.old).gives delay → AllTell (seen library.old world.old) →
         IsTrue (K.sink_tells out.old) →
-        (let setting = setting_in (seen library.old world.old) delay in
-        Makes setting (make setting call (state (seen library.old world.old))) result
+        Writes (MakesCall place call) (exact_calls (setting_in (seen library.old world.old) delay))
+        result (state (seen library.old world.old)) (state (seen library.new world.new))
+        (K.sink_holds out.old) (K.sink_holds out.new) }
+    ensures reports { let seen = ⟦<Session as Told>⟧.seen in (place : ℕ) →
+        IsTrue (K.sink_tells out.old) →
+        Writes (MakesCall place call) possible_calls result
         (state (seen library.old world.old)) (state (seen library.new world.new))
-        (K.sink_holds out.old) (K.sink_holds out.new)) }
+        (K.sink_holds out.old) (K.sink_holds out.new) }
     ensures others { let seen = ⟦<Session as Told>⟧.seen in (number : ℕ) → (number ≡ 1 → ⊥) →
         slot_at (seen library.new world.new).slots number
         ≡ slot_at (seen library.old world.old).slots number }
-    ensures went { let seen = ⟦<Session as Told>⟧.seen in Went
-        (IsEndStep (record { number = 1; call = call })) (seen library.old world.old)
-        (seen library.new world.new) }
-    ensures shows { IsTrue (K.sink_tells out.old) →
-        WritesLines (SaysAnswer call) result (K.sink_holds out.old) (K.sink_holds out.new) }
-    ensures reports { IsTrue (K.sink_tells out.old) →
-        Reports (SaysResult call) result (K.sink_holds out.old) (K.sink_holds out.new) }
+    ensures went { let seen = ⟦<Session as Told>⟧.seen in Went (IsEndStep (step_of call))
+        (seen library.old world.old) (seen library.new world.new) }
     ensures faults { RisesIf (has_write_fault result) (K.sink_faults out.old)
         (K.sink_faults out.new) }
+    ensures sink_tells { K.sink_tells out.new ≡ K.sink_tells out.old }
 {
     let step = Step { number: 1, call };
-    let answer = match library.apply(alloc, world, &step) {
-        Ok(outcome) => outcome.answer,
-        Err(NoMemory) => return Err(Stop::NoMemory),
-    };
-    let line = match line_of(alloc, &step, &answer) {
-        Ok(line) => line,
-        Err(NoMemory) => return Err(Stop::NoMemory),
-    };
-    match write_all(out, line.as_bytes()) {
-        Ok(()) => Ok(answer),
-        Err(Failed) => Err(Stop::WriteFault),
-    }
+    let answer = library.apply(alloc, world, &step)?.answer;
+    let line = line_of(alloc, &step, &answer)?;
+    write_all(out, line.as_bytes())?;
+    Ok(answer)
 }
 
 fn line_of(alloc: Global, step: &Step, answer: &Answer) -> Result<String, NoMemory>

@@ -14,7 +14,7 @@ use Rattle.record_reader.specs.Run.{after, run_items, run_of as run_of_items}
 use Rattle.record_reader.specs.LineRun.{Run, run_lines, run_of, step_at}
 use Rattle.record_reader.specs.Looked.{looked}
 use Rattle.report_step.specs.Step.{step_text}
-use Rattle.cmd_run.specs.State.{Setting, RunState}
+use Rattle.cmd_run.specs.State.{RunState, Setting, kept_at}
 use Rattle.cmd_run.specs.Step.{applied_or_refused, line_step}
 use Rattle.cmd_run.specs.SideBySide.{TellsSteps, report_of_steps, step_of, steps_after, steps_in, steps_of}
 
@@ -27,9 +27,9 @@ module _ (setting : Setting) where
   by_tests false false r x e = e
 
   pub as_read : (n : ℕ) (s : RunState) (line : List ℕ) (x : RunState × List ℕ) → step_at (line_step setting) n s line ≡ Ok x
-      → applied_or_refused setting s (parsed line) ≡ Ok x
+      → applied_or_refused setting (kept_at setting n s) (parsed line) ≡ Ok x
   unfolding step_at line_step
-  as_read n s line x e = by_tests (leb 65536 n) (ltb 513 (length line)) (line_step setting s line) x e
+  as_read n s line x e = by_tests (leb 65536 n) (ltb 513 (length line)) (line_step setting n s line) x e
 
   -- ---- one line
 
@@ -84,11 +84,11 @@ module _ (setting : Setting) where
 
   slots_by : (n : ℕ) (s : RunState) (l : List ℕ) (ls : List (List ℕ)) → ((t : RunState) → SlotsAre t (steps_in setting (n + 1) t ls) (rest_of n ls t).last)
       → (r : Result (RunState × List ℕ) ScriptKind) → step_at (line_step setting) n s l ≡ r
-      → SlotsAre s (steps_after setting s l r (λ t. steps_in setting (n + 1) t ls)) (after n s r (rest_of n ls)).last
+      → SlotsAre s (steps_after setting (kept_at setting n s) l r (λ t. steps_in setting (n + 1) t ls)) (after n s r (rest_of n ls)).last
   slots_by n s l ls next (Ok x) e =
-      slots-append (step_of s (parsed l)) (steps_in setting (n + 1) x.0 ls) s.slots
+      slots-append (step_of (kept_at setting n s) (parsed l)) (steps_in setting (n + 1) x.0 ls) s.slots
       ∙ ap (λ (slots : List PlainSlot). slots_after setting.players setting.delay slots (steps_in setting (n + 1) x.0 ls))
-      (one_slots s (parsed l) x (as_read n s l x e))
+      (one_slots (kept_at setting n s) (parsed l) x (as_read n s l x e))
       ∙ next x.0
   slots_by n s l ls next (Err kind) e = refl
 
@@ -100,15 +100,15 @@ module _ (setting : Setting) where
   text_by : (n : ℕ) (s : RunState) (l : List ℕ) (ls : List (List ℕ))
       → ((t : RunState) → (rest_of n ls t).text ≡ report_of_steps setting t.slots (steps_in setting (n + 1) t ls))
       → (r : Result (RunState × List ℕ) ScriptKind) → step_at (line_step setting) n s l ≡ r
-      → (after n s r (rest_of n ls)).text ≡ report_of_steps setting s.slots (steps_after setting s l r (λ t. steps_in setting (n + 1) t ls))
+      → (after n s r (rest_of n ls)).text ≡ report_of_steps setting s.slots (steps_after setting (kept_at setting n s) l r (λ t. steps_in setting (n + 1) t ls))
   text_by n s l ls next (Ok x) e =
       let read = as_read n s l x e in
       let past_end = steps_in setting (n + 1) x.0 ls in
       ap (λ (t : List ℕ). x.1 ++ t) (next x.0)
-      ∙ ap (λ (t : List ℕ). t ++ report_of_steps setting x.0.slots past_end) (sym (one_text s (parsed l) x read))
-      ∙ ap (λ (slots : List PlainSlot). report_of_steps setting s.slots (step_of s (parsed l)) ++ report_of_steps setting slots past_end)
-      (sym (one_slots s (parsed l) x read))
-      ∙ sym (report-append (step_of s (parsed l)) past_end s.slots)
+      ∙ ap (λ (t : List ℕ). t ++ report_of_steps setting x.0.slots past_end) (sym (one_text (kept_at setting n s) (parsed l) x read))
+      ∙ ap (λ (slots : List PlainSlot). report_of_steps setting s.slots (step_of (kept_at setting n s) (parsed l)) ++ report_of_steps setting slots past_end)
+      (sym (one_slots (kept_at setting n s) (parsed l) x read))
+      ∙ sym (report-append (step_of (kept_at setting n s) (parsed l)) past_end s.slots)
   text_by n s l ls next (Err kind) e = refl
 
   pub text_in : (n : ℕ) (s : RunState) (ls : List (List ℕ))

@@ -63,6 +63,10 @@ module _ (wrapped : List ℕ → List ℕ) (names : List (List ℕ)) where
     made_cut {T} NoMemory same = subst (λ (s : SinkState). ReportsCalls wrapped names {T = T} (Err NoMemory) slots next p s) (sym same)
         (made_broken NoMemory slots next p)
 
+    pub made_report : (result : Result (Unit {0}) Stop) → WritesReport result text p q → ReportsCalls wrapped names result slots next p q
+    made_report (Ok done) w = made_one done done w
+    made_report (Err stop) w = made_cut stop w
+
   pub made_ok_as : {T U : Type 0} (t : T) (u : U) (slots next : List PlainSlot) (p q : SinkState) → ReportsCalls wrapped names {T = T} (Ok t) slots next p q
       → ReportsCalls wrapped names {T = U} (Ok u) slots next p q
   made_ok_as t u slots next p q r = record { made = r.made; middle = r.middle; are_made = r.are_made; part = r.part; written = r.written; to = r.to }

@@ -19,8 +19,8 @@ use Rattle.record_reader.specs.Run.{after, run_items}
 use Rattle.record_reader.specs.LineRun.{run_lines, step_at}
 use Rattle.cmd_run.specs.Closings.{all_closed, closings_after, last_state, world_after}
 use Rattle.cmd_run.specs.SideBySide.{step_of, steps_after, steps_in}
-use Rattle.cmd_run.specs.State.{RunState, Setting, state_of}
-use Rattle.cmd_run.specs.Step.{applied, applied_or_refused, line_step}
+use Rattle.cmd_run.specs.State.{RunState, Setting, kept_at, state_of}
+use Rattle.cmd_run.specs.Step.{applied_or_refused, line_step}
 use Rattle.cmd_run.specs.Visits.{StepsAsk}
 
 -- ---- the lines
@@ -67,15 +67,16 @@ module _ (setting : Setting) (asks : AllStepsAsk) (at_once : AllStepsAskAtOnce) 
   either s read true x y g h = g
   either s read false x y g h = h
 
-  line_leads : (n : ℕ) (s : RunState) (line : List ℕ) → LineLeads s (parsed line) (step_at (line_step setting) n s line)
+  line_leads : (n : ℕ) (s : RunState) (line : List ℕ) → LineLeads (kept_at setting n s) (parsed line) (step_at (line_step setting) n s line)
   unfolding step_at line_step
   line_leads n s line =
-      either s (parsed line) (nat_le 65536 n) (Err TooManyLines) _ tt (either s (parsed line) (nat_lt 513 (length line)) (Err LineTooLong) _ tt
-      (parsed_leads s (parsed line)))
+      let now : RunState = (kept_at setting n s) in
+      either now (parsed line) (nat_le 65536 n) (Err TooManyLines) _ tt (either now (parsed line) (nat_lt 513 (length line)) (Err LineTooLong) _ tt
+      (parsed_leads now (parsed line)))
 
-  past_end : (n : ℕ) (s : RunState) (l : List ℕ) (ls : List (List ℕ)) (r : Result (RunState × List ℕ) ScriptKind) → LineLeads s (parsed l) r
+  past_end : (n : ℕ) (s : RunState) (l : List ℕ) (ls : List (List ℕ)) (r : Result (RunState × List ℕ) ScriptKind) → LineLeads (kept_at setting n s) (parsed l) r
       → ((t : RunState) → Leads t (steps_in setting (n + 1) t ls) (run_lines (line_step setting) (n + 1) t ls).last.world.vault.files)
-      → Leads s (steps_after setting s l r (λ t. steps_in setting (n + 1) t ls))
+      → Leads s (steps_after setting (kept_at setting n s) l r (λ t. steps_in setting (n + 1) t ls))
       (after n s r (λ t. run_lines (line_step setting) (n + 1) t ls)).last.world.vault.files
   past_end n s l ls (Ok x) leads more = leads (steps_in setting (n + 1) x.0 ls) _ (more x.0)
   past_end n s l ls (Err kind) leads more = ([], refl, refl)

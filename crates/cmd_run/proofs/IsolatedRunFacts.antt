@@ -37,7 +37,8 @@ use Rattle.report_step.specs.Waited.{waited_text}
 use Rattle.cmd_run.specs.Isolation.{MadeStep, FilesStay, IsQuietStart, LeaveFiles, alone, steps_among, steps_then, made_steps, made_step}
 use Rattle.cmd_run.specs.Isolation.{filed_text_with, is_on, is_on_another, line_alone, receipt_text_with, step_in, step_text_with, text_of}
 use Rattle.cmd_run.specs.Isolation.{text_without_ids, texts_among}
-use Rattle.cmd_run.specs.State.{RunState, Setting, state_of}
+use Rattle.cmd_run.specs.State.{RunState, Setting, kept_at, state_of}
+use Rattle.cmd_run.specs.Time.{kept_moment}
 use Rattle.cmd_run.specs.Step.{applied, applied_or_refused, line_step}
 use Rattle.cmd_run.proofs.ItemEffectFacts.{long_line}
 
@@ -81,16 +82,16 @@ abbrev pub seen : MadeStep → Seen
 seen c = record { step = c.step; told = told_in c.outcome; cleaned = cleaned_after c.outcome.filed_from c.ledger }
 
 module _ (setting : Setting) where
-  by_length : (b : Bool) (s : RunState) (line : List ℕ) → nat_lt 513 (length line) ≡ b
-      → (if b then Err LineTooLong else line_step setting s line) ≡ applied_or_refused setting s (parsed line)
+  by_length : (b : Bool) (n : ℕ) (s : RunState) (line : List ℕ) → nat_lt 513 (length line) ≡ b
+      → (if b then Err LineTooLong else line_step setting n s line) ≡ applied_or_refused setting (kept_at setting n s) (parsed line)
   unfolding line_step
-  by_length true s line e = sym (ap (applied_or_refused setting s) (long_line line (ltb-true 513 (length line) e)))
-  by_length false s line e = refl
+  by_length true n s line e = sym (ap (applied_or_refused setting (kept_at setting n s)) (long_line line (ltb-true 513 (length line) e)))
+  by_length false n s line e = refl
 
   step_is : (n : ℕ) (s : RunState) (line : List ℕ)
-      → step_at (line_step setting) n s line ≡ counted (nat_le 65536 n) (applied_or_refused setting s (parsed line))
+      → step_at (line_step setting) n s line ≡ counted (nat_le 65536 n) (applied_or_refused setting (kept_at setting n s) (parsed line))
   unfolding step_at
-  step_is n s line = ap (λ (r : Result (RunState × List ℕ) ScriptKind). counted (nat_le 65536 n) r) (by_length (nat_lt 513 (length line)) s line refl)
+  step_is n s line = ap (λ (r : Result (RunState × List ℕ) ScriptKind). counted (nat_le 65536 n) r) (by_length (nat_lt 513 (length line)) n s line refl)
 
   module _ (number : ℕ) where
     abbrev pub Alike : RunState → RunState → Type 0
@@ -107,11 +108,38 @@ module _ (setting : Setting) where
     abbrev line_came : Bool → RunState → Result Line ScriptKind → (RunState → List MadeStep) → List MadeStep
     line_came many s p next = steps_then (counted many (applied_or_refused setting s p)) (λ text. made_steps setting number s (step_in p)) next
 
-    abbrev line_run : Bool → ℕ → RunState → Result Line ScriptKind → (RunState → Run RunState) → Run RunState
-    line_run many n s p next = after n s (counted many (applied_or_refused setting s p)) next
+    abbrev line_run : Bool → ℕ → RunState → RunState → Result Line ScriptKind → (RunState → Run RunState) → Run RunState
+    line_run many n before s p next = after n before (counted many (applied_or_refused setting s p)) next
 
     abbrev LineStays : Bool → RunState → Result Line ScriptKind → (RunState → Type 0) → Type 0
     LineStays many s p Next = FilesStay (counted many (applied_or_refused setting s p)) (is_on_another number (step_in p)) s Next
+
+    set_twins : (clock : ClockState → ClockState) (time : Time → Time) → ((c : ClockState) → time_of (clock c) ≡ time (time_of c)) → (caller : ℕ → ℕ)
+        (s t : RunState) → Alike s t →
+        Alike (state_of s.slots (record s.world { clock = clock s.world.clock; process = record s.world.process { caller = caller s.world.process.caller } }))
+        (state_of t.slots (record t.world { clock = clock t.world.clock; process = record t.world.process { caller = caller t.world.process.caller } }))
+    set_twins clock time agrees caller s t h = record {
+      place = h.place;
+      shown =
+          ap (λ (x : Time). record (shown_to number s.world) { clock = x; caller = caller s.world.process.caller }) (agrees s.world.clock)
+          ∙ ap (λ (x : Shown). record x { clock = time x.clock; caller = caller x.caller }) h.shown
+          ∙ sym (ap (λ (x : Time). record (shown_to number t.world) { clock = x; caller = caller t.world.process.caller }) (agrees t.world.clock));
+      first_order = h.first_order;
+      second_order = h.second_order;
+      first_quiet = h.first_quiet;
+      second_quiet = h.second_quiet;
+    }
+
+    -- the clock is set before a line, in both
+    kept_alike : (n : ℕ) (s t : RunState) → Alike s t → Alike (kept_at setting n s) (kept_at setting n t)
+    kept_alike n s t h =
+        let now : ℕ → ℕ = kept_moment (setting.moments n) in
+        set_twins (λ (c : ClockState). record c { moment = now c.moment }) (λ (x : Time). record x { moment = now x.moment }) (λ c. refl) (λ (c : ℕ). c) s t h
+
+    stays_kept : (r : Result (RunState × List ℕ) ScriptKind) (another : Bool) (n : ℕ) (s : RunState) (Next : RunState → Type 0) → FilesStay r another s Next
+        → FilesStay r another (kept_at setting n s) Next
+    stays_kept (Ok x) another n s Next h = h
+    stays_kept (Err kind) another n s Next h = h
 
     module _ (own : OwnCalls) (other : OtherCalls) (n : ℕ) (f g : RunState → List MadeStep) (u v : RunState → Run RunState) (Next : RunState → Type 0)
         (more : (x y : RunState) → Alike x y → Next x → GoAlike (f x) (g y) (u x) (v y)) where
@@ -120,30 +148,14 @@ module _ (setting : Setting) where
       silent x y text words alike stays = let m : GoAlike (f x) (g y) (u x) (v y) = more x y alike stays in
           record { came = m.came; last = m.last; lines = m.lines; refused = m.refused }
 
-      set_twins : (clock : ClockState → ClockState) (time : Time → Time) → ((c : ClockState) → time_of (clock c) ≡ time (time_of c)) → (caller : ℕ → ℕ)
-          (s t : RunState) → Alike s t →
-          Alike (state_of s.slots (record s.world { clock = clock s.world.clock; process = record s.world.process { caller = caller s.world.process.caller } }))
-          (state_of t.slots (record t.world { clock = clock t.world.clock; process = record t.world.process { caller = caller t.world.process.caller } }))
-      set_twins clock time agrees caller s t h = record {
-        place = h.place;
-        shown =
-            ap (λ (x : Time). record (shown_to number s.world) { clock = x; caller = caller s.world.process.caller }) (agrees s.world.clock)
-            ∙ ap (λ (x : Shown). record x { clock = time x.clock; caller = caller x.caller }) h.shown
-            ∙ sym (ap (λ (x : Time). record (shown_to number t.world) { clock = x; caller = caller t.world.process.caller }) (agrees t.world.clock));
-        first_order = h.first_order;
-        second_order = h.second_order;
-        first_quiet = h.first_quiet;
-        second_quiet = h.second_quiet;
-      }
-
       -- a step
-      step_goes : (s t : RunState) (step : Step) (b : Bool) → nat_eq step.number number ≡ b → Alike s t → LineStays false s (Ok (lines.Step step)) Next →
+      step_goes : (s t0 t : RunState) (step : Step) (b : Bool) → nat_eq step.number number ≡ b → Alike s t → LineStays false s (Ok (lines.Step step)) Next →
           GoAlike
           ((if b then made_step setting s step ∷ [] else []) ++ f (applied setting s (lines.Step step)).0)
           (line_came false t (if not b then Ok lines.Blank else Ok (lines.Step step)) g)
           (with_text (applied setting s (lines.Step step)).1 (u (applied setting s (lines.Step step)).0))
-          (line_run false n t (if not b then Ok lines.Blank else Ok (lines.Step step)) v)
-      step_goes s t step true is h stays =
+          (line_run false n t0 t (if not b then Ok lines.Blank else Ok (lines.Step step)) v)
+      step_goes s t0 t step true is h stays =
           let x : Stepped = stepped setting.players setting.delay s.slots s.world step in
           let y : Stepped = stepped setting.players setting.delay t.slots t.world step in
           let same : number ≡ step.number = grind (arith, nat_tests) in
@@ -164,27 +176,27 @@ module _ (setting : Setting) where
             lines = m.lines;
             refused = m.refused;
           })
-      step_goes s t step false is h stays =
+      step_goes s t0 t step false is h stays =
           let x : Stepped = stepped setting.players setting.delay s.slots s.world step in
           let files : x.world.vault.files ≡ s.world.vault.files = stays.0 (ap not is) in
           silent (state_of x.slots x.world) t (applied setting s (lines.Step step)).1 []
           (other setting.players setting.delay number step s.slots t.slots s.world t.world is h files) stays.1
 
-      line_goes : (many : Bool) (s t : RunState) (p : Result Line ScriptKind) → Alike s t → LineStays many s p Next →
-          GoAlike (line_came many s p f) (line_came many t (alone_as number p) g) (line_run many n s p u) (line_run many n t (alone_as number p) v)
+      line_goes : (many : Bool) (s0 t0 s t : RunState) (p : Result Line ScriptKind) → Alike s0 t0 → Alike s t → LineStays many s p Next →
+          GoAlike (line_came many s p f) (line_came many t (alone_as number p) g) (line_run many n s0 s p u) (line_run many n t0 t (alone_as number p) v)
       unfolding alone_as
-      line_goes true s t p h stays = record { came = refl; last = h; lines = refl; refused = refl }
-      line_goes false s t (Err kind) h stays = record { came = refl; last = h; lines = refl; refused = refl }
-      line_goes false s t (Ok lines.Blank) h stays = silent s t [] [] h stays.1
-      line_goes false s t (Ok (lines.Step step)) h stays = step_goes s t step (nat_eq step.number number) refl h stays
-      line_goes false s t (Ok (lines.At moment)) h stays =
+      line_goes true s0 t0 s t p h0 h stays = record { came = refl; last = h0; lines = refl; refused = refl }
+      line_goes false s0 t0 s t (Err kind) h0 h stays = record { came = refl; last = h0; lines = refl; refused = refl }
+      line_goes false s0 t0 s t (Ok lines.Blank) h0 h stays = silent s t [] [] h stays.1
+      line_goes false s0 t0 s t (Ok (lines.Step step)) h0 h stays = step_goes s t0 t step (nat_eq step.number number) refl h stays
+      line_goes false s0 t0 s t (Ok (lines.At moment)) h0 h stays =
           silent (applied setting s (lines.At moment)).0 (applied setting t (lines.At moment)).0 [] []
           (set_twins (λ (c : ClockState). record c { moment = moment }) (λ (x : Time). record x { moment = moment }) (λ c. refl) (λ (c : ℕ). c) s
           t h) stays.1
-      line_goes false s t (Ok (lines.Random word)) h stays =
+      line_goes false s0 t0 s t (Ok (lines.Random word)) h0 h stays =
           silent (applied setting s (lines.Random word)).0 (applied setting t (lines.Random word)).0 [] []
           (set_twins (λ (c : ClockState). record c { word = word }) (λ (x : Time). record x { word = word }) (λ c. refl) (λ (c : ℕ). c) s t h) stays.1
-      line_goes false s t (Ok (lines.Caller caller)) h stays =
+      line_goes false s0 t0 s t (Ok (lines.Caller caller)) h0 h stays =
           silent (applied setting s (lines.Caller caller)).0 (applied setting t (lines.Caller caller)).0 [] []
           (set_twins (λ (c : ClockState). c) (λ (x : Time). x) (λ c. refl) (λ (c : ℕ). caller) s t h) stays.1
 
@@ -203,24 +215,26 @@ module _ (setting : Setting) where
           let g : RunState → List MadeStep = λ y. steps_among setting number (n + 1) y (alone number ls) in
           let u : RunState → Run RunState = λ x. run_lines (line_step setting) (n + 1) x ls in
           let v : RunState → Run RunState = λ y. run_lines (line_step setting) (n + 1) y (alone number ls) in
-          let first : step_at (line_step setting) n s l ≡ counted many (applied_or_refused setting s p) = step_is n s l in
+          let now : RunState = kept_at setting n s in
+          let other_now : RunState = kept_at setting n t in
+          let first : step_at (line_step setting) n s l ≡ counted many (applied_or_refused setting now p) = step_is n s l in
           let q : parsed (line_alone number l) ≡ alone_as number p = parsed_alone number l in
-          let second : step_at (line_step setting) n t (line_alone number l) ≡ counted many (applied_or_refused setting t (alone_as number p)) =
-          step_is n t (line_alone number l) ∙ ap (λ (r : Result Line ScriptKind). counted many (applied_or_refused setting t r)) q in
-          let stays' : LineStays many s p (λ x. LeaveFiles setting number (n + 1) x ls) =
-          subst (λ (r : Result (RunState × List ℕ) ScriptKind). FilesStay r (is_on_another number (step_in p)) s (λ x. LeaveFiles setting number (n + 1) x ls))
-          first stays in
-          let main : GoAlike (line_came many s p f) (line_came many t (alone_as number p) g) (line_run many n s p u) (line_run many n t (alone_as number p) v) =
+          let second : step_at (line_step setting) n t (line_alone number l) ≡ counted many (applied_or_refused setting other_now (alone_as number p)) =
+          step_is n t (line_alone number l) ∙ ap (λ (r : Result Line ScriptKind). counted many (applied_or_refused setting other_now r)) q in
+          let stays' : LineStays many now p (λ x. LeaveFiles setting number (n + 1) x ls) =
+          subst (λ (r : Result (RunState × List ℕ) ScriptKind). FilesStay r (is_on_another number (step_in p)) now (λ x. LeaveFiles setting number (n + 1) x ls))
+          first (stays_kept _ _ n s _ stays) in
+          let main : GoAlike (line_came many now p f) (line_came many other_now (alone_as number p) g) (line_run many n s now p u) (line_run many n t other_now (alone_as number p) v) =
           line_goes own other n f g u v (λ x. LeaveFiles setting number (n + 1) x ls) (λ x y alike next. runs_alike (n + 1) x y ls alike next) many s t
-          p h stays' in
+          now other_now p h (kept_alike n s t h) stays' in
           let back : (a : Result (RunState × List ℕ) ScriptKind) (b : Result (RunState × List ℕ) ScriptKind) (r : Result Line ScriptKind) → Type 0 =
-          λ a b r. GoAlike (steps_then a (λ text. made_steps setting number s (step_in p)) f) (steps_then b (λ text. made_steps setting number t (step_in r)) g)
+          λ a b r. GoAlike (steps_then a (λ text. made_steps setting number now (step_in p)) f) (steps_then b (λ text. made_steps setting number other_now (step_in r)) g)
           (after n s a u) (after n t b v) in
           subst (λ (a : Result (RunState × List ℕ) ScriptKind). back a (step_at (line_step setting) n t (line_alone number l))
           (parsed (line_alone number l))) (sym first)
-          (subst (λ (r : Result Line ScriptKind). back (counted many (applied_or_refused setting s p))
+          (subst (λ (r : Result Line ScriptKind). back (counted many (applied_or_refused setting now p))
           (step_at (line_step setting) n t (line_alone number l)) r) (sym q)
-          (subst (λ (b : Result (RunState × List ℕ) ScriptKind). back (counted many (applied_or_refused setting s p)) b (alone_as number p)) (sym second) main))
+          (subst (λ (b : Result (RunState × List ℕ) ScriptKind). back (counted many (applied_or_refused setting now p)) b (alone_as number p)) (sym second) main))
 
       pub from_start : (n : ℕ) (s : RunState) (script : List (List ℕ)) → IsQuietStart s → LeaveFiles setting number n s script →
           GoAlike (steps_among setting number n s script) (steps_among setting number n s (alone number script)) (run_lines (line_step setting) n s script)
@@ -343,5 +357,5 @@ module _ (setting : Setting) (number : ℕ) where
       let g : RunState → List MadeStep = λ t. steps_among setting number (n + 1) t ls in
       subst (λ (r : Result (RunState × List ℕ) ScriptKind).
       steps_then r (λ text. if is_on number (step_in (parsed l)) then text ∷ [] else []) f
-      ≡ map (text_of names) (steps_then r (λ text. made_steps setting number s (step_in (parsed l))) g))
-      (sym (step_is setting n s l)) (text_line (nat_le 65536 n) s (parsed l) f g (λ t. texts_are (n + 1) t ls))
+      ≡ map (text_of names) (steps_then r (λ text. made_steps setting number (kept_at setting n s) (step_in (parsed l))) g))
+      (sym (step_is setting n s l)) (text_line (nat_le 65536 n) (kept_at setting n s) (parsed l) f g (λ t. texts_are (n + 1) t ls))

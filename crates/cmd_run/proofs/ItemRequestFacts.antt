@@ -18,7 +18,7 @@ use Rattle.record_reader.specs.declared.reader.NextItem.{NextItem}
 use Rattle.record_reader.specs.declared.reader.NextItem.TheVariants.{Rest}
 use Rattle.record_reader.specs.Cutting.{Keeps}
 use Rattle.record_reader.specs.FirstItem.{IsItem}
-use Rattle.record_reader.specs.Run.{ItemStep, Looks, Refuses}
+use Rattle.record_reader.specs.Run.{ItemFails, ItemStep, Looks, Refuses}
 use Rattle.record_reader.specs.Taking.{Finds}
 use Rattle.record_reader.specs.Looked.{looked as looked_lines}
 use Rattle.record_reader.specs.LineTurns.{Ending}
@@ -81,7 +81,7 @@ module _ {Kind : Type 0} (looked : Looks) (refuses : Refuses) (asked : Asking Ki
 
   -- ---- the last item
 
-  module _ (wrapped : List ℕ → List ℕ) (step : Setting → ItemStep RunState Kind) (fails : Setting → RunState → List ℕ → RunState → Type 0)
+  module _ (wrapped : List ℕ → List ℕ) (step : Setting → ItemStep RunState Kind) (fails : Setting → ItemFails RunState)
       (read_step : ItemStep (Unit {0}) Kind) (does : Does asked wrapped step fails read_step) (keeps : Keeps looked refuses read_step) (n : ℕ)
       (before held : List ℕ) (x y : SourceState) (finds : Finds looked refuses (Ok Rest) n before held x y) where
     -- what is refused in every state asks for nothing

@@ -10,7 +10,7 @@ use Rattle.record_reader.specs.LineRun.{step_at}
 use Rattle.cmd_run.specs.Reading.{line_read, read_as}
 use Rattle.cmd_run.specs.Script.{as_it_is, line_asked, script_step}
 use Rattle.cmd_run.specs.Serve.{Does, served_line}
-use Rattle.cmd_run.specs.State.{Setting, RunState}
+use Rattle.cmd_run.specs.State.{RunState, Setting, kept_at}
 use Rattle.cmd_run.specs.Step.{Fails, applied_or_refused, line_step}
 use Rattle.cmd_run.proofs.ItemRequestFacts.{as_parsed}
 use Rattle.cmd_run.proofs.ItemEffectFacts.{long_line}
@@ -24,39 +24,39 @@ module _ (setting : Setting) where
   as_served s (Ok (lines.Caller caller)) = refl
   as_served s (Err kind) = refl
 
-  short : (b : Bool) (s : RunState) (line : List ℕ) → ltb 513 (length line) ≡ b
-      → cond b (Err LineTooLong) (line_step setting s line) ≡ line_step setting s line
+  short : (b : Bool) (n : ℕ) (s : RunState) (line : List ℕ) → ltb 513 (length line) ≡ b
+      → cond b (Err LineTooLong) (line_step setting n s line) ≡ line_step setting n s line
   unfolding line_step
-  short true s line e = sym (ap (applied_or_refused setting s) (long_line line (ltb-true 513 (length line) e)))
-  short false s line e = refl
+  short true n s line e = sym (ap (applied_or_refused setting (kept_at setting n s)) (long_line line (ltb-true 513 (length line) e)))
+  short false n s line e = refl
 
-  few : (many : Bool) (s : RunState) (line : List ℕ) → cond many (Err TooManyLines) (line_step setting s line)
-      ≡ served_line as_it_is setting s (cond many (Err TooManyLines) (parsed line))
+  few : (many : Bool) (n : ℕ) (s : RunState) (line : List ℕ) → cond many (Err TooManyLines) (line_step setting n s line)
+      ≡ served_line as_it_is setting (kept_at setting n s) (cond many (Err TooManyLines) (parsed line))
   unfolding line_step
-  few true s line = refl
-  few false s line = as_served s (parsed line)
+  few true n s line = refl
+  few false n s line = as_served (kept_at setting n s) (parsed line)
 
-  steps : (n : ℕ) (s : RunState) (line : List ℕ) → script_step setting n s line ≡ served_line as_it_is setting s (line_asked n line)
+  steps : (n : ℕ) (s : RunState) (line : List ℕ) → script_step setting n s line ≡ served_line as_it_is setting (kept_at setting n s) (line_asked n line)
   unfolding step_at
   steps n s line =
-      ap (λ (r : Result (RunState × List ℕ) ScriptKind). cond (leb 65536 n) (Err TooManyLines) r) (short (ltb 513 (length line)) s line refl)
-      ∙ few (leb 65536 n) s line
+      ap (λ (r : Result (RunState × List ℕ) ScriptKind). cond (leb 65536 n) (Err TooManyLines) r) (short (ltb 513 (length line)) n s line refl)
+      ∙ few (leb 65536 n) n s line
 
-short_read : (b : Bool) (line : List ℕ) → ltb 513 (length line) ≡ b → cond b (Err LineTooLong) (line_read tt line) ≡ line_read tt line
+short_read : (b : Bool) (n : ℕ) (line : List ℕ) → ltb 513 (length line) ≡ b → cond b (Err LineTooLong) (line_read n tt line) ≡ line_read n tt line
 unfolding line_read
-short_read true line e = sym (ap (λ (r : Result Line ScriptKind). read_as r) (long_line line (ltb-true 513 (length line) e)))
-short_read false line e = refl
+short_read true n line e = sym (ap (λ (r : Result Line ScriptKind). read_as r) (long_line line (ltb-true 513 (length line) e)))
+short_read false n line e = refl
 
-few_read : (many : Bool) (line : List ℕ) → cond many (Err TooManyLines) (line_read tt line) ≡ read_as (cond many (Err TooManyLines) (parsed line))
+few_read : (many : Bool) (n : ℕ) (line : List ℕ) → cond many (Err TooManyLines) (line_read n tt line) ≡ read_as (cond many (Err TooManyLines) (parsed line))
 unfolding line_read
-few_read true line = refl
-few_read false line = refl
+few_read true n line = refl
+few_read false n line = refl
 
 reads : (n : ℕ) (line : List ℕ) → step_at line_read n tt line ≡ read_as (line_asked n line)
 unfolding step_at
 reads n line =
-    ap (λ (r : Result (Unit {0} × List ℕ) ScriptKind). cond (leb 65536 n) (Err TooManyLines) r) (short_read (ltb 513 (length line)) line refl)
-    ∙ few_read (leb 65536 n) line
+    ap (λ (r : Result (Unit {0} × List ℕ) ScriptKind). cond (leb 65536 n) (Err TooManyLines) r) (short_read (ltb 513 (length line)) n line refl)
+    ∙ few_read (leb 65536 n) n line
 
 pub lines_do : Does line_asked as_it_is script_step Fails (step_at line_read)
 lines_do = record {

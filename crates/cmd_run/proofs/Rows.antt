@@ -25,7 +25,7 @@ use Rattle.record_reader.specs.declared.ending.Ending.TheVariants.{ReadFault, Re
 use Rattle.record_reader.specs.Looked.{last_looked, looked}
 use Rattle.record_reader.specs.Run.{come_to, run_items, run_of as run_of_items}
 use Rattle.record_reader.specs.LineRun.{step_at, run_of}
-use Rattle.cmd_run.specs.State.{Setting, RunState, state_of}
+use Rattle.cmd_run.specs.State.{RunState, Setting, setting_of, state_of}
 use Rattle.cmd_run.specs.Ends.{HasEnd, IsEndOfRun}
 use Rattle.cmd_run.specs.Isolation.{LeaveFiles, alone, texts_among}
 use Rattle.cmd_run.specs.Step.{at_moment, line_step}
@@ -33,7 +33,7 @@ use Rattle.cmd_run.specs.Closings.{closings_after}
 use Rattle.cmd_run.specs.Whole.{last_words}
 
 setting : Setting
-setting = record { players = []; delay = λ code asked. 0 }
+setting = setting_of [] (λ code asked. 0)
 
 places : List PlainSlot
 places = replicate 16 (closed (record { offers = []; waits = false; handed = [] }))
@@ -93,7 +93,7 @@ sets_datum = record {
 }
 
 abbrev with_module : Setting
-with_module = record { players = sets_datum ∷ []; delay = λ code asked. 0 }
+with_module = setting_of (sets_datum ∷ []) (λ code asked. 0)
 
 abbrev service_files : List File
 service_files = record { path = codes "/r/etc/pam.d/t"; bytes = codes "auth required p" } ∷ []
@@ -147,7 +147,7 @@ notes_in_file = record {
 }
 
 abbrev with_file : Setting
-with_file = record { players = notes_in_file ∷ []; delay = λ code asked. 0 }
+with_file = setting_of (notes_in_file ∷ []) (λ code asked. 0)
 
 abbrev one_before_the_other : List (List ℕ)
 one_before_the_other = codes "start 1 t" ∷ codes "start 2 t" ∷ codes "authenticate 2" ∷ codes "authenticate 1" ∷ []

@@ -9,7 +9,7 @@ use Rattle.report_step.specs.pam_library.specs.Slots.{NoneIsOpen}
 use Rattle.record_reader.specs.declared.ending.Ending.{Ending}
 use Rattle.record_reader.specs.declared.ending.Stop.{Stop}
 use Rattle.record_reader.specs.declared.ending.Stop.TheVariants.{NoMemory, WriteFault}
-use Rattle.record_reader.specs.Run.{ItemStep, Looks}
+use Rattle.record_reader.specs.Run.{ItemFails, ItemStep, Looks}
 use Rattle.cmd_run.specs.State.{RunState, Setting}
 use Rattle.cmd_run.specs.Asked.{Asking}
 use Rattle.cmd_run.specs.Closings.{Closing, all_closed, closings_text}
@@ -134,7 +134,7 @@ run_written wrapped last_text players ending n result s t p q r a b =
 
 module _ {Kind : Type 0} (looked : Looks) (asked : Asking Kind) (wrapped : List ℕ → List ℕ) (last_text : Ending Kind → ℕ → Option (List ℕ))
     (step : Setting → ItemStep RunState Kind)
-    (fails : Setting → RunState → List ℕ → RunState → Type 0) (setting : Setting) (start : RunState) (x y : SourceState) (p : SinkState) where
+    (fails : Setting → ItemFails RunState) (setting : Setting) (start : RunState) (x y : SourceState) (p : SinkState) where
   pub runs_out : (ending : Ending Kind) (items : ℕ) (last end : RunState) (between q : SinkState)
       → TellsAll looked asked step fails setting (Ok ending) items start last x y p between → TakesBytes [] x y
       → length last.slots ≤ 16 → (done : Unit {0}) → EndsWith wrapped last_text setting.players ending items (Ok done) last end between q

@@ -1,17 +1,22 @@
 -- Parts of a run, one after another.
-use Rattle.std.proofs.Common.{◌≡◌, ℕ, List, Result, Ok, refl, ap, ◌∙◌}
+use Rattle.std.proofs.Common.{◌≡◌, ℕ, List, Result, Ok, Err, refl, sym, ap, subst, ◌∙◌}
+use Rattle.std.specs.Prelude.{OnOk}
 use Rattle.pam_base.specs.declared.call.Step.{Step}
 use Rattle.pam_base.specs.declared.code.Code.{Code}
+use Rattle.data_cleanup.specs.Cleanup.{Notes}
 use Rattle.data_cleanup.specs.Due.{Event}
+use Rattle.data_cleanup.specs.Ledger.{PlainLedger}
 use Rattle.data_cleanup.specs.Moves.{Moves}
 use Rattle.report_step.specs.pam_room.specs.Module.{notes_of}
 use Rattle.report_step.specs.pam_library.specs.Applied.{Keeps, ended_by}
 use Rattle.report_step.specs.pam_library.specs.Seen.{slot_of}
-use Rattle.report_step.specs.pam_library.specs.Slots.{lists_of}
+use Rattle.report_step.specs.pam_library.specs.Slots.{PlainSlot, lists_of}
 use Rattle.script_lang.specs.declared.line.Line.{Line}
 use Rattle.script_lang.specs.declared.line.Line.TheVariants as lines
-use Rattle.cmd_run.specs.Asked.{IsEnd}
+use Rattle.record_reader.specs.declared.ending.Stop.{Stop}
+use Rattle.cmd_run.specs.Asked.{IsEndLine}
 use Rattle.cmd_run.specs.Ends.{EndsAre, IsEndStep}
+use Rattle.cmd_run.specs.Events.{LineMoves}
 use Rattle.cmd_run.specs.Seen.{AllTell, IsSoundIn, Seen, Went}
 use Rattle.cmd_run.proofs.CallSequenceFacts.{call_ends, goes_on, nothing_done, one_call, proceeds_so}
 
@@ -86,12 +91,23 @@ went_once Is a b players tells world_tells gives no_other ended moves are sound 
   sound = sound;
 }
 
--- the call was made that an item asks for
-pub went_as_asked : {Kind : Type 0} (asked : Result Line Kind) (step : Step) → asked ≡ Ok (lines.Step step) → (a b : Seen) → b.players ≡ a.players
+-- what holds in any case holds if all went well
+pub on_ok : {T A : Type 0} (result : Result T Stop) → A → OnOk result A
+on_ok (Ok t) a = a
+on_ok (Err stop) a = tt
+
+-- what a line moves
+pub line_moves : (note : Notes) (slots next : List PlainSlot) (line this : Line) (before after : PlainLedger) → line ≡ this → LineMoves note slots this before after next
+    → LineMoves note slots line before after next
+line_moves note slots next line this before after same moves =
+    subst (λ (l : Line). LineMoves note slots l before after next) (sym same) moves
+
+-- the call was made that a line asks for
+pub went_as_asked : (line : Line) (step : Step) → line ≡ lines.Step step → (a b : Seen) → b.players ≡ a.players
     → ((number : Code → ℕ → ℕ) → a.gives number → b.gives number)
     → ((number : Code → ℕ → ℕ) → b.gives number → a.gives number)
-    → Keeps (ended_by step a) a b → Went (IsEnd asked) a b
-went_as_asked asked step e a b players gives no_other k =
-    went_so (IsEndStep step) (IsEnd asked) (λ number status is. e ∙ ap (λ (s : Step). Ok (lines.Step s)) is) a b
+    → Keeps (ended_by step a) a b → Went (IsEndLine line) a b
+went_as_asked line step e a b players gives no_other k =
+    went_so (IsEndStep step) (IsEndLine line) (λ number status is. e ∙ ap (λ (s : Step). lines.Step s) is) a b
     (went_once (IsEndStep step) a b players k.tells k.world_tells gives no_other (ended_by step a) k.moves
     (call_ends (slot_of step a) step.number step.call) k.sound)

@@ -1,10 +1,10 @@
 -- Which items of a modelled text were served.
-use Rattle.std.proofs.Common.{◌≡◌, ℕ, ◌+◌, true, List, [], ◌∷◌, ◌++◌, length, Some, None, Ok, refl, sym, ap, ◌∙◌, append_assoc, append-nil}
+use Rattle.std.proofs.Common.{◌≡◌, ℕ, ◌+◌, true, List, [], ◌∷◌, ◌++◌, Some, None, Ok, refl, sym, ap, ◌∙◌, append_assoc, append-nil}
 use Rattle.std.proofs.Common.{length-append, arith}
 use Rattle.pam_outside.specs.Streams.{SinkState}
 use Rattle.report_step.specs.pam_room.specs.Module.{notes_of}
 use Rattle.report_step.specs.pam_library.specs.Slots.{lists_of}
-use Rattle.record_reader.specs.Run.{ItemStep, Looks}
+use Rattle.record_reader.specs.Run.{ItemFails, ItemStep, Looks}
 use Rattle.record_reader.specs.Turns.{ServesItem}
 use Rattle.cmd_run.specs.Asked.{Asking, FirstAsks}
 use Rattle.cmd_run.specs.State.{Setting, RunState}
@@ -39,7 +39,7 @@ module _ {Kind : Type 0} (looked : Looks) (asked : Asking Kind) (step : Setting 
     },
   )
 
-  module _ (fails : RunState → List ℕ → RunState → Type 0) where
+  module _ (fails : ItemFails RunState) where
     pub refused_served : (kind : Kind) (n : ℕ) (item : List ℕ) (s t : RunState) (p q : SinkState) (input : List ℕ)
         → ServesItem (step setting) fails (Ok (Some kind)) n item s t p q
         → (others : List (List ℕ)) × ServedIn n n s t input others p q

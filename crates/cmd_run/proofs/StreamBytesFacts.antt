@@ -1,5 +1,5 @@
 -- What the bytes of a stream alone say about a run, and what was written.
-use Rattle.std.proofs.Common.{◌≡◌, ℕ, ◌≤◌, ◌<◌, inl, inr, List, [], ◌++◌, length, drop, Some, None, Result, Ok, Err, refl, sym, ap, ◌∙◌}
+use Rattle.std.proofs.Common.{◌≡◌, ℕ, ◌<◌, inl, inr, List, [], ◌++◌, length, drop, Some, None, Result, Ok, Err, refl, sym, ap, ◌∙◌}
 use Rattle.std.proofs.Common.{append_assoc, append-nil, length-append, arith}
 use Rattle.std.specs.Prelude.{All}
 use Rattle.std.proofs.lemmas.List.Elements.{All-append, All-drop, All-same}
@@ -13,7 +13,7 @@ use Rattle.record_reader.specs.declared.ending.Ending.TheVariants.{Done, ReadFau
 use Rattle.record_reader.specs.declared.ending.Stop.{Stop}
 use Rattle.record_reader.specs.declared.ending.Stop.TheVariants.{NoMemory, WriteFault}
 use Rattle.record_reader.specs.declared.reader.NextItem.{NextItem}
-use Rattle.record_reader.specs.Run.{ItemStep, Looks, Refuses}
+use Rattle.record_reader.specs.Run.{ItemFails, ItemStep, Looks, Refuses}
 use Rattle.record_reader.specs.Taking.{Finds}
 use Rattle.record_reader.specs.LineRun.{Run, step_at}
 use Rattle.cmd_run.specs.Asked.{Asking}
@@ -25,7 +25,7 @@ use Rattle.cmd_run.specs.Reading.{ReadsAll, ReadsItem, ReadsScript, TakesBytes, 
 -- ---- one item
 
 module _ {Kind : Type 0} (asked : Asking Kind) (wrapped : List ℕ → List ℕ) (step : Setting → ItemStep RunState Kind)
-    (fails : Setting → RunState → List ℕ → RunState → Type 0) (read_step : ItemStep (Unit {0}) Kind) (does : Does asked wrapped step fails read_step) (n : ℕ)
+    (fails : Setting → ItemFails RunState) (read_step : ItemStep (Unit {0}) Kind) (does : Does asked wrapped step fails read_step) (n : ℕ)
     (item : List ℕ) where
   as_asked : (r : Result Line Kind) → asked n item ≡ r → read_step n tt item ≡ read_as r
   as_asked r e = does.reads n item ∙ ap (λ (r : Result Line Kind). read_as r) e
@@ -121,6 +121,10 @@ front_written failed text p q w = record { text = w.front; written = w.written; 
 pub part_written : {T : Type 0} (stop : Stop) (text : List ℕ) (p q : SinkState) → WritesReport (Err stop) text p q → WritesSome {T = T} (Err stop) p q
 part_written WriteFault text p q w = front_written w.0 text p q w.1
 part_written NoMemory text p q same = rw same (err_unwritten NoMemory p)
+
+pub report_written : (result : Result (Unit {0}) Stop) (text : List ℕ) (p q : SinkState) → WritesReport result text p q → WritesSome result p q
+report_written (Ok done) text p q w = all_written done done text p q w
+report_written (Err stop) text p q w = part_written stop text p q w
 
 pub ok_as : {T U : Type 0} (t : T) (u : U) (p q : SinkState) → WritesSome {T = T} (Ok t) p q → WritesSome {T = U} (Ok u) p q
 ok_as t u p q w = record { text = w.text; written = w.written; calls = w.calls; calls_ok = w.calls_ok }

@@ -9,7 +9,11 @@ use Rattle.record_reader.specs.Run.{Looks}
 abbrev pub Asking : Type 0 → Type 0
 Asking Kind = ℕ → List ℕ → Result Line Kind
 
--- the end of the transaction of this number, with this status
+-- a line asks for the end of the transaction of this number, with this status
+abbrev pub IsEndLine : Line → ℕ → ℕ → Type 0
+IsEndLine line number status = line ≡ Step (record { number = number; call = End status })
+
+-- an item does
 abbrev pub IsEnd : {Kind : Type 0} → Result Line Kind → ℕ → ℕ → Type 0
 IsEnd asked number status = asked ≡ Ok (Step (record { number = number; call = End status }))
 

@@ -19,8 +19,8 @@ use Rattle.script_lang.specs.declared.line.Line.TheVariants as lines
 use Rattle.script_lang.specs.Line.{parsed}
 use Rattle.record_reader.specs.declared.ending.Ending.{Ending}
 use Rattle.record_reader.specs.declared.ending.Stop.{Stop}
-use Rattle.record_reader.specs.Run.{ItemStep, Looks, come_to}
-use Rattle.record_reader.specs.Turns.{Turns}
+use Rattle.record_reader.specs.Run.{ItemFails, ItemStep, Looks, come_to}
+use Rattle.record_reader.specs.Turns.{Place, Turns}
 use Rattle.record_reader.specs.Whole.{Runs}
 use Rattle.record_reader.specs.LineRun.{run_lines, step_at}
 use Rattle.pam_outside.specs.Streams.{SinkState, SourceState}
@@ -33,12 +33,15 @@ use Rattle.cmd_run.specs.Step.{line_step}
 -- ---- the lines
 
 -- the end that a line is, if it asks for one of an open transaction
+abbrev pub line_end : List PlainSlot → Line → List Event
+line_end slots (lines.Step step) = end_at (slot_at slots step.number) step.number step.call
+line_end slots lines.Blank = []
+line_end slots (lines.At moment) = []
+line_end slots (lines.Random word) = []
+line_end slots (lines.Caller caller) = []
+
 abbrev pub end_by : {Kind : Type 0} → List PlainSlot → Result Line Kind → List Event
-end_by slots (Ok (lines.Step step)) = end_at (slot_at slots step.number) step.number step.call
-end_by slots (Ok lines.Blank) = []
-end_by slots (Ok (lines.At moment)) = []
-end_by slots (Ok (lines.Random word)) = []
-end_by slots (Ok (lines.Caller caller)) = []
+end_by slots (Ok line) = line_end slots line
 end_by slots (Err kind) = []
 
 -- a line that was applied: the end that it is, and the cleanup log and data after it
@@ -95,7 +98,12 @@ abbrev pub IsAskedBy : List (List ℕ) → ℕ → ℕ → Type 0
 IsAskedBy [] number status = ⊥
 IsAskedBy (line ∷ rest) number status = AsksEnd line number status
 
--- one item that was applied, whatever the slots before it held
+-- one line that was applied, and one item, whatever the slots before it held
+abbrev pub LineMoves : Notes → List PlainSlot → Line → PlainLedger → PlainLedger → List PlainSlot
+    → Type 0
+LineMoves note slots line before after next =
+    Moves note handle_limit (line_end slots line) before (lists_of slots) after (lists_of next)
+
 abbrev pub MovesBy : {Kind : Type 0} → Notes → List PlainSlot → Result Line Kind → PlainLedger
     → PlainLedger → List PlainSlot → Type 0
 MovesBy note slots asked before after next =
@@ -138,13 +146,14 @@ module _ {Kind : Type 0} (looked : Looks) (asked : Asking Kind)
         (lists_of t.slots)
 
   -- what one turn served, by its result
-  abbrev pub ServesTurn : Result (Option (Ending Kind)) Stop → ℕ → ℕ → RunState → RunState
-      → List ℕ → List ℕ → SinkState → SinkState → Type 0
-  ServesTurn (Ok None) n m s t input rest p q =
-      Served n m s t input (looked m rest true) p q
-  ServesTurn (Ok (Some ending)) n m s t input rest p q =
-      (others : List (List ℕ)) × Served n m s t input others p q
-  ServesTurn (Err stop) n m s t input rest p q = Broken n m s t input p q
+  abbrev pub ServesTurn : Result (Option (Ending Kind)) Stop → Place RunState → Place RunState
+      → Type 0
+  ServesTurn (Ok None) a b = Served a.items b.items a.state b.state (a.held ++ a.source.left)
+      (looked b.items (b.held ++ b.source.left) true) a.sink b.sink
+  ServesTurn (Ok (Some ending)) a b = (others : List (List ℕ))
+      × Served a.items b.items a.state b.state (a.held ++ a.source.left) others a.sink b.sink
+  ServesTurn (Err stop) a b =
+      Broken a.items b.items a.state b.state (a.held ++ a.source.left) a.sink b.sink
 
   -- what many served from the first item on
   abbrev pub ServesAll : Result (Ending Kind) Stop → ℕ → RunState → RunState → List ℕ → SinkState
@@ -155,13 +164,12 @@ module _ {Kind : Type 0} (looked : Looks) (asked : Asking Kind)
 
 module _ {Kind : Type 0} (looked : Looks) (asked : Asking Kind)
     (step : Setting → ItemStep RunState Kind)
-    (fails : Setting → RunState → List ℕ → RunState → Type 0) (setting : Setting) where
+    (fails : Setting → ItemFails RunState) (setting : Setting) where
   -- one turn or many with modelled objects: what was taken and written, and which items were served
-  pub record TellsTurn (result : Result (Option (Ending Kind)) Stop) (n m : ℕ) (s t : RunState)
-      (before held : List ℕ) (x y : SourceState) (p q : SinkState) : Type 0 where
-    pub turns : Turns looked (step setting) (fails setting) result n m s t before held x y p q
-    pub served : ServesTurn looked asked step setting result n m s t (before ++ x.left)
-        (held ++ y.left) p q
+  pub record TellsTurn (result : Result (Option (Ending Kind)) Stop)
+      (old new : Place RunState) : Type 0 where
+    pub turns : Turns looked (step setting) (fails setting) result old new
+    pub served : ServesTurn looked asked step setting result old new
 
   -- the same from the first byte on
   pub record TellsAll (result : Result (Ending Kind) Stop) (m : ℕ) (s t : RunState)

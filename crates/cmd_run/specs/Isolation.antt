@@ -32,7 +32,7 @@ use Rattle.report_step.specs.Step.{step_text}
 use Rattle.report_step.specs.Visited.{visits_text}
 use Rattle.report_step.specs.Waited.{waited_text}
 use Rattle.cmd_run.specs.Closings.{all_closed, closings as all_closings, closings_text, world_after}
-use Rattle.cmd_run.specs.State.{Setting, RunState}
+use Rattle.cmd_run.specs.State.{Setting, RunState, kept_at}
 use Rattle.cmd_run.specs.Step.{line_step}
 
 -- ---- the script of one number
@@ -98,7 +98,7 @@ module _ (setting : Setting) where
     abbrev pub steps_among : ℕ → RunState → List (List ℕ) → List MadeStep
     steps_among n s [] = []
     steps_among n s (l ∷ ls) = steps_then (step_at (line_step setting) n s l) (λ text.
-        made_steps s (step_in (parsed l))) (λ t. steps_among (n + 1) t ls)
+        made_steps (kept_at setting n s) (step_in (parsed l))) (λ t. steps_among (n + 1) t ls)
 
     -- what the run writes for them
     abbrev pub texts_among : ℕ → RunState → List (List ℕ) → List (List ℕ)

@@ -11,6 +11,7 @@ pub use Rattle.script_lang
 pub use Rattle.report_step.specs.service_load
 pub use Rattle.report_step
 pub mod Endings
+pub mod Time
 pub mod State
 pub mod Step
 pub mod Asked

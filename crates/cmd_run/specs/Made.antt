@@ -79,30 +79,28 @@ abbrev pub ended_by : {Kind : Type 0} → Ending Kind → Result (Unit {0}) Stop
 ended_by ending (Ok done) = Ok ending
 ended_by ending (Err stop) = Err stop
 
--- after the reports of its calls, those of the transactions that are still open, and the last text
-pub record GoesToEnd {Kind : Type 0} (wrapped : List ℕ → List ℕ)
-    (last_text : Ending Kind → ℕ → Option (List ℕ)) (players : List Player) (ending : Ending Kind)
-    (result : Result (Ending Kind) Stop) (slots : List PlainSlot) (p q : SinkState) : Type 0 where
-  pub items : ℕ
-  pub ended : Result (Unit {0}) Stop
-  pub last : RunState
-  pub end : RunState
-  pub slots_are : last.slots ≡ slots
-  pub result_is : result ≡ ended_by ending ended
-  pub ends : EndsWith wrapped last_text players ending items ended last end p q
+module _ {Kind : Type 0} (wrapped : List ℕ → List ℕ) (last_text : Ending Kind → ℕ → Option (List ℕ))
+    (players : List Player) where
+  -- after the reports of its calls, those of the transactions that are still open, and the last text
+  pub record GoesToEnd (ending : Ending Kind) (result : Result (Ending Kind) Stop)
+      (slots : List PlainSlot) (p q : SinkState) : Type 0 where
+    pub items : ℕ
+    pub ended : Result (Unit {0}) Stop
+    pub last : RunState
+    pub end : RunState
+    pub slots_are : last.slots ≡ slots
+    pub result_is : result ≡ ended_by ending ended
+    pub ends : EndsWith wrapped last_text players ending items ended last end p q
 
-abbrev pub GoesOn : {Kind : Type 0} → (List ℕ → List ℕ) → (Ending Kind → ℕ → Option (List ℕ))
-    → List Player → Result (Ending Kind) Stop → Result (Ending Kind) Stop → List PlainSlot
-    → SinkState → SinkState → Type 0
-GoesOn wrapped last_text players (Err stop) result slots p q = (result ≡ Err stop) × (q ≡ p)
-GoesOn wrapped last_text players (Ok ending) result slots p q =
-    GoesToEnd wrapped last_text players ending result slots p q
+  abbrev pub GoesOn : Result (Ending Kind) Stop → Result (Ending Kind) Stop → List PlainSlot
+      → SinkState → SinkState → Type 0
+  GoesOn (Err stop) result slots p q = (result ≡ Err stop) × (q ≡ p)
+  GoesOn (Ok ending) result slots p q = GoesToEnd ending result slots p q
 
-pub record ReportsRun {Kind : Type 0} (wrapped : List ℕ → List ℕ)
-    (last_text : Ending Kind → ℕ → Option (List ℕ)) (players : List Player)
-    (result : Result (Ending Kind) Stop) (slots : List PlainSlot) (p q : SinkState) : Type 0 where
-  pub served : Result (Ending Kind) Stop
-  pub middle : List PlainSlot
-  pub between : SinkState
-  pub calls : ReportsCalls wrapped (names_of players) served slots middle p between
-  pub goes_on : GoesOn wrapped last_text players served result middle between q
+  pub record ReportsRun (result : Result (Ending Kind) Stop) (slots : List PlainSlot)
+      (p q : SinkState) : Type 0 where
+    pub served : Result (Ending Kind) Stop
+    pub middle : List PlainSlot
+    pub between : SinkState
+    pub calls : ReportsCalls wrapped (names_of players) served slots middle p between
+    pub goes_on : GoesOn served result middle between q

@@ -9,8 +9,8 @@ use Rattle.record_reader.specs.declared.ending.Ending.{Ending as StreamEnding}
 use Rattle.record_reader.specs.declared.ending.Ending.TheVariants.{Done, ReadFault, Refused}
 use Rattle.record_reader.specs.declared.ending.Stop.{Stop}
 use Rattle.record_reader.specs.Laws.{EndIsTurn, FaultIsTurn, ItemIsTurn, NoTurnYet, RestIsTurn, StopsAtOnce, TurnsAreRun, TurnsGoOn}
-use Rattle.record_reader.specs.Run.{ItemStep, Looks, Refuses}
-use Rattle.record_reader.specs.Turns.{ServesItem, Turns}
+use Rattle.record_reader.specs.Run.{ItemFails, ItemStep, Looks, Refuses}
+use Rattle.record_reader.specs.Turns.{ServesItem, Turns, place}
 use Rattle.record_reader.specs.Whole.{Runs}
 use Rattle.record_reader.specs.LineRun.{LineStep, run_of}
 use Rattle.record_reader.specs.LineTurns.{Ending}
@@ -25,7 +25,7 @@ read_as (Ok line) = Ok (tt, [])
 read_as (Err kind) = Err kind
 
 unfoldable pub line_read : LineStep (Unit {0})
-line_read done line = read_as (parsed line)
+line_read n done line = read_as (parsed line)
 
 -- why a line among some bytes is refused, if one is; whether the input ends after them
 abbrev pub refused_in : List ℕ → Bool → Option ScriptKind
@@ -40,8 +40,8 @@ pub record RefusesByBytes : Type 0 where
       ≡ (run_of line_read 0 tt bytes ended).items
 
 -- any state is possible
-abbrev pub AnyState : Unit {0} → List ℕ → Unit {0} → Type 0
-AnyState before line after = Unit {0}
+abbrev pub AnyState : ItemFails (Unit {0})
+AnyState n before line after = Unit {0}
 
 -- a sink to which nothing is written
 abbrev pub nowhere : SinkState
@@ -58,16 +58,17 @@ abbrev pub ReadsItem : {Kind : Type 0} → ItemStep (Unit {0}) Kind → Result (
     → List ℕ → Type 0
 ReadsItem step result n item = ServesItem step AnyState result n item tt tt nowhere nowhere
 
-pub record ReadsTurn {Kind : Type 0} (looked : Looks) (step : ItemStep (Unit {0}) Kind)
-    (result : Result (Option (StreamEnding Kind)) Stop) (n m : ℕ) (before held : List ℕ)
-    (x y : SourceState) : Type 0 where
-  pub turns : Turns looked step AnyState result n m tt tt before held x y nowhere nowhere
-  pub takes : TakesBytes before x y
+module _ {Kind : Type 0} (looked : Looks) (step : ItemStep (Unit {0}) Kind) where
+  pub record ReadsTurn (result : Result (Option (StreamEnding Kind)) Stop) (n m : ℕ)
+      (before held : List ℕ) (x y : SourceState) : Type 0 where
+    pub turns : Turns looked step AnyState result (place n tt before x nowhere)
+        (place m tt held y nowhere)
+    pub takes : TakesBytes before x y
 
-pub record ReadsAll {Kind : Type 0} (looked : Looks) (step : ItemStep (Unit {0}) Kind)
-    (result : Result (StreamEnding Kind) Stop) (m : ℕ) (x y : SourceState) : Type 0 where
-  pub runs : Runs looked step AnyState result m tt tt x y nowhere nowhere
-  pub takes : TakesBytes [] x y
+  pub record ReadsAll (result : Result (StreamEnding Kind) Stop) (m : ℕ)
+      (x y : SourceState) : Type 0 where
+    pub runs : Runs looked step AnyState result m tt tt x y nowhere nowhere
+    pub takes : TakesBytes [] x y
 
 -- the laws on turns, for a stream of which only the source is modelled
 pub record ReadingIsTurns {Kind : Type 0} (looked : Looks) (refuses : Refuses)

@@ -10,7 +10,7 @@ use Rattle.report_step.specs.pam_library.specs.Slots.{NoneIsOpen, lists_of}
 use Rattle.record_reader.specs.declared.ending.Ending.{Ending}
 use Rattle.record_reader.specs.declared.ending.Stop.{Stop}
 use Rattle.record_reader.specs.Object.{Object}
-use Rattle.record_reader.specs.Run.{ItemStep, Looks}
+use Rattle.record_reader.specs.Run.{ItemFails, ItemStep, Looks}
 use Rattle.record_reader.specs.Turns.{has_read_fault, has_write_fault}
 use Rattle.record_reader.specs.Whole.{at_last}
 use Rattle.cmd_run.specs.AnyWorld.{ProceedsBy}
@@ -21,32 +21,32 @@ use Rattle.cmd_run.specs.Ends.{IsStatusOf}
 use Rattle.cmd_run.specs.Events.{TellsAll}
 use Rattle.cmd_run.specs.Reading.{ReadsAll, TakesBytes, WritesScript, WritesSome}
 use Rattle.cmd_run.specs.Reported.{CutBy, wrapped_closings}
-use Rattle.cmd_run.specs.Seen.{AllTell, NoneIsOpenIn, Seen, Went, setting_in, state}
+use Rattle.cmd_run.specs.Seen.{AllTell, NoneIsOpenIn, Seen, Went, setting_at, state}
 use Rattle.cmd_run.specs.State.{RunState, Setting}
+use Rattle.cmd_run.specs.Time.{Timing}
 
 -- ---- its items
 
--- What holds for a stream that was served: if all objects are modelled and the clock stands still, for its items; and
--- what is known from the source alone and from the sink alone.
-pub record ServesStream {Kind : Type 0} (looked : Looks) (asked : Asking Kind)
-    (step : Setting → ItemStep RunState Kind)
-    (fails : Setting → RunState → List ℕ → RunState → Type 0)
-    (read_step : ItemStep (Unit {0}) Kind) (stands : Type 0) (result : Result (Ending Kind) Stop)
-    (taken : ℕ) (old new : Seen) (input : Object SourceState) (output : Object SinkState) : Type
-    0 where
-  pub source_tells : input.tells_after ≡ input.tells
-  pub sink_tells : output.tells_after ≡ output.tells
-  pub told : stands → (delay : Code → ℕ → ℕ) → old.gives delay → AllTell old → IsTrue input.tells
-      → IsTrue output.tells
-      → TellsAll looked asked step fails (setting_in old delay) result taken (state old) (state new)
-      input.old input.new output.old output.new
-  pub reads : IsTrue input.tells → ReadsAll looked read_step result taken input.old input.new
-  pub writes : IsTrue output.tells → WritesSome result output.old output.new
-  pub few : taken ≤ 65536
-  pub went : Went (IsEndAmong looked asked input.tells 0 input.old.left) old new
-  pub source_faults : RisesIf (has_read_fault (at_last result)) input.faults_before
-      input.faults_after
-  pub sink_faults : RisesIf (has_write_fault result) output.faults_before output.faults_after
+-- What holds for a stream that was served: if all objects are modelled, for its items; and what is known from the source
+-- alone and from the sink alone.
+module _ {Kind : Type 0} (looked : Looks) (asked : Asking Kind)
+    (step : Setting → ItemStep RunState Kind) (fails : Setting → ItemFails RunState)
+    (read_step : ItemStep (Unit {0}) Kind) where
+  pub record ServesStream (time : Timing) (result : Result (Ending Kind) Stop) (taken : ℕ)
+      (old new : Seen) (input : Object SourceState) (output : Object SinkState) : Type 0 where
+    pub source_tells : input.tells_after ≡ input.tells
+    pub sink_tells : output.tells_after ≡ output.tells
+    pub told : IsTrue time.tells → (delay : Code → ℕ → ℕ) → old.gives delay → AllTell old
+        → IsTrue input.tells → IsTrue output.tells
+        → TellsAll looked asked step fails (setting_at time.moments old delay) result taken
+        (state old) (state new) input.old input.new output.old output.new
+    pub reads : IsTrue input.tells → ReadsAll looked read_step result taken input.old input.new
+    pub writes : IsTrue output.tells → WritesSome result output.old output.new
+    pub few : taken ≤ 65536
+    pub went : Went (IsEndAmong looked asked input.tells 0 input.old.left) old new
+    pub source_faults : RisesIf (has_read_fault (at_last result)) input.faults_before
+        input.faults_after
+    pub sink_faults : RisesIf (has_write_fault result) output.faults_before output.faults_after
 
 -- ---- what is written after them
 
@@ -93,7 +93,7 @@ pub record StopsSo (players : List Player) (stop : Stop) (s t : RunState) : Type
 
 module _ {Kind : Type 0} (looked : Looks) (asked : Asking Kind) (wrapped : List ℕ → List ℕ)
     (last_text : Ending Kind → ℕ → Option (List ℕ)) (step : Setting → ItemStep RunState Kind)
-    (fails : Setting → RunState → List ℕ → RunState → Type 0) (setting : Setting) where
+    (fails : Setting → ItemFails RunState) (setting : Setting) where
   -- the run ends
   pub record RunsOut (ending : Ending Kind) (start end : RunState) (x y : SourceState)
       (p q : SinkState) : Type 0 where
@@ -154,7 +154,7 @@ RunEnd = Bool → List ℕ → ℕ → ℕ → Type 0
 
 module _ {Kind : Type 0} (looked : Looks) (asked : Asking Kind) (wrapped : List ℕ → List ℕ)
     (last_text : Ending Kind → ℕ → Option (List ℕ)) (step : Setting → ItemStep RunState Kind)
-    (fails : Setting → RunState → List ℕ → RunState → Type 0) where
+    (fails : Setting → ItemFails RunState) where
   -- what is known of any run leads to that
   abbrev pub RunsSo : RunTold Kind → Type 0
   RunsSo runs =
@@ -191,32 +191,31 @@ pub record EndsSo {Kind : Type 0} (looked : Looks) (asked : Asking Kind) (is_end
 
 -- ---- what holds for every run
 
-pub record Ran {Kind : Type 0} (runs : RunTold Kind) (reads_so : RunRead Kind)
-    (completes : RunComplete Kind) (is_end : RunEnd) (stands : Type 0)
-    (result : Result (Ending Kind) Stop) (old new : Seen) (input : Object SourceState)
-    (output : Object SinkState) : Type 0 where
-  -- If all objects are modelled and only items set the clock: what was read and written, and what library and world are
-  -- afterwards.
-  pub told : stands → (delay : Code → ℕ → ℕ) → old.gives delay → AllTell old → IsTrue input.tells
-      → IsTrue output.tells
-      → runs (setting_in old delay) result (state old) (state new) input.old input.new output.old
-      output.new
-  -- A run stops early only if an allocation, a read or a write fails.
-  pub complete : IsTrue input.tells → completes result input.old.left
-      (Rose input.faults_before input.faults_after) (Rose output.faults_before output.faults_after)
-  -- If only the source is modelled: how often it was read, and how the bytes that were read end the run. If only the
-  -- sink is: how often it was written.
-  pub reads : IsTrue input.tells → reads_so result input.old input.new
-  pub writes : IsTrue output.tells → WritesScript output.old output.new
-  -- With real objects too: all module data was cleaned up, and no transaction is open.
-  pub none_open : NoneIsOpenIn new
-  pub filed : (id : ℕ) → id < length new.world.process.ledger.births
-      → is_filed new.world.process.ledger id ≡ true
-  pub went : Went (is_end input.tells input.old.left) old new
-  -- The causes, with real objects too.
-  pub source_faults : IfOk result (λ (ending : Ending Kind). RisesIf (has_read_fault (Ok (Some ending)))
-      input.faults_before input.faults_after)
-  pub sink_faults : RisesIf (has_write_fault result) output.faults_before output.faults_after
-  -- What is modelled before the run is modelled after it.
-  pub source_tells : input.tells_after ≡ input.tells
-  pub sink_tells : output.tells_after ≡ output.tells
+module _ {Kind : Type 0} (runs : RunTold Kind) (reads_so : RunRead Kind)
+    (completes : RunComplete Kind) (is_end : RunEnd) where
+  pub record Ran (time : Timing) (result : Result (Ending Kind) Stop) (old new : Seen)
+      (input : Object SourceState) (output : Object SinkState) : Type 0 where
+    -- If all objects are modelled: what was read and written, and what library and world are afterwards.
+    pub told : IsTrue time.tells → (delay : Code → ℕ → ℕ) → old.gives delay → AllTell old
+        → IsTrue input.tells → IsTrue output.tells
+        → runs (setting_at time.moments old delay) result (state old) (state new) input.old input.new
+        output.old output.new
+    -- A run stops early only if an allocation, a read or a write fails.
+    pub complete : IsTrue input.tells → completes result input.old.left
+        (Rose input.faults_before input.faults_after) (Rose output.faults_before output.faults_after)
+    -- If only the source is modelled: how often it was read, and how the bytes that were read end the run. If only the
+    -- sink is: how often it was written.
+    pub reads : IsTrue input.tells → reads_so result input.old input.new
+    pub writes : IsTrue output.tells → WritesScript output.old output.new
+    -- With real objects too: all module data was cleaned up, and no transaction is open.
+    pub none_open : NoneIsOpenIn new
+    pub filed : (id : ℕ) → id < length new.world.process.ledger.births
+        → is_filed new.world.process.ledger id ≡ true
+    pub went : Went (is_end input.tells input.old.left) old new
+    -- The causes, with real objects too.
+    pub source_faults : IfOk result (λ (ending : Ending Kind). RisesIf (has_read_fault (Ok (Some ending)))
+        input.faults_before input.faults_after)
+    pub sink_faults : RisesIf (has_write_fault result) output.faults_before output.faults_after
+    -- What is modelled before the run is modelled after it.
+    pub source_tells : input.tells_after ≡ input.tells
+    pub sink_tells : output.tells_after ≡ output.tells

@@ -5,12 +5,17 @@ use Rattle.pam_base.specs.declared.code.Code.{Code}
 pub use Rattle.report_step.specs.pam_library.specs.Seen.{AllTell, IsSoundIn, NoneIsOpenIn, Seen}
 use Rattle.cmd_run.specs.AnyWorld.{ProceedsFor}
 use Rattle.cmd_run.specs.State.{RunState, Setting, setting_of, state_of}
+use Rattle.cmd_run.specs.Time.{Moments}
 
 abbrev pub state : Seen → RunState
 state s = state_of s.slots s.world
 
 abbrev pub setting_in : Seen → (Code → ℕ → ℕ) → Setting
 setting_in s delay = setting_of s.players delay
+
+-- the same with a time of day
+abbrev pub setting_at : Moments → Seen → (Code → ℕ → ℕ) → Setting
+setting_at moments s delay = record { players = s.players; delay = delay; moments = moments }
 
 -- What every part of a run leaves unchanged, and what its calls did, with real objects too: their
 -- ends are among these.

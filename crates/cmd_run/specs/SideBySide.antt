@@ -11,7 +11,7 @@ use Rattle.script_lang.specs.Line.{parsed}
 use Rattle.record_reader.specs.Looked.{looked}
 use Rattle.record_reader.specs.LineRun.{run_of, step_at}
 use Rattle.report_step.specs.Step.{step_text}
-use Rattle.cmd_run.specs.State.{Setting, RunState}
+use Rattle.cmd_run.specs.State.{Setting, RunState, kept_at}
 use Rattle.cmd_run.specs.Step.{line_step}
 
 -- the step that a line asks for, with the world as it is before it; no other line has one
@@ -33,7 +33,8 @@ module _ (setting : Setting) where
   -- the steps of some lines that have n lines before them, up to the first that is refused
   unfoldable pub steps_in : ℕ → RunState → List (List ℕ) → List Met
   steps_in n s [] = []
-  steps_in n s (line ∷ rest) = steps_after s line (step_at (line_step setting) n s line) (λ t.
+  steps_in n s (line ∷ rest) =
+      steps_after (kept_at setting n s) line (step_at (line_step setting) n s line) (λ t.
       steps_in (n + 1) t rest)
 
   -- what is reported of some steps, one after another: for each its outcome, with the cleanup records that it filed

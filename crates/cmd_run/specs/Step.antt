@@ -13,7 +13,7 @@ use Rattle.script_lang.specs.declared.line.Line.TheVariants as lines
 use Rattle.script_lang.specs.Line.{parsed}
 use Rattle.record_reader.specs.LineRun.{LineStep}
 use Rattle.report_step.specs.Step.{step_text}
-use Rattle.cmd_run.specs.State.{Setting, RunState, state_of}
+use Rattle.cmd_run.specs.State.{Setting, RunState, kept_at, state_of}
 
 -- the world with another time, another random word, another caller
 abbrev pub at_moment : ℕ → PlainWorld → PlainWorld
@@ -49,7 +49,7 @@ module _ (setting : Setting) where
   applied_or_refused s (Err kind) = Err kind
 
   unfoldable pub line_step : LineStep RunState
-  line_step s line = applied_or_refused s (parsed line)
+  line_step n s line = applied_or_refused (kept_at setting n s) (parsed line)
 
 -- The states that a call may leave if it runs out of memory: its transaction as the call's contract
 -- allows, every other one as it was, and the data and the world as the contract allows. For a stack
@@ -62,8 +62,9 @@ pub record CallFails (setting : Setting) (step : Step) (s t : RunState) : Type 0
   pub world : leaves_world (slot_at s.slots step.number) step.call ≡ true → t.world ≡ s.world
   pub nap : t.world.nap ≡ s.world.nap
 
--- the states that a line that asks for such a call may leave
-pub record Fails (setting : Setting) (s : RunState) (line : List ℕ) (t : RunState) : Type 0 where
+-- the states that a line that asks for such a call, and has n lines before it, may leave
+pub record Fails (setting : Setting) (n : ℕ) (s : RunState) (line : List ℕ) (t : RunState) : Type
+    0 where
   pub step : Step
   pub asked : parsed line ≡ Ok (lines.Step step)
-  pub fails : CallFails setting step s t
+  pub fails : CallFails setting step (kept_at setting n s) t

@@ -1,21 +1,21 @@
-ghost use Rattle.std.specs.Prelude.{◌≡◌, ◌≤◌, ◌<◌, ◌+◌, ◌++◌, ℕ, None, Ok, IsTrue, All, is_err, is_none};
+ghost use Rattle.std.specs.Prelude.{◌≡◌, ◌≤◌, ◌<◌, ◌+◌, ◌++◌, ℕ, None, Ok, IsTrue, All, is_err};
 ghost use Rattle.pam_base.specs.declared.code.Code.{Code};
 ghost use Rattle.pam_outside.specs.Counts.{RisesIf};
 ghost use Rattle.record_reader.specs.Object.{object_of};
 ghost use Rattle.record_reader.specs.Taking.{Finds, IsFound};
 ghost use Rattle.report_step.specs.dispatch_core.specs.Lines.{names_of};
-ghost use Rattle.record_reader.specs.Turns.{has_read_fault, has_write_fault};
+ghost use Rattle.record_reader.specs.Turns.{has_read_fault, has_write_fault, place};
 ghost use Rattle.cmd_run.specs.Asked.{IsEndAmong, LeadsOn};
 ghost use Rattle.cmd_run.specs.Events.{TellsTurn};
 ghost use Rattle.cmd_run.specs.Made.{ReportsCalls};
 ghost use Rattle.cmd_run.specs.Reading.{ReadsTurn, WritesSome};
 ghost use Rattle.cmd_run.specs.Run.{ServesStream};
-ghost use Rattle.cmd_run.specs.Seen.{AllTell, IsSoundIn, Went, setting_in, state};
+ghost use Rattle.cmd_run.specs.Seen.{AllTell, IsSoundIn, Went, setting_at, state};
 
 use crate::protocol::{Items, Protocol};
 use crate::reading::reading_is_turns;
 use crate::serve::serve;
-use crate::time::TimeOfDay;
+use crate::time::{TimeOfDay, TimeTold};
 use pam_base::{Failed, NoMemory};
 use pam_outside::{Sink, Source};
 use record_reader::{Ending, NextItem, Reader, Stop, laws};
@@ -36,7 +36,8 @@ pub(crate) fn serve_items<P: Protocol, S: Source, K: Sink>(
     requires first { taken.old ≡ 0 }
     requires sound { IsSoundIn (⟦<Session as Told>⟧.seen library.old world.old) }
     ensures serves { let seen = ⟦<Session as Told>⟧.seen in
-        ServesStream P.looked P.asked P.step P.fails P.read_step (IsTrue (is_none time.now)) result
+        let timing = ⟦<Option<Box<dyn TimeOfDay>> as TimeTold>⟧.timing in
+        ServesStream P.looked P.asked P.step P.fails P.read_step (timing time.now) result
         taken.new (seen library.old world.old) (seen library.new world.new)
         (object_of S.source_tells S.source_holds S.source_faults source.old source.new)
         (object_of K.sink_tells K.sink_holds K.sink_faults sink.old sink.new) }
@@ -86,13 +87,16 @@ fn serve_next<P: Protocol, S: Source, K: Sink>(
     requires sound { IsSoundIn (⟦<Session as Told>⟧.seen library.old world.old) }
     ensures source_tells { S.source_tells source.new ≡ S.source_tells source.old }
     ensures sink_tells { K.sink_tells sink.new ≡ K.sink_tells sink.old }
-    ensures told { let seen = ⟦<Session as Told>⟧.seen in IsTrue (is_none time.now) →
-        (delay : Code → ℕ → ℕ) → (seen library.old world.old).gives delay →
+    ensures told { let seen = ⟦<Session as Told>⟧.seen in
+        let timing = ⟦<Option<Box<dyn TimeOfDay>> as TimeTold>⟧.timing time.now in
+        IsTrue timing.tells → (delay : Code → ℕ → ℕ) → (seen library.old world.old).gives delay →
         AllTell (seen library.old world.old) → IsTrue (S.source_tells source.old) → IsTrue (K.sink_tells sink.old) →
-        TellsTurn P.looked P.asked P.step P.fails (setting_in (seen library.old world.old) delay)
-        result taken.old taken.new (state (seen library.old world.old))
-        (state (seen library.new world.new)) reader.old reader.new (S.source_holds source.old)
-        (S.source_holds source.new) (K.sink_holds sink.old) (K.sink_holds sink.new) }
+        TellsTurn P.looked P.asked P.step P.fails
+        (setting_at timing.moments (seen library.old world.old) delay) result
+        (place taken.old (state (seen library.old world.old)) reader.old
+        (S.source_holds source.old) (K.sink_holds sink.old))
+        (place taken.new (state (seen library.new world.new)) reader.new
+        (S.source_holds source.new) (K.sink_holds sink.new)) }
     ensures reads { IsTrue (S.source_tells source.old) →
         ReadsTurn P.looked P.read_step result taken.old taken.new reader.old reader.new
         (S.source_holds source.old) (S.source_holds source.new) }

@@ -28,4 +28,4 @@ pub use run::run_stream;
 pub use script::Script;
 pub use script_lang;
 pub use status::stop_status;
-pub use time::{TimeOfDay, keep_time};
+pub use time::{TimeOfDay, TimeTold, keep_time};

@@ -33,11 +33,11 @@ pub trait Protocol {
     /// The bytes that are written for a report.
     ghost wrapped: { List ℕ → List ℕ };
 
-    /// The state after an item, and the bytes that are written for it; or why it is refused.
+    /// The state after an item that follows n others, and the bytes that are written for it; or why it is refused.
     ghost step: { Setting → ℕ → RunState → List ℕ → Result (RunState × List ℕ) Self.Kind };
 
-    /// The states that an item may leave if its call runs out of memory.
-    ghost fails: { Setting → RunState → List ℕ → RunState → Type 0 };
+    /// The states that an item after n others may leave if its call runs out of memory.
+    ghost fails: { Setting → ℕ → RunState → List ℕ → RunState → Type 0 };
 
     /// Whether an item is refused, without its effect.
     ghost read_step: { ℕ → Unit {0} → List ℕ → Result (Unit {0} × List ℕ) Self.Kind };

@@ -1,4 +1,4 @@
-ghost use Rattle.std.specs.Prelude.{◌≡◌, ◌≤◌, IsTrue, OnOk, is_none};
+ghost use Rattle.std.specs.Prelude.{◌≡◌, ◌≤◌, IsTrue, OnOk};
 ghost use Rattle.pam_outside.specs.Counts.{RisesIf};
 ghost use Rattle.record_reader.specs.Object.{object_of};
 ghost use Rattle.record_reader.specs.Turns.{has_write_fault};
@@ -12,7 +12,7 @@ use crate::closing::{close_open, close_silently};
 use crate::items::serve_items;
 use crate::protocol::Protocol;
 use crate::status::{ending_status, stop_status};
-use crate::time::TimeOfDay;
+use crate::time::{TimeOfDay, TimeTold};
 use pam_base::{Failed, NoMemory};
 use pam_outside::{Sink, Source, write_all};
 use record_reader::{Ending, Stop};
@@ -21,8 +21,8 @@ use report_step::pam_room::World;
 use std::alloc::Global;
 
 /// Runs a stream of calls, as `P` reads them: the lines of a script, or the frames of a front end. Each call is made in
-/// its transaction and its report written before the next one is read. Before each item the world's clock is set to the
-/// time of day, if that is known; without one only items set it.
+/// its transaction and its report written before the next one is read. Before each item that isn't refused the world's
+/// clock is set to the time of day, if that is known; without one only items set it.
 ///
 /// After the last call every open transaction is ended, the lowest number first, and each is reported before the
 /// next:
@@ -44,7 +44,8 @@ pub fn run_stream<P: Protocol, S: Source, K: Sink>(
 ) -> Result<Ending<P::Kind>, Stop>
     requires { IsSoundIn (⟦<Session as Told>⟧.seen library.old world.old) }
     ensures ran { let seen = ⟦<Session as Told>⟧.seen in
-        Ran P.runs P.reads P.completes P.is_end (IsTrue (is_none time.now)) result
+        let timing = ⟦<Option<Box<dyn TimeOfDay>> as TimeTold>⟧.timing in
+        Ran P.runs P.reads P.completes P.is_end (timing time.now) result
         (seen library.old world.old) (seen library.new world.new)
         (object_of S.source_tells S.source_holds S.source_faults source.old source.new)
         (object_of K.sink_tells K.sink_holds K.sink_faults sink.old sink.new) }

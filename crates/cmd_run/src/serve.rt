@@ -1,4 +1,5 @@
-ghost use Rattle.std.specs.Prelude.{◌≡◌, ◌≤◌, ◌<◌, ℕ, IsTrue, None, Ok, is_none, length};
+ghost use Rattle.std.specs.Prelude.{◌≡◌, ◌≤◌, ◌<◌, ℕ, IsTrue, None, Ok, OnOk, length};
+ghost use Rattle.script_lang.specs.Fit.{IsFit};
 ghost use Rattle.script_lang.specs.declared.line.Line.{Line as PlainLine};
 ghost use Rattle.pam_base.specs.declared.code.Code.{Code};
 ghost use Rattle.pam_outside.specs.Counts.{RisesIf};
@@ -9,21 +10,23 @@ ghost use Rattle.report_step.specs.pam_library.specs.Plain.{gear_in};
 ghost use Rattle.report_step.specs.Cleaned.{AreOwned};
 ghost use Rattle.report_step.specs.Step.{step_text};
 ghost use Rattle.record_reader.specs.Turns.{ServesItem, has_write_fault};
-ghost use Rattle.cmd_run.specs.Asked.{IsEnd};
-ghost use Rattle.cmd_run.specs.Events.{MovesBy};
+ghost use Rattle.cmd_run.specs.Asked.{IsEnd, IsEndLine};
+ghost use Rattle.cmd_run.specs.Events.{LineMoves, MovesBy};
 ghost use Rattle.cmd_run.specs.Reading.{ReadsItem, WritesSome};
 ghost use Rattle.cmd_run.specs.Made.{ReportsCalls};
 ghost use Rattle.cmd_run.specs.Report.{WritesReport};
-ghost use Rattle.cmd_run.specs.Seen.{AllTell, IsSoundIn, Went, setting_in, state};
+ghost use Rattle.cmd_run.specs.Seen.{AllTell, IsSoundIn, Went, setting_at, state};
+ghost use Rattle.cmd_run.specs.Serve.{AppliesLine};
+ghost use Rattle.cmd_run.specs.Time.{Moments};
 
-use crate::protocol::{Items, Protocol};
+use crate::protocol::Protocol;
 use crate::report::write_report;
-use crate::time::{TimeOfDay, keep_time};
+use crate::time::{TimeOfDay, TimeTold, keep_time};
 use crate::world::{set_caller, set_world_moment, set_world_word};
 use data_cleanup::Ledger;
 use pam_base::{NoMemory, Refuse, Step};
 use pam_outside::Sink;
-use record_reader::{Stop, laws};
+use record_reader::Stop;
 use report_step::pam_handle::{Gear, GearTold};
 use report_step::pam_library::{Library, Outcome, Session, Told};
 use report_step::pam_room::World;
@@ -32,7 +35,7 @@ use script_lang::Line;
 use std::alloc::Global;
 
 /// Applies the item after `taken` others at the time of day, if that is known, and writes its report. Returns the fault if
-/// the item is refused; a refused item changes nothing but the clock.
+/// the item is refused; a refused item changes nothing.
 pub(crate) fn serve<P: Protocol, K: Sink>(
     alloc: Global,
     library: &mut Library,
@@ -44,10 +47,11 @@ pub(crate) fn serve<P: Protocol, K: Sink>(
 ) -> Result<Option<P::Kind>, Stop>
     requires { IsSoundIn (⟦<Session as Told>⟧.seen library.old world.old) }
     ensures sink_tells { K.sink_tells sink.new ≡ K.sink_tells sink.old }
-    ensures told { let seen = ⟦<Session as Told>⟧.seen in IsTrue (is_none time.now) →
-        (delay : Code → ℕ → ℕ) → (seen library.old world.old).gives delay → AllTell (seen library.old world.old) →
-        IsTrue (K.sink_tells sink.old) →
-        (let setting = setting_in (seen library.old world.old) delay in
+    ensures told { let seen = ⟦<Session as Told>⟧.seen in
+        let timing = ⟦<Option<Box<dyn TimeOfDay>> as TimeTold>⟧.timing time.now in
+        IsTrue timing.tells → (delay : Code → ℕ → ℕ) → (seen library.old world.old).gives delay →
+        AllTell (seen library.old world.old) → IsTrue (K.sink_tells sink.old) →
+        (let setting = setting_at timing.moments (seen library.old world.old) delay in
         ServesItem (P.step setting) (P.fails setting) result taken item.now
         (state (seen library.old world.old)) (state (seen library.new world.new))
         (K.sink_holds sink.old) (K.sink_holds sink.new)) }
@@ -69,73 +73,72 @@ pub(crate) fn serve<P: Protocol, K: Sink>(
     ensures faults { RisesIf (has_write_fault result) (K.sink_faults sink.old)
         (K.sink_faults sink.new) }
 {
-    keep_time(time, world);
-    serve_now::<P, K>(alloc, library, taken, item, sink, world)
-}
-
-// The same at the time of the world's clock. A refused item changes nothing.
-fn serve_now<P: Protocol, K: Sink>(
-    alloc: Global,
-    library: &mut Library,
-    taken: u32,
-    item: &[u8],
-    sink: &mut K,
-    world: &mut World,
-) -> Result<Option<P::Kind>, Stop>
-    requires { IsSoundIn (⟦<Session as Told>⟧.seen library.old world.old) }
-    ensures sink_tells { K.sink_tells sink.new ≡ K.sink_tells sink.old }
-    ensures told { let seen = ⟦<Session as Told>⟧.seen in (delay : Code → ℕ → ℕ) →
-        (seen library.old world.old).gives delay → AllTell (seen library.old world.old) →
-        IsTrue (K.sink_tells sink.old) →
-        (let setting = setting_in (seen library.old world.old) delay in
-        ServesItem (P.step setting) (P.fails setting) result taken item.now
-        (state (seen library.old world.old)) (state (seen library.new world.new))
-        (K.sink_holds sink.old) (K.sink_holds sink.new)) }
-    ensures went { let seen = ⟦<Session as Told>⟧.seen in Went (IsEnd (P.asked taken item.now))
-        (seen library.old world.old) (seen library.new world.new) }
-    ensures moves { let seen = ⟦<Session as Told>⟧.seen in result ≡ Ok None →
-        MovesBy (notes_of (seen library.old world.old).players) (seen library.old world.old).slots
-        (P.asked taken item.now) world.old.process.ledger world.new.process.ledger
-        (seen library.new world.new).slots }
-    ensures few { result ≡ Ok None → taken < 65536 }
-    ensures accepted { result ≡ Ok None → (line : PlainLine) × (P.asked taken item.now ≡ Ok line) }
-    ensures reads { ReadsItem P.read_step result taken item.now }
-    ensures writes { IsTrue (K.sink_tells sink.old) →
-        WritesSome result (K.sink_holds sink.old) (K.sink_holds sink.new) }
-    ensures made { let seen = ⟦<Session as Told>⟧.seen in IsTrue (K.sink_tells sink.old) →
-        ReportsCalls P.wrapped (names_of (seen library.old world.old).players) result
-        (seen library.old world.old).slots (seen library.new world.new).slots
-        (K.sink_holds sink.old) (K.sink_holds sink.new) }
-    ensures faults { RisesIf (has_write_fault result) (K.sink_faults sink.old)
-        (K.sink_faults sink.new) }
-{
-    laws::item_is_served::<Items<P>>();
-    data_cleanup::due_laws::nothing_moves();
     P::does();
     match P::read(alloc, taken, item) {
         Err(Refuse::NoMemory) => Err(Stop::NoMemory),
         Err(Refuse::Named(kind)) => Ok(Some(kind)),
-        Ok(Line::Blank) => Ok(None),
-        Ok(Line::At(moment)) => {
+        Ok(line) => {
+            keep_time(time, taken, world);
+            match apply_line::<P, K>(alloc, library, line, sink, world) {
+                Ok(()) => Ok(None),
+                Err(stop) => Err(stop),
+            }
+        }
+    }
+}
+
+// Applies a line at the time of the world's clock, and writes its report if it is a call.
+fn apply_line<P: Protocol, K: Sink>(
+    alloc: Global,
+    library: &mut Library,
+    line: Line,
+    sink: &mut K,
+    world: &mut World,
+) -> Result<(), Stop>
+    requires fit { IsFit line }
+    requires sound { IsSoundIn (⟦<Session as Told>⟧.seen library.old world.old) }
+    ensures sink_tells { K.sink_tells sink.new ≡ K.sink_tells sink.old }
+    ensures told { let seen = ⟦<Session as Told>⟧.seen in (moments : Moments) →
+        (delay : Code → ℕ → ℕ) → (seen library.old world.old).gives delay →
+        AllTell (seen library.old world.old) → IsTrue (K.sink_tells sink.old) →
+        AppliesLine P.wrapped (setting_at moments (seen library.old world.old) delay) line result
+        (state (seen library.old world.old)) (state (seen library.new world.new))
+        (K.sink_holds sink.old) (K.sink_holds sink.new) }
+    ensures went { let seen = ⟦<Session as Told>⟧.seen in Went (IsEndLine line)
+        (seen library.old world.old) (seen library.new world.new) }
+    ensures moves { let seen = ⟦<Session as Told>⟧.seen in OnOk result
+        (LineMoves (notes_of (seen library.old world.old).players)
+        (seen library.old world.old).slots line world.old.process.ledger
+        world.new.process.ledger (seen library.new world.new).slots) }
+    ensures writes { IsTrue (K.sink_tells sink.old) →
+        WritesSome result (K.sink_holds sink.old) (K.sink_holds sink.new) }
+    ensures made { let seen = ⟦<Session as Told>⟧.seen in IsTrue (K.sink_tells sink.old) →
+        ReportsCalls P.wrapped (names_of (seen library.old world.old).players) result
+        (seen library.old world.old).slots (seen library.new world.new).slots
+        (K.sink_holds sink.old) (K.sink_holds sink.new) }
+    ensures faults { RisesIf (has_write_fault result) (K.sink_faults sink.old)
+        (K.sink_faults sink.new) }
+{
+    data_cleanup::due_laws::nothing_moves();
+    match line {
+        Line::Blank => Ok(()),
+        Line::At(moment) => {
             set_world_moment(world, moment);
-            Ok(None)
+            Ok(())
         }
-        Ok(Line::Random(word)) => {
+        Line::Random(word) => {
             set_world_word(world, word);
-            Ok(None)
+            Ok(())
         }
-        Ok(Line::Caller(caller)) => {
+        Line::Caller(caller) => {
             set_caller(world, caller);
-            Ok(None)
+            Ok(())
         }
-        Ok(Line::Step(step)) => match library.apply(alloc, world, &step) {
+        Line::Step(step) => match library.apply(alloc, world, &step) {
             Err(NoMemory) => Err(Stop::NoMemory),
             Ok(outcome) => {
                 let ledger = &world.process.ledger;
-                match write_step::<P, K>(alloc, library, ledger, &step, &outcome, sink) {
-                    Ok(()) => Ok(None),
-                    Err(stop) => Err(stop),
-                }
+                write_step::<P, K>(alloc, library, ledger, &step, &outcome, sink)
             }
         },
     }

@@ -1,4 +1,5 @@
-ghost use Rattle.std.specs.Prelude.{◌≡◌, IsTrue, is_none};
+ghost use Rattle.std.specs.Prelude.{◌≡◌, ◌≤◌, ℕ, Bool, IsTrue, is_none};
+ghost use Rattle.cmd_run.specs.Time.{kept};
 
 use pam_outside::{MAX_MOMENT, set_moment};
 use report_step::pam_room::{World, WorldTold};
@@ -6,23 +7,49 @@ use report_step::pam_room::{World, WorldTold};
 /// The time of day, of which a run's owner alone can ask. Modules and the library see the time of the world's clock,
 /// which stands still until it is set.
 pub trait TimeOfDay: Drop {
-    /// The seconds since 1970.
-    fn seconds(&self) -> u64;
+    /// Whether contracts know its answers: it is modelled.
+    ghost time_tells: { Self → Bool };
+
+    /// The answers of a modelled one, by how many items or calls came before the question.
+    ghost time_gives: { Self → ℕ → ℕ };
+
+    /// The seconds since 1970, at most `MAX_MOMENT`. The number of items or calls that came before is for a time that is
+    /// made for a test; the system's doesn't look at it.
+    fn seconds(&self, before: u32) -> u64
+        ensures bound { result ≤ MAX_MOMENT }
+        ensures told { IsTrue (time_tells self.now) → result ≡ time_gives self.now before };
 }
 
-/// Sets the world's clock to the time of day, at most `MAX_MOMENT`. Without a time of day it changes nothing. It changes
-/// nothing of the world but the clock.
-pub fn keep_time(time: &Option<Box<dyn TimeOfDay>>, world: &mut World)
-    ensures tells { ⟦<World as WorldTold>⟧.tells world.new
-        ≡ ⟦<World as WorldTold>⟧.tells world.old }
-    ensures told { IsTrue (is_none time.now) → ⟦<World as WorldTold>⟧.plain world.new
-        ≡ ⟦<World as WorldTold>⟧.plain world.old }
+/// Names what contracts know of a time of day, which may be missing.
+pub trait TimeTold {
+    ghost use Rattle.cmd_run.specs.Time.{Timing};
+
+    ghost timing: { Self → Timing };
+}
+
+impl TimeTold for Option<Box<dyn TimeOfDay>> {
+    ghost use Rattle.cmd_run.specs.Time.{timing_of};
+
+    ghost timing = { timing_of (λ b. (TimeOfDay-box b).time_tells b.value) (λ b.
+        (TimeOfDay-box b).time_gives b.value) };
+}
+
+/// Sets the world's clock to the time of day, before an item or a call that `before` others came before. Without a time
+/// of day it changes nothing. It changes nothing of the world but the clock.
+pub fn keep_time(time: &Option<Box<dyn TimeOfDay>>, before: u32, world: &mut World)
+    ensures tells { let told = ⟦<World as WorldTold>⟧ in told.tells world.new ≡ told.tells world.old }
+    ensures told { let told = ⟦<World as WorldTold>⟧ in
+        let timing = ⟦<Option<Box<dyn TimeOfDay>> as TimeTold>⟧.timing time.now in
+        IsTrue timing.tells → IsTrue (told.tells world.old) →
+        told.plain world.new ≡ kept (timing.moments before) (told.plain world.old) }
+    ensures still { let plain = ⟦<World as WorldTold>⟧.plain in
+        IsTrue (is_none time.now) → plain world.new ≡ plain world.old }
     ensures vault { world.new.vault ≡ world.old.vault }
     ensures nap { world.new.nap ≡ world.old.nap }
     ensures process { world.new.process ≡ world.old.process }
 {
     match time {
         None => {}
-        Some(day) => set_moment(&mut world.clock, day.seconds().min(MAX_MOMENT)),
+        Some(day) => set_moment(&mut world.clock, day.seconds(before)),
     }
 }

@@ -7,11 +7,9 @@ use report_step::pam_room::{World, WorldTold};
 /// Sets the time of the world's clock, if that clock can be set.
 pub(crate) fn set_world_moment(world: &mut World, moment: u64)
     requires { moment ≤ MAX_MOMENT }
-    ensures tells { ⟦<World as WorldTold>⟧.tells world.new
-        ≡ ⟦<World as WorldTold>⟧.tells world.old }
-    ensures told { IsTrue (⟦<World as WorldTold>⟧.tells world.old) →
-        ⟦<World as WorldTold>⟧.plain world.new
-        ≡ at_moment moment (⟦<World as WorldTold>⟧.plain world.old) }
+    ensures tells { let told = ⟦<World as WorldTold>⟧ in told.tells world.new ≡ told.tells world.old }
+    ensures told { let told = ⟦<World as WorldTold>⟧ in IsTrue (told.tells world.old) →
+        told.plain world.new ≡ at_moment moment (told.plain world.old) }
     ensures process { world.new.process ≡ world.old.process }
 {
     set_moment(&mut world.clock, moment);
@@ -19,11 +17,9 @@ pub(crate) fn set_world_moment(world: &mut World, moment: u64)
 
 /// Sets the random word of the world's clock, if that clock can be set.
 pub(crate) fn set_world_word(world: &mut World, word: u64)
-    ensures tells { ⟦<World as WorldTold>⟧.tells world.new
-        ≡ ⟦<World as WorldTold>⟧.tells world.old }
-    ensures told { IsTrue (⟦<World as WorldTold>⟧.tells world.old) →
-        ⟦<World as WorldTold>⟧.plain world.new
-        ≡ with_word word (⟦<World as WorldTold>⟧.plain world.old) }
+    ensures tells { let told = ⟦<World as WorldTold>⟧ in told.tells world.new ≡ told.tells world.old }
+    ensures told { let told = ⟦<World as WorldTold>⟧ in IsTrue (told.tells world.old) →
+        told.plain world.new ≡ with_word word (told.plain world.old) }
     ensures process { world.new.process ≡ world.old.process }
 {
     set_word(&mut world.clock, word);
@@ -31,10 +27,9 @@ pub(crate) fn set_world_word(world: &mut World, word: u64)
 
 /// Sets the user ID of the calling process.
 pub(crate) fn set_caller(world: &mut World, caller: u32)
-    ensures tells { ⟦<World as WorldTold>⟧.tells world.new
-        ≡ ⟦<World as WorldTold>⟧.tells world.old }
-    ensures plain { ⟦<World as WorldTold>⟧.plain world.new
-        ≡ with_caller caller (⟦<World as WorldTold>⟧.plain world.old) }
+    ensures tells { let told = ⟦<World as WorldTold>⟧ in told.tells world.new ≡ told.tells world.old }
+    ensures plain { let plain = ⟦<World as WorldTold>⟧.plain in
+        plain world.new ≡ with_caller caller (plain world.old) }
     ensures ledger { world.new.process.ledger ≡ world.old.process.ledger }
 {
     world.process.caller = caller;

@@ -13,7 +13,7 @@ use Rattle.record_reader.specs.declared.ending.Ending.{Ending}
 use Rattle.record_reader.specs.declared.ending.Ending.TheVariants.{Done, ReadFault, Refused}
 use Rattle.record_reader.specs.declared.ending.Stop.{Stop}
 use Rattle.record_reader.specs.declared.ending.Stop.TheVariants.{NoMemory, WriteFault}
-use Rattle.record_reader.specs.Run.{Run, after, come_to, run_items, run_of}
+use Rattle.record_reader.specs.Run.{ItemFails, Run, after, come_to, run_items, run_of}
 use Rattle.record_reader.specs.Turns.{EndsBy, StopsAt, begun_items, has_read_fault, has_write_fault, refusal_of}
 use Rattle.record_reader.specs.Whole.{Reports, Runs}
 use Rattle.frame_stream.specs.declared.fault.FrameFault.{FrameFault}
@@ -32,19 +32,19 @@ use Rattle.cmd_wire.specs.Whole.{AnswersAll, Completes, IsCutIn, IsNextStep, Sto
 
 -- ---- how a run over the bytes taken ended
 
-module _ {State : Type 0} (answer : CallStep State) (Failing : State → List ℕ → State → Type 0) where
+module _ {State : Type 0} (answer : CallStep State) (Failing : ItemFails State) where
   -- the run over them, whether the input ended after them or not
   record IsRunOf (ending : Ending FrameFault) (m : ℕ) (c d : State) (taken left text : List ℕ) : Type 0 where
     spelled : SpellsTo ending taken left
-    text_is : text ≡ answers_to answer c spelled.steps
-    state_is : d ≡ state_past answer c spelled.steps
+    text_is : text ≡ answers_to answer 0 c spelled.steps
+    state_is : d ≡ state_past answer 0 c spelled.steps
 
   module _ (spell : BytesSpell) (runs : RunIsOfSteps answer) where
     run_by : (ending : Ending FrameFault) (m : ℕ) (c d : State) (taken left text : List ℕ) → AreBytes taken
         → EndsBy looked (step_at answer) ending 0 m c d taken left text → IsRunOf ending m c d taken left text
     run_by ending m c d taken left text all e =
         let s = spell 0 taken e.ended (omega arith) all in
-        let same : come_to (answers_to answer c s.0) (state_past answer c s.0) (0 + length s.0) s.2 ≡ come_to text d m (refusal_of ending) =
+        let same : come_to (answers_to answer 0 c s.0) (state_past answer 0 c s.0) (0 + length s.0) s.2 ≡ come_to text d m (refusal_of ending) =
         sym (runs 0 c taken e.ended s.0 s.1 s.2 all s.3) ∙ e.run in
         record {
           spelled = record {
@@ -148,7 +148,7 @@ module _ (setting : Setting) (spell : BytesSpell) (runs : RunIsOfSteps (answers 
     is_run = run_ended (answers setting) (Fails setting) spell runs ending m start last x y p between r (taken_bytes x y r.taken r.source t)
 
     words_written : (words : List ℕ) → q.written ≡ between.written ++ words
-        → q.written ≡ p.written ++ (answers_to (answers setting) start is_run.spelled.steps ++ words)
+        → q.written ≡ p.written ++ (answers_to (answers setting) 0 start is_run.spelled.steps ++ words)
     words_written words w =
         w ∙ ap (λ (z : List ℕ). z ++ words) r.sink ∙ append_assoc p.written r.text words ∙ ap (λ (z : List ℕ). p.written ++ (z ++ words)) is_run.text_is
 
@@ -166,7 +166,7 @@ module _ (setting : Setting) (spell : BytesSpell) (runs : RunIsOfSteps (answers 
           last = last;
           last_is = is_run.state_is;
           written = words_written (closings_text c.whole ++ c.part) c.written
-              ∙ ap (λ (z : List ℕ). p.written ++ (answers_to (answers setting) start is_run.spelled.steps ++ z)) words;
+              ∙ ap (λ (z : List ℕ). p.written ++ (answers_to (answers setting) 0 start is_run.spelled.steps ++ z)) words;
           closed = c.to.2 ∙ ap (last_state last) whole ∙ answered_last last (reported setting.players (ending_status ending) last);
         }
 
@@ -194,12 +194,12 @@ module _ (setting : Setting) (spell : BytesSpell) (runs : RunIsOfSteps (answers 
 
 module _ (setting : Setting) (served : ServedAreSteps (answers setting)) where
   -- an item that was begun is the frame of the next step
-  record IsNext (rest item : List ℕ) (s t : RunState) (text : List ℕ) : Type 0 where
+  record IsNext (n : ℕ) (rest item : List ℕ) (s t : RunState) (text : List ℕ) : Type 0 where
     step : Step
     next : IsNextStep rest step
     item_is : item ≡ frame_of step
-    state_is : t ≡ (answers setting s step).0
-    text_is : text ≡ (answers setting s step).1
+    state_is : t ≡ (answers setting n s step).0
+    text_is : text ≡ (answers setting n s step).1
 
   one_run : (m : ℕ) (s t : RunState) (item text : List ℕ) → step_at (answers setting) m s item ≡ Ok (t, text)
       → run_items (step_at (answers setting)) m s (item ∷ []) ≡ come_to (text ++ []) t (m + 1) None
@@ -207,27 +207,27 @@ module _ (setting : Setting) (served : ServedAreSteps (answers setting)) where
   one_run m s t item text e = ap (λ (r : Result (RunState × List ℕ) FrameFault). after m s r (λ (d : RunState). come_to [] d (m + 1) None)) e
 
   only : (m : ℕ) (s t : RunState) (rest item text : List ℕ) (ended : Bool) (others : List (List ℕ)) (steps : List Step) (left : List ℕ)
-      → AreFramesOf rest steps left → item ∷ [] ≡ map frame_of steps → text ≡ answers_to (answers setting) s steps
-      → t ≡ state_past (answers setting) s steps → IsNext rest item s t text
+      → AreFramesOf rest steps left → item ∷ [] ≡ map frame_of steps → text ≡ answers_to (answers setting) m s steps
+      → t ≡ state_past (answers setting) m s steps → IsNext m rest item s t text
   only m s t rest item text ended others [] left f i e d = absurd cc
   only m s t rest item text ended others (step ∷ []) left f i e d = record {
     step = step;
     next = record { past_end = left; frames = f };
     item_is = cc;
     state_is = d;
-    text_is = e ∙ append-nil (answers setting s step).1;
+    text_is = e ∙ append-nil (answers setting m s step).1;
   }
   only m s t rest item text ended others (step ∷ other ∷ steps) left f i e d = absurd cc
 
   next_of : (m : ℕ) (s t : RunState) (rest item text : List ℕ) (ended : Bool) (others : List (List ℕ)) → m ≤ 65536 → AreBytes rest
-      → looked m rest ended ≡ item ∷ others → step_at (answers setting) m s item ≡ Ok (t, text) → IsNext rest item s t text
+      → looked m rest ended ≡ item ∷ others → step_at (answers setting) m s item ≡ Ok (t, text) → IsNext m rest item s t text
   next_of m s t rest item text ended others few all seen e =
       let f = served m (m + 1) s t rest ended (item ∷ []) others (text ++ []) few all seen (one_run m s t item text e) in
       only m s t rest item text ended others f.steps f.rest f.frames f.served_are (sym (append-nil text) ∙ f.text_is) f.state_is
 
   cut_in : (stop : Stop) (m : ℕ) (begun : Option (List ℕ)) (s d : RunState) (rest part : List ℕ) (ended : Bool) (others : List (List ℕ)) → m ≤ 65536
       → AreBytes rest → looked m rest ended ≡ begun_items begun ++ others
-      → StopsAt (step_at (answers setting)) (Fails setting) stop m begun s d part → IsCutIn setting stop rest s d part
+      → StopsAt (step_at (answers setting)) (Fails setting) stop m begun s d part → IsCutIn setting stop m rest s d part
   cut_in WriteFault m None s d rest part ended others few all seen st = absurd st
   cut_in WriteFault m (Some item) s d rest part ended others few all seen st =
       let n = next_of m s d rest item st.text ended others few all seen st.applied in
@@ -237,10 +237,10 @@ module _ (setting : Setting) (served : ServedAreSteps (answers setting)) where
       let n = next_of m s st.0.after rest item st.0.text ended others few all seen st.0.accepted in
       (st.1, inr (n.step, n.next, begun_by n.step item n.item_is st.0.after n.state_is st.0.state))
     where
-      begun_by : (step : Step) (item : List ℕ) → item ≡ frame_of step → (after : RunState) → after ≡ (answers setting s step).0
-          → (d ≡ after) ⊎ Fails setting s item d → (d ≡ (answers setting s step).0) ⊎ Fails setting s (frame_of step) d
+      begun_by : (step : Step) (item : List ℕ) → item ≡ frame_of step → (after : RunState) → after ≡ (answers setting m s step).0
+          → (d ≡ after) ⊎ Fails setting m s item d → (d ≡ (answers setting m s step).0) ⊎ Fails setting m s (frame_of step) d
       begun_by step item i after e (inl h) = inl (h ∙ e)
-      begun_by step item i after e (inr f) = inr (subst (λ (z : List ℕ). Fails setting s z d) i f)
+      begun_by step item i after e (inr f) = inr (subst (λ (z : List ℕ). Fails setting m s z d) i f)
 
   bytes_after : (taken rest : List ℕ) (steps : List Step) → AreFramesOf taken steps rest → AreBytes taken → AreBytes rest
   bytes_after taken rest steps f all =
@@ -266,8 +266,8 @@ module _ (setting : Setting) (served : ServedAreSteps (answers setting)) where
         part = s.part;
         written = r.sink ∙ ap (λ (z : List ℕ). p.written ++ z) (s.parts ∙ ap (λ (z : List ℕ). z ++ s.part) f.text_is);
         last = last;
-        cut = subst (λ (z : RunState). IsCutIn setting stop f.rest z last s.part) f.state_is
-            (cut_in stop m s.begun s.middle last f.rest s.part s.ended s.others_met f.few (bytes_after r.taken f.rest f.steps f.frames all)
-            f.others s.stopped);
+        cut = subst (λ (k : ℕ). IsCutIn setting stop k f.rest (state_past (answers setting) 0 start f.steps) last s.part) (omega (arith, f.number))
+            (subst (λ (z : RunState). IsCutIn setting stop m f.rest z last s.part) f.state_is (cut_in stop m s.begun s.middle last f.rest s.part s.ended s.others_met f.few (bytes_after r.taken f.rest f.steps f.frames all)
+            f.others s.stopped));
         closed = e;
       }

@@ -3,7 +3,6 @@ use Rattle.std.specs.Prelude.{◌≡◌, ◌⊎◌, ℕ, ◌+◌, ◌<◌, Bool,
 use Rattle.pam_base.specs.Code.{number_of}
 use Rattle.pam_base.specs.declared.call.AppCall.TheVariants.{End}
 use Rattle.pam_base.specs.declared.call.Step.{Step}
-use Rattle.pam_wire.specs.Frame.{IsFrame}
 use Rattle.pam_wire.specs.Stream.{AreFramesOf}
 use Rattle.record_reader.specs.declared.ending.Ending.{Ending}
 use Rattle.record_reader.specs.declared.ending.Stop.{Stop}

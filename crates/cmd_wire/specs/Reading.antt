@@ -16,7 +16,7 @@ use Rattle.cmd_run.specs.Reading.{AnyState, nowhere}
 -- ---- all frames, for calls that do nothing and a sink to which nothing is written
 
 abbrev pub call_read : CallStep (Unit {0})
-call_read done step = (tt, [])
+call_read n done step = (tt, [])
 
 abbrev pub ReadsAll : Result (Ending FrameFault) Stop → ℕ → SourceState → SourceState → Type 0
 ReadsAll result m x y = Runs looked (step_at call_read) AnyState result m tt tt x y nowhere nowhere

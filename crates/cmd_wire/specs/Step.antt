@@ -10,17 +10,17 @@ use Rattle.cmd_run.specs.script_lang.specs.declared.line.Line.{Line}
 use Rattle.cmd_run.specs.script_lang.specs.declared.line.Line.TheVariants as lines
 use Rattle.pam_wire.specs.Frame.{answer_of}
 use Rattle.pam_wire.specs.Read.{step_of}
-use Rattle.cmd_run.specs.State.{Setting, RunState}
+use Rattle.cmd_run.specs.State.{RunState, Setting, kept_at}
 use Rattle.cmd_run.specs.Step.{CallFails, called}
 
 -- a state, and its report as an answer
 abbrev pub answered : RunState × List ℕ → RunState × List ℕ
 answered c = (c.0, answer_of c.1)
 
--- the state after a call, and its answer
+-- the state after a call that follows n others, and its answer; the clock is set before it
 unfoldable pub answers : Setting → CallStep RunState
-answers setting s step =
-    answered (called setting step (stepped setting.players setting.delay s.slots s.world step))
+answers setting n s step = let now = kept_at setting n s in
+    answered (called setting step (stepped setting.players setting.delay now.slots now.world step))
 
 -- what a frame asks for that follows n others
 abbrev pub framed : Option Step → Result Line FrameFault
@@ -34,8 +34,9 @@ frame_asked n frame = if nat_le 65536 n then Err TooManyFrames else framed (step
 abbrev pub frame_step : Setting → ItemStep RunState FrameFault
 frame_step setting = step_at (answers setting)
 
--- the states that a frame may leave if its call runs out of memory
-pub record Fails (setting : Setting) (s : RunState) (frame : List ℕ) (t : RunState) : Type 0 where
+-- the states that a frame after n others may leave if its call runs out of memory
+pub record Fails (setting : Setting) (n : ℕ) (s : RunState) (frame : List ℕ) (t : RunState) : Type
+    0 where
   pub step : Step
   pub asked : step_of frame ≡ Some step
-  pub fails : CallFails setting step s t
+  pub fails : CallFails setting step (kept_at setting n s) t

@@ -63,22 +63,22 @@ module _ (setting : Setting) where
     pub source : x.left ≡ taken ++ y.left
     pub spelled : SpellsTo ending taken y.left
     pub last : RunState
-    pub last_is : last ≡ state_past (answers setting) start spelled.steps
+    pub last_is : last ≡ state_past (answers setting) 0 start spelled.steps
     pub written : q.written ≡ p.written
-        ++ (answers_to (answers setting) start spelled.steps
+        ++ (answers_to (answers setting) 0 start spelled.steps
         ++ closings_text (closings setting.players (ending_status ending) last))
     pub closed : end ≡ all_closed setting.players (ending_status ending) last
 
-  -- At most the next step was begun. A write failed in its answer; or an allocation failed, before its call, in it, or
+  -- At most the next step, after n others, was begun. A write failed in its answer; or an allocation failed, before its call, in it, or
   -- for its answer.
-  abbrev pub IsCutIn : Stop → List ℕ → RunState → RunState → List ℕ → Type 0
-  IsCutIn WriteFault rest s t part =
-      (step : Step) × IsNextStep rest step × (t ≡ (answers setting s step).0) × (more : List ℕ)
-      × ((answers setting s step).1 ≡ part ++ more)
-  IsCutIn NoMemory rest s t part =
+  abbrev pub IsCutIn : Stop → ℕ → List ℕ → RunState → RunState → List ℕ → Type 0
+  IsCutIn WriteFault n rest s t part =
+      (step : Step) × IsNextStep rest step × (t ≡ (answers setting n s step).0) × (more : List ℕ)
+      × ((answers setting n s step).1 ≡ part ++ more)
+  IsCutIn NoMemory n rest s t part =
       (part ≡ [])
       × ((t ≡ s) ⊎ ((step : Step) × IsNextStep rest step
-      × ((t ≡ (answers setting s step).0) ⊎ Fails setting s (frame_of step) t)))
+      × ((t ≡ (answers setting n s step).0) ⊎ Fails setting n s (frame_of step) t)))
 
   -- It stopped among its frames: these steps are answered whole, the next one not, and all
   -- transactions are ended. Nothing is written after that.
@@ -91,9 +91,9 @@ module _ (setting : Setting) where
     pub frames : AreFramesOf taken steps rest
     pub few : length steps ≤ 65536
     pub part : List ℕ
-    pub written : q.written ≡ p.written ++ (answers_to (answers setting) start steps ++ part)
+    pub written : q.written ≡ p.written ++ (answers_to (answers setting) 0 start steps ++ part)
     pub last : RunState
-    pub cut : IsCutIn stop rest (state_past (answers setting) start steps) last part
+    pub cut : IsCutIn stop (length steps) rest (state_past (answers setting) 0 start steps) last part
     pub closed : end ≡ all_closed setting.players (stop_status stop) last
 
   -- It stopped after them: all steps are answered, and some implicit ends, up to one whose answer isn't whole; the
@@ -105,13 +105,13 @@ module _ (setting : Setting) where
     pub ending : Ending FrameFault
     pub spelled : SpellsTo ending taken y.left
     pub last : RunState
-    pub last_is : last ≡ state_past (answers setting) start spelled.steps
+    pub last_is : last ≡ state_past (answers setting) 0 start spelled.steps
     pub whole : List Closing
     pub others : List Closing
     pub among : closings setting.players (ending_status ending) last ≡ whole ++ others
     pub part : List ℕ
     pub written : q.written ≡ p.written
-        ++ (answers_to (answers setting) start spelled.steps ++ (closings_text whole ++ part))
+        ++ (answers_to (answers setting) 0 start spelled.steps ++ (closings_text whole ++ part))
     pub middle : RunState
     pub cut : ClosesTo setting.players (ending_status ending) (Err stop)
         last middle whole others part

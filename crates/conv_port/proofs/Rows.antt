@@ -13,8 +13,8 @@ abbrev ready : List Offer → ConvState
 ready offers = record { offers = offers; waits = false; handed = [] }
 
 -- the same, after one exchange
-abbrev past_end : List Message → ConvState → ConvState
-past_end messages s = record s { handed = messages ∷ [] }
+abbrev handed_on : List Message → ConvState → ConvState
+handed_on messages s = record s { handed = messages ∷ [] }
 
 abbrev waiting : List Offer → ConvState
 waiting offers = record { offers = offers; waits = true; handed = [] }
@@ -36,35 +36,35 @@ a_text = record { style = TextInfo; text = codes "hi" } ∷ []
 replies_in_order : answer_to (ready (Answer (codes "joe") ∷ Answer (codes "x") ∷ Later ∷ [])) two_prompts ≡ Ok (a_reply [] ∷ a_reply (codes "joe") ∷ a_reply (codes "x") ∷ [])
 replies_in_order = refl
 
-mark_stays_after : state_after (ready (Answer (codes "joe") ∷ Answer (codes "x") ∷ Later ∷ [])) two_prompts ≡ past_end two_prompts (ready (Later ∷ []))
+mark_stays_after : state_after (ready (Answer (codes "joe") ∷ Answer (codes "x") ∷ Later ∷ [])) two_prompts ≡ handed_on two_prompts (ready (Later ∷ []))
 mark_stays_after = refl
 
 -- a mark after too few replies ends the exchange, and no reply is taken
 too_few : answer_to (ready (Answer (codes "joe") ∷ Later ∷ Answer (codes "x") ∷ [])) two_prompts ≡ Err Gone
 too_few = refl
 
-none_taken : state_after (ready (Answer (codes "joe") ∷ Later ∷ Answer (codes "x") ∷ [])) two_prompts ≡ past_end two_prompts (ready (Answer (codes "joe") ∷ Later ∷ Answer (codes "x") ∷ []))
+none_taken : state_after (ready (Answer (codes "joe") ∷ Later ∷ Answer (codes "x") ∷ [])) two_prompts ≡ handed_on two_prompts (ready (Answer (codes "joe") ∷ Later ∷ Answer (codes "x") ∷ []))
 none_taken = refl
 
 -- a mark at the beginning makes it incomplete, and is taken
 put_off : answer_to (ready (Later ∷ Answer (codes "joe") ∷ [])) two_prompts ≡ Err Again
 put_off = refl
 
-mark_taken : state_after (ready (Later ∷ Answer (codes "joe") ∷ [])) two_prompts ≡ past_end two_prompts (ready (Answer (codes "joe") ∷ []))
+mark_taken : state_after (ready (Later ∷ Answer (codes "joe") ∷ [])) two_prompts ≡ handed_on two_prompts (ready (Answer (codes "joe") ∷ []))
 mark_taken = refl
 
 -- without a prompt a mark stays
 no_prompt : answer_to (ready (Later ∷ [])) a_text ≡ Ok (a_reply [] ∷ [])
 no_prompt = refl
 
-mark_untouched : state_after (ready (Later ∷ [])) a_text ≡ past_end a_text (ready (Later ∷ []))
+mark_untouched : state_after (ready (Later ∷ [])) a_text ≡ handed_on a_text (ready (Later ∷ []))
 mark_untouched = refl
 
 -- a conversation that waits returns Again if a reply is missing, and keeps its replies
 waits : answer_to (waiting (Answer (codes "joe") ∷ [])) two_prompts ≡ Err Again
 waits = refl
 
-keeps : state_after (waiting (Answer (codes "joe") ∷ [])) two_prompts ≡ past_end two_prompts (waiting (Answer (codes "joe") ∷ []))
+keeps : state_after (waiting (Answer (codes "joe") ∷ [])) two_prompts ≡ handed_on two_prompts (waiting (Answer (codes "joe") ∷ []))
 keeps = refl
 
 -- six bytes are a mark, and only for a conversation that doesn't wait

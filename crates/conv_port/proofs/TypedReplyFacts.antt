@@ -10,8 +10,8 @@ use Rattle.conv_port.specs.Terminal.{is_newline, IsLine, TypesLine}
 abbrev line : ℕ → List ℕ → List ℕ
 line n bytes = before_first is_newline (take n bytes)
 
-abbrev past_end : ℕ → List ℕ → List ℕ
-past_end n bytes = after_first is_newline (take n bytes) ++ drop n bytes
+abbrev rest_after : ℕ → List ℕ → List ℕ
+rest_after n bytes = after_first is_newline (take n bytes) ++ drop n bytes
 
 neither : (a b : Bool) → (a || b) ≡ false → (a ≡ false) × (b ≡ false)
 neither true b e = absurd cc
@@ -26,7 +26,7 @@ after-cons b xs e = rw e (let one : 1 + position_or_len is_newline xs + 1 ≡ su
 -- a text is the first line of some bytes, and others follow it
 record IsCut (n : ℕ) (bytes text left : List ℕ) : Type 0 where
   line_is : line n bytes ≡ text
-  past_is : past_end n bytes ≡ left
+  past_is : rest_after n bytes ≡ left
 
 one_more : (n b : ℕ) (bytes text left : List ℕ) → is_newline b ≡ false → IsCut n bytes text left → IsCut (suc n) (b ∷ bytes) (b ∷ text) left
 one_more n b bytes text left e c = record {

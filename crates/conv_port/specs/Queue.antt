@@ -25,13 +25,13 @@ abbrev pub AreShort : List Offer → Type 0
 AreShort offers = AllByRecursion IsShort offers
 
 -- the offers that aren't taken yet, and the exchanges that were passed to it, in order
-pub record Held : Type 0 where
+pub record PlainQueue : Type 0 where
   pub offers : List Offer
   pub handed : List (List Message)
 
 -- One exchange: if there are enough replies, each prompt takes one, in order; if not, none is
 -- taken. The messages were passed to it.
-abbrev pub Exchanges : Option (List Reply) → List Message → Held → Held → Type 0
+abbrev pub Exchanges : Option (List Reply) → List Message → PlainQueue → PlainQueue → Type 0
 Exchanges (Some replies) messages old new =
     (nat_le (prompt_count messages) (length (ready_replies old.offers)) ≡ true)
     × (replies ≡ replies_from (ready_replies old.offers) messages)

@@ -23,9 +23,9 @@ pub(crate) struct Queue {
 
 impl Model for Queue {
     ghost use Rattle.std.specs.Prelude.{map};
-    ghost use Rattle.conv_port.specs.Queue.{Held, AreShort};
+    ghost use Rattle.conv_port.specs.Queue.{PlainQueue, AreShort};
 
-    ghost Value = { Held };
+    ghost Value = { PlainQueue };
 
     ghost view = { λ q. record {
       offers = q.offers.items;

@@ -1,9 +1,7 @@
-ghost use Rattle.std.specs.Prelude.{◌≡◌, ◌≢◌, ◌≤◌, [], ◌∷◌, false, length, IsTrue, IfOk, OnOk, Err, IsOk, MatchOption};
+ghost use Rattle.std.specs.Prelude.{◌≡◌, ◌≢◌, ◌≤◌, [], ◌∷◌, false, length, IfOk, OnOk, Err, IsOk, MatchOption};
 ghost use Rattle.std.specs.Io.KnownBytes.{Appends, Consumes, IsAtEnd};
-ghost use Rattle.pam_base.specs.Counts.{Rose, next_count};
-ghost use Rattle.pam_base.specs.Style.{is_prompt};
-ghost use Rattle.conv_port.specs.Message.{AreReplies, HasPrompt, IsExchange, IsReply};
-ghost use Rattle.conv_port.specs.Conv.{Answers, TakesOffer};
+ghost use Rattle.pam_base.specs.Counts.{next_count};
+ghost use Rattle.conv_port.specs.Message.{AreReplies, IsExchange, IsReply};
 ghost use Rattle.conv_port.specs.Terminal.{Types, TypesLine, all_shown, shown};
 
 use crate::conv::{Conv, ConvFault};
@@ -62,28 +60,8 @@ impl<R: Read + Drop, W: Write + Drop> Conv for TermConv<R, W> {
     fn talk(&mut self, alloc: Global, messages: &Messages) -> Result<Replies, ConvFault>
         requires { IsExchange messages.now }
         ensures replies { IfOk result (λ replies. AreReplies messages.now replies) }
-        ensures tells { ⟦<TermConv<R, W> as Conv>⟧.conv_tells self.new
-            ≡ ⟦<TermConv<R, W> as Conv>⟧.conv_tells self.old }
-        ensures told { IsTrue (⟦<TermConv<R, W> as Conv>⟧.conv_tells self.old) →
-            Answers result messages.now (⟦<TermConv<R, W> as Conv>⟧.conv_holds self.old)
-            (⟦<TermConv<R, W> as Conv>⟧.conv_holds self.new) }
-        ensures faults { ⟦<TermConv<R, W> as Conv>⟧.conv_faults self.old
-            ≤ ⟦<TermConv<R, W> as Conv>⟧.conv_faults self.new }
-        ensures gone { result ≡ Err ConvFault.Gone →
-            Rose (⟦<TermConv<R, W> as Conv>⟧.conv_faults self.old)
-            (⟦<TermConv<R, W> as Conv>⟧.conv_faults self.new) }
-        ensures no_fault { result ≢ Err ConvFault.Gone →
-            ⟦<TermConv<R, W> as Conv>⟧.conv_faults self.new
-            ≡ ⟦<TermConv<R, W> as Conv>⟧.conv_faults self.old }
-        ensures deferrals { ⟦<TermConv<R, W> as Conv>⟧.conv_deferrals self.old
-            ≤ ⟦<TermConv<R, W> as Conv>⟧.conv_deferrals self.new }
-        ensures again { result ≡ Err ConvFault.Again →
-            Rose (⟦<TermConv<R, W> as Conv>⟧.conv_deferrals self.old)
-            (⟦<TermConv<R, W> as Conv>⟧.conv_deferrals self.new) }
-        ensures prompt { result ≡ Err ConvFault.Again → HasPrompt messages.now }
-        ensures no_deferral { result ≢ Err ConvFault.Again →
-            ⟦<TermConv<R, W> as Conv>⟧.conv_deferrals self.new
-            ≡ ⟦<TermConv<R, W> as Conv>⟧.conv_deferrals self.old }
+        ensures faults { self.old.faults ≤ self.new.faults }
+        ensures no_fault { result ≢ Err ConvFault.Gone → self.new.faults ≡ self.old.faults }
         ensures never_again { result ≢ Err ConvFault.Again }
         ensures one_fault { result ≡ Err ConvFault.Gone →
             self.new.faults ≡ next_count self.old.faults }
@@ -102,15 +80,6 @@ impl<R: Read + Drop, W: Write + Drop> Conv for TermConv<R, W> {
     /// Nothing is stored: a terminal's replies are typed.
     fn offer(&mut self, _alloc: Global, _text: &[u8]) -> Result<(), NoMemory>
         requires { length _text.now ≤ MAX_TEXT }
-        ensures tells { ⟦<TermConv<R, W> as Conv>⟧.conv_tells self.new
-            ≡ ⟦<TermConv<R, W> as Conv>⟧.conv_tells self.old }
-        ensures told { IsTrue (⟦<TermConv<R, W> as Conv>⟧.conv_tells self.old) →
-            TakesOffer result _text.now (⟦<TermConv<R, W> as Conv>⟧.conv_holds self.old)
-            (⟦<TermConv<R, W> as Conv>⟧.conv_holds self.new) }
-        ensures faults { ⟦<TermConv<R, W> as Conv>⟧.conv_faults self.new
-            ≡ ⟦<TermConv<R, W> as Conv>⟧.conv_faults self.old }
-        ensures deferrals { ⟦<TermConv<R, W> as Conv>⟧.conv_deferrals self.new
-            ≡ ⟦<TermConv<R, W> as Conv>⟧.conv_deferrals self.old }
         ensures nothing { self.new ≡ self.old }
         ensures ok { IsOk result }
     {

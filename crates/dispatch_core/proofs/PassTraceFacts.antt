@@ -25,7 +25,7 @@ use Rattle.dispatch_core.specs.EntryStates.{entry_at}
 use Rattle.dispatch_core.specs.Failing.{GoesBy, IsAsked, Takes, visited_at}
 use Rattle.dispatch_core.specs.AnswersSoFar.{AnswersView}
 use Rattle.dispatch_core.specs.Index.{walk_on}
-use Rattle.dispatch_core.specs.Passes.{Keeps, KeepsAfter, KeepsAll, LeavesAs, WalksAs, answer_in, code_by, cached_after, paused_by}
+use Rattle.dispatch_core.specs.Passes.{Keeps, KeepsAfter, KeepsAll, LeavesAs, WalksAs, answer_in, code_by, cells_after, paused_by}
 use Rattle.dispatch_core.specs.Trail.{ByTrail, seen_in, seen_of}
 use Rattle.dispatch_core.proofs.LastTurnFacts.{walks_off, walks_to}
 use Rattle.dispatch_core.proofs.LineTurnFacts.{put_off}
@@ -176,13 +176,13 @@ on_if : (b : Bool) (code x : Code) → Some code ≡ (if b then None else Some x
 on_if true code x e = (cc)
 on_if false code x e = (refl, cc)
 
-kept_so : (kind : PassKind) (visits : List Visit) (cells old new : Answers) → new ≡ cached_after kind true cells old → (kind ≡ kinds.Keep → KeepsAll cells visits) → KeepsAfter kind visits old new
+kept_so : (kind : PassKind) (visits : List Visit) (cells old new : Answers) → new ≡ cells_after kind true cells old → (kind ≡ kinds.Keep → KeepsAll cells visits) → KeepsAfter kind visits old new
 kept_so kinds.Keep visits cells old new is all = subst (λ (k : Answers). KeepsAll k visits) (sym is) (all refl)
 kept_so kinds.Follow visits cells old new is all = is
 kept_so kinds.Loose visits cells old new is all = is
 
 leaves_as : {T : Type 0} (kind : PassKind) (w : Walked (PassState T)) (end : Option Code) (cells old new : Answers) (view : AnswersView) (paused : Option (List Code)) (t : T)
-    → new ≡ cached_after kind true cells old → paused ≡ paused_by (Ok end) view.taken → (kind ≡ kinds.Keep → is_some cells ≡ true) → WalksAs w end cells view t → LeavesAs kind w old (answer_in end) new paused t
+    → new ≡ cells_after kind true cells old → paused ≡ paused_by (Ok end) view.taken → (kind ≡ kinds.Keep → is_some cells ≡ true) → WalksAs w end cells view t → LeavesAs kind w old (answer_in end) new paused t
 leaves_as kind w None cells old new view paused t keeps at held walks =
     let stops : w.stopped ≡ true = off_if w.stopped (verdict w.opinion) walks.end_is in
     record {
@@ -204,13 +204,13 @@ leaves_as kind w (Some code) cells old new view paused t keeps at held walks =
 -- with
 module _ (kind : PassKind) (cells old new : Answers) (view : AnswersView) (paused : Option (List Code)) (held : kind ≡ kinds.Keep → is_some cells ≡ true) where
   pub pass_leaves : {T : Type 0} (w : Walked (PassState T)) (t : T) (ended : Result (Option Code) NoMemory) (result : Result Code NoMemory)
-      → result ≡ code_by ended → new ≡ cached_after kind (is_ok ended) cells old → paused ≡ paused_by ended view.taken
+      → result ≡ code_by ended → new ≡ cells_after kind (is_ok ended) cells old → paused ≡ paused_by ended view.taken
       → IfOk ended (λ end. WalksAs w end cells view t) → IfOk result (λ code. LeavesAs kind w old code new paused t)
   pass_leaves {T} w t (Err e) result is keeps at walks = subst (λ (r : Result Code NoMemory). IfOk r (λ code. LeavesAs kind w old code new paused t)) (sym is) tt
   pass_leaves {T} w t (Ok end) result is keeps at walks = subst (λ (r : Result Code NoMemory). IfOk r (λ code. LeavesAs kind w old code new paused t)) (sym is) (leaves_as kind w end cells old new view paused t keeps at held walks)
 
   pub pass_traced : (kept : KeptAnswers) (stack : Stack) (given past : List Code) (start before after : List Visited) (ended : Result (Option Code) NoMemory) (result : Result Code NoMemory)
-      → result ≡ code_by ended → new ≡ cached_after kind (is_ok ended) cells old → paused ≡ paused_by ended view.taken → given ≡ past → start ≡ before
+      → result ≡ code_by ended → new ≡ cells_after kind (is_ok ended) cells old → paused ≡ paused_by ended view.taken → given ≡ past → start ≡ before
       → IfOk ended (λ end. ByTrail kind kept stack given start after (λ w told. WalksAs w end cells view told))
       → IfOk result (λ code. ByTrail kind kept stack past before after (λ w told. LeavesAs kind w old code new paused told))
   pass_traced kept stack given past start before after (Err e) result is keeps at all first b =

@@ -13,6 +13,8 @@ use Rattle.handler_chain.specs.Walk.{Walked, code_of}
 use Rattle.handler_chain.specs.Route.{KeptAnswers}
 use Rattle.handler_chain.specs.Pass.{PassState, Visit, Answering, kept_in, pass_after}
 use Rattle.service_load.specs.Stacks.{Stacks}
+use Rattle.service_load.specs.declared.rule_type.RuleType.{RuleType}
+use Rattle.service_load.specs.declared.rule_type.RuleType.TheVariants.{Auth, Account, Password, Session}
 use Rattle.dispatch_core.specs.Passes.{paused_after}
 use Rattle.dispatch_core.specs.Pending.{Pending, pending_after, past_in, first_in}
 
@@ -32,6 +34,50 @@ abbrev pub following : Option KeptAnswers → PassKind
 following None = kinds.Loose
 following (Some kept) = kinds.Follow
 
+-- ---- the stack, the cached codes and the kind of a pass, by the call
+
+-- the type of the stack that a call runs
+abbrev pub stack_type : Func → RuleType
+stack_type Authenticate = Auth
+stack_type SetCred = Auth
+stack_type AcctMgmt = Account
+stack_type OpenSession = Session
+stack_type CloseSession = Session
+stack_type ChAuthTok = Password
+
+-- the stack of a type
+abbrev pub stack_at : Stacks → RuleType → Stack
+stack_at stacks Auth = stacks.auth
+stack_at stacks Account = stacks.account
+stack_at stacks Password = stacks.password
+stack_at stacks Session = stacks.session
+
+-- the cached codes that belong to a call: those of the last authentication, those of the last opened session, or none
+-- of them
+abbrev pub cached_of : {A : Type 0} → Func → A → A → A → A
+cached_of Authenticate authenticated opened others = authenticated
+cached_of SetCred authenticated opened others = authenticated
+cached_of OpenSession authenticated opened others = opened
+cached_of CloseSession authenticated opened others = opened
+cached_of func authenticated opened others = others
+
+-- what is cached, with other codes in their place
+abbrev pub authenticated_with : {A : Type 0} → Func → A → A → A
+authenticated_with Authenticate cached old = cached
+authenticated_with SetCred cached old = cached
+authenticated_with func cached old = old
+
+abbrev pub opened_with : {A : Type 0} → Func → A → A → A
+opened_with OpenSession cached old = cached
+opened_with CloseSession cached old = cached
+opened_with func cached old = old
+
+-- whether the first pass of a call caches its codes, or uses cached ones
+abbrev pub kind_of : Func → Option KeptAnswers → PassKind
+kind_of SetCred cached = following cached
+kind_of CloseSession cached = following cached
+kind_of func cached = kinds.Keep
+
 -- what a transaction holds between its calls: what the last authenticate and the last open_session cached, and the
 -- pending call
 pub record Held : Type 0 where
@@ -45,6 +91,13 @@ held authenticated opened pending = record {
   opened = opened;
   pending = pending;
 }
+
+-- the cached codes and the stack of a call's first pass
+abbrev pub first_kept : Func → Held → Option KeptAnswers
+first_kept func h = cached_of func h.authenticated h.opened None
+
+abbrev pub first_stack : Func → Stacks → Stack
+first_stack func stacks = stack_at stacks (stack_type func)
 
 abbrev pub nothing_held : Held
 nothing_held = held None None None
@@ -68,14 +121,9 @@ passed_by kind kept w = record {
 -- what is held after a pass of a call: what authenticate and open_session cache, and the calls that follow them leave,
 -- and the call, if it is incomplete; `first` is what the first pass of chauthtok cached, if this is its second
 abbrev pub held_past : {State : Type 0} → Func → Option KeptAnswers → Passed State → Held → Held
-held_past Authenticate first p h =
-    held p.kept h.opened (pending_after Authenticate first p.paused)
-held_past SetCred first p h = held p.kept h.opened (pending_after SetCred first p.paused)
-held_past OpenSession first p h =
-    held h.authenticated p.kept (pending_after OpenSession first p.paused)
-held_past CloseSession first p h =
-    held h.authenticated p.kept (pending_after CloseSession first p.paused)
-held_past func first p h = held h.authenticated h.opened (pending_after func first p.paused)
+held_past func first p h =
+    held (authenticated_with func p.kept h.authenticated) (opened_with func p.kept h.opened)
+    (pending_after func first p.paused)
 
 -- the result of a call
 pub record Went (State : Type 0) : Type 0 where
@@ -99,16 +147,9 @@ module _ {State : Type 0} (asking : Asking State) (stacks : Stacks) where
   -- the first pass of a call, after the codes of its earlier calls: over which stack, of which kind, and by which
   -- cached codes
   abbrev pub first_pass : Func → List Code → Held → State → Passed State
-  first_pass Authenticate past h s =
-      passes Authenticate false kinds.Keep h.authenticated stacks.auth past s
-  first_pass SetCred past h s =
-      passes SetCred false (following h.authenticated) h.authenticated stacks.auth past s
-  first_pass AcctMgmt past h s = passes AcctMgmt false kinds.Keep None stacks.account past s
-  first_pass OpenSession past h s =
-      passes OpenSession false kinds.Keep h.opened stacks.session past s
-  first_pass CloseSession past h s =
-      passes CloseSession false (following h.opened) h.opened stacks.session past s
-  first_pass ChAuthTok past h s = passes ChAuthTok false kinds.Keep None stacks.password past s
+  first_pass func past h s =
+      passes func false (kind_of func (first_kept func h)) (first_kept func h)
+      (first_stack func stacks) past s
 
   -- the second pass of chauthtok, which follows the first
   abbrev pub second_pass : Option KeptAnswers → List Code → State → Passed State

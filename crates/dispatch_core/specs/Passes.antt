@@ -86,10 +86,10 @@ kept_failed kinds.Keep old = None
 kept_failed kind old = old
 
 -- what is cached after a pass that has returned a code or not, if `keeps` are its own codes
-abbrev pub cached_after : PassKind → Bool → Answers → Answers → Answers
-cached_after kinds.Keep answered keeps old = if answered then keeps else None
-cached_after kinds.Follow answered keeps old = old
-cached_after kinds.Loose answered keeps old = if answered then None else old
+abbrev pub cells_after : PassKind → Bool → Answers → Answers → Answers
+cells_after kinds.Keep answered keeps old = if answered then keeps else None
+cells_after kinds.Follow answered keeps old = old
+cells_after kinds.Loose answered keeps old = if answered then None else old
 
 -- a code, the cached codes, the codes to resume with and a state are those of a pass
 pub record LeavesAs {State : Type 0} (kind : PassKind) (w : Walked (PassState State))

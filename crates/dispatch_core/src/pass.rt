@@ -7,7 +7,7 @@ ghost use Rattle.dispatch_core.specs.AnyWorld.{PassStays};
 ghost use Rattle.dispatch_core.specs.Done.{ChainStays, IsUntouchedOrStops, PassDone, PassStops};
 ghost use Rattle.dispatch_core.specs.AnswersSoFar.{past_of};
 ghost use Rattle.dispatch_core.specs.Paths.{HasPaths};
-ghost use Rattle.dispatch_core.specs.Passes.{LeavesAs, WalksAs, by_place, code_by, cached_after, kept_failed, paused_by};
+ghost use Rattle.dispatch_core.specs.Passes.{LeavesAs, WalksAs, by_place, code_by, cells_after, kept_failed, paused_by};
 
 use crate::answers_so_far::AnswersSoFar;
 use crate::around::{Pass, PassTold};
@@ -73,7 +73,7 @@ fn walk(
 
 // What stays cached after a pass that has ended, or for which an allocation failed.
 fn keep_answers(kind: PassKind, kept: &mut Kept, keeps: Kept, answered: bool)
-    ensures kept { kept.new ≡ cached_after kind answered keeps kept.old }
+    ensures kept { kept.new ≡ cells_after kind answered keeps kept.old }
     ensures failed { answered ≡ false → kept.new ≡ kept_failed kind kept.old }
 {
     match kind {
@@ -96,7 +96,7 @@ fn end_pass(
     requires paused { paused.old ≡ None }
     requires past { IfOk ended (λ end. IsNone end → answers.past ≡ []) }
     ensures code { result ≡ code_by ended }
-    ensures kept { kept.new ≡ cached_after kind (is_ok ended) keeps kept.old }
+    ensures kept { kept.new ≡ cells_after kind (is_ok ended) keeps kept.old }
     ensures paused { paused.new ≡ paused_by ended answers.taken }
     ensures failed { OnErr result (kept.new ≡ kept_failed kind kept.old) }
     ensures none { OnErr result (paused.new ≡ None) }

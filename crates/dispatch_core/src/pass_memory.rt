@@ -38,8 +38,10 @@ impl PassMemory {
         ensures spare { OnOk result (lines_in chain.now.nodes ≤ room.new.transaction.trail.spare) }
         ensures cells { OnOk result (keeps.new ≡ first_cells kind (lines_in chain.now.nodes)) }
         ensures none { paused.new ≡ None }
-        ensures room { ⟦<Room as RoomTold>⟧.plain room.new ≡ ⟦<Room as RoomTold>⟧.plain room.old }
-        ensures tells { ⟦<Room as RoomTold>⟧.tells room.new ≡ ⟦<Room as RoomTold>⟧.tells room.old }
+        ensures room { let plain_room = ⟦<Room as RoomTold>⟧.plain in
+            plain_room room.new ≡ plain_room room.old }
+        ensures tells { let tells = ⟦<Room as RoomTold>⟧.tells in
+            tells room.new ≡ tells room.old }
         ensures conv { room.new.conv ≡ room.old.conv }
     {
         let answers = AnswersSoFar::resume(alloc, paused, chain.len())?;
@@ -52,8 +54,10 @@ impl PassMemory {
 
 fn reserve_visits(room: &mut Room, lines: usize) -> Result<(), NoMemory>
     ensures spare { OnOk result (lines ≤ room.new.transaction.trail.spare) }
-    ensures room { ⟦<Room as RoomTold>⟧.plain room.new ≡ ⟦<Room as RoomTold>⟧.plain room.old }
-    ensures tells { ⟦<Room as RoomTold>⟧.tells room.new ≡ ⟦<Room as RoomTold>⟧.tells room.old }
+    ensures room { let plain_room = ⟦<Room as RoomTold>⟧.plain in
+        plain_room room.new ≡ plain_room room.old }
+    ensures tells { let tells = ⟦<Room as RoomTold>⟧.tells in
+        tells room.new ≡ tells room.old }
     ensures conv { room.new.conv ≡ room.old.conv }
 {
     room.transaction.trail.reserve(lines)

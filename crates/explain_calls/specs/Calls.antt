@@ -4,16 +4,16 @@ use Rattle.std.specs.Fmt.{decimal}
 use Rattle.pam_base.specs.declared.code.Code.{Code}
 use Rattle.pam_base.specs.declared.code.Code.TheVariants.{Success}
 use Rattle.pam_base.specs.declared.call.Func.{Func}
-use Rattle.pam_base.specs.declared.call.Func.TheVariants.{Authenticate, SetCred, AcctMgmt, OpenSession, CloseSession, ChAuthTok}
+use Rattle.pam_base.specs.declared.call.Func.TheVariants.{ChAuthTok}
 use Rattle.service_load.specs.declared.rule_type.RuleType.{RuleType}
-use Rattle.service_load.specs.declared.rule_type.RuleType.TheVariants.{Auth, Account, Password, Session}
+use Rattle.service_load.specs.declared.rule_type.RuleType.TheVariants.{Password}
 use Rattle.service_load.specs.Stacks.{Stacks}
 use Rattle.control_words.specs.Stack.{Stack}
 use Rattle.handler_chain.specs.declared.pass_kind.PassKind.{PassKind}
-use Rattle.handler_chain.specs.declared.pass_kind.PassKind.TheVariants.{Keep, Follow}
+use Rattle.handler_chain.specs.declared.pass_kind.PassKind.TheVariants.{Follow}
 use Rattle.handler_chain.specs.Retell.{Telling}
 use Rattle.handler_chain.specs.Route.{KeptAnswers}
-use Rattle.pass_replay.specs.dispatch_core.specs.Calls.{Held, answers_held, following, first_pass}
+use Rattle.pass_replay.specs.dispatch_core.specs.Calls.{Held, answers_held, first_kept, first_pass, first_stack, kind_of, stack_type}
 use Rattle.pass_replay.specs.dispatch_core.specs.Pending.{first_in, past_in}
 use Rattle.pass_replay.specs.Replay.{as_told}
 use Rattle.explain_lines.specs.Origins.{Sources, origins_in}
@@ -34,16 +34,9 @@ module _ (stacks : Stacks) (sources : Sources) (number : ℕ) where
 
   -- the first run of a call, as `first_pass` has it
   abbrev pub first_text : Func → List Code → Held → Telling → List ℕ
-  first_text Authenticate past h told =
-      run_text Authenticate Auth stacks.auth Keep h.authenticated past told
-  first_text SetCred past h told =
-      run_text SetCred Auth stacks.auth (following h.authenticated) h.authenticated past told
-  first_text AcctMgmt past h told = run_text AcctMgmt Account stacks.account Keep None past told
-  first_text OpenSession past h told =
-      run_text OpenSession Session stacks.session Keep h.opened past told
-  first_text CloseSession past h told =
-      run_text CloseSession Session stacks.session (following h.opened) h.opened past told
-  first_text ChAuthTok past h told = run_text ChAuthTok Password stacks.password Keep None past told
+  first_text func past h told =
+      run_text func (stack_type func) (first_stack func stacks) (kind_of func (first_kept func h))
+      (first_kept func h) past told
 
   -- the second pass of chauthtok
   abbrev pub second_text : Option KeptAnswers → List Code → Telling → List ℕ

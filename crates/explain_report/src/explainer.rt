@@ -69,17 +69,14 @@ impl Explainer {
             (Some (results number (result_of outcome))) goes_on self.new) }
     {
         let told = std::mem::replace(&mut self.told, Vec::new(alloc));
-        let places = self.places.as_slice();
-        write_block(
-            alloc,
+        let block = Block {
             trees,
             sources,
-            &mut self.text,
-            places,
             number,
-            &told,
+            told: &told,
             outcome,
-        )?;
+        };
+        write_block(alloc, &block, self.places.as_slice(), &mut self.text)?;
         match judge_at(alloc, trees, &mut self.places, number, &told, outcome)? {
             None => Ok(true),
             Some(_) => Ok(false),
@@ -87,50 +84,55 @@ impl Explainer {
     }
 }
 
+/// A block of a report: the number of its transaction, the lines that were run, and the result;
+/// with the stacks, and where their rules are written.
+#[derive(Clone, Copy)]
+pub struct Block<'a> {
+    pub trees: &'a Trees,
+    pub sources: &'a Sources,
+    pub number: u32,
+    pub told: &'a [Option<Seen>],
+    pub outcome: ReportedOutcome,
+}
+
 // Adds the text of a block.
 fn write_block(
     alloc: Global,
-    trees: &Trees,
-    sources: &Sources,
-    text: &mut String,
+    block: &Block,
     places: &[SlotLog],
-    number: u32,
-    told: &[Option<Seen>],
-    outcome: ReportedOutcome,
+    text: &mut String,
 ) -> Result<(), NoMemory>
-    requires bounded { AreBounded trees.now }
+    requires bounded { AreBounded block.now.trees.now }
     ensures { OnOk result (string_bytes text.new ≡ string_bytes text.old
-        ++ block_text (stacks_in trees.now) sources.now number
-        (place_at (map place_of places.now) number) (visits_told (told_in told.now))
-        (result_of outcome)) }
+        ++ block_text (stacks_in block.now.trees.now) block.now.sources.now block.now.number
+        (place_at (map place_of places.now) block.now.number)
+        (visits_told (told_in block.now.told.now)) (result_of block.now.outcome)) }
 {
+    let number = block.number;
     if number == 0 || number as usize > places.len() {
         return Ok(());
     }
     let place = &places[number as usize - 1];
-    write_at(alloc, trees, sources, text, place, number, told, outcome)
+    write_at(alloc, block, place, text)
 }
 
 // Adds the text of a block of a transaction of which this is known.
 fn write_at(
     alloc: Global,
-    trees: &Trees,
-    sources: &Sources,
-    text: &mut String,
+    block: &Block,
     place: &SlotLog,
-    number: u32,
-    told: &[Option<Seen>],
-    outcome: ReportedOutcome,
+    text: &mut String,
 ) -> Result<(), NoMemory>
-    requires bounded { AreBounded trees.now }
+    requires bounded { AreBounded block.now.trees.now }
     ensures { OnOk result (string_bytes text.new ≡ string_bytes text.old
-        ++ block_text (stacks_in trees.now) sources.now number (Some (place_of place.now))
-        (visits_told (told_in told.now)) (result_of outcome)) }
+        ++ block_text (stacks_in block.now.trees.now) block.now.sources.now block.now.number
+        (Some (place_of place.now)) (visits_told (told_in block.now.told.now))
+        (result_of block.now.outcome)) }
 {
     match place {
-        SlotLog::Open(held) => match outcome {
+        SlotLog::Open(held) => match block.outcome {
             ReportedOutcome::Answered(CallName::Run(func), ReportedAnswer::Code(code)) => {
-                write_called(alloc, trees, sources, text, held, number, func, code, told)
+                write_called(alloc, block, held, func, code, text)
             }
             _ => Ok(()),
         },
@@ -141,23 +143,30 @@ fn write_at(
 // Adds the text of a stack call with its code.
 fn write_called(
     alloc: Global,
-    trees: &Trees,
-    sources: &Sources,
-    text: &mut String,
+    block: &Block,
     held: &Held,
-    number: u32,
     func: Func,
     code: Code,
-    told: &[Option<Seen>],
+    text: &mut String,
 ) -> Result<(), NoMemory>
-    requires bounded { AreBounded trees.now }
+    requires bounded { AreBounded block.now.trees.now }
     ensures { OnOk result (string_bytes text.new ≡ string_bytes text.old
-        ++ called_text (stacks_in trees.now) sources.now number func code (held_of held.now)
-        (visits_told (told_in told.now))) }
+        ++ called_text (stacks_in block.now.trees.now) block.now.sources.now block.now.number func
+        code (held_of held.now) (visits_told (told_in block.now.told.now))) }
 {
+    let (number, told) = (block.number, block.told);
     if is_refused_change(func, code, told) {
         write_refused(text, number)
     } else {
-        write_call(alloc, trees, sources, text, number, func, held, told)
+        write_call(
+            alloc,
+            block.trees,
+            block.sources,
+            text,
+            number,
+            func,
+            held,
+            told,
+        )
     }
 }

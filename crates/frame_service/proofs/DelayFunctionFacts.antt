@@ -5,18 +5,22 @@ use Rattle.fail_delay.specs.DelayFn.{IsNumberGiven}
 use Rattle.pam_outside.specs.Streams.{SourceState, SinkState}
 use Rattle.pam_room.specs.Module.{Player}
 use Rattle.cmd_check.specs.pam_library.specs.Slots.{PlainSlot}
-use Rattle.cmd_all.specs.ByCommand.{Around, Object, WiresSo, setup_of}
+use Rattle.cmd_all.specs.ByCommand.{Around, Object, Setup, WiresSo}
 use Rattle.cmd_all.specs.Command.{Command}
+use Rattle.cmd_all.specs.Setup.{Moments}
 use Rattle.frame_service.specs.Service.{served_wait}
 use Rattle.frame_service.specs.Serving.{ServesFrames}
 
 waits : (Post : Code → ℕ → ℕ → Type 0) → IsNumberGiven Post served_wait → (number : Code → ℕ → ℕ) → number ≡ served_wait → IsNumberGiven Post number
 waits Post given number same = subst (IsNumberGiven Post) (sym same) given
 
-module _ (asked : Option Command) (status : ℕ) (players : List Player) (slots : List PlainSlot) (Post : Code → ℕ → ℕ → Type 0) (tells : Bool)
+abbrev setup_by : List Player → List PlainSlot → ((Code → ℕ → ℕ) → Type 0) → Moments → Bool → Setup
+setup_by players slots gives moments tells = record { players = players; slots = slots; gives = gives; moments = moments; tells = tells }
+
+module _ (asked : Option Command) (status : ℕ) (players : List Player) (slots : List PlainSlot) (Post : Code → ℕ → ℕ → Type 0) (moments : Moments) (tells : Bool)
     (world : Around) (input : Object SourceState) (output : Object SinkState) where
-  wires_with : (root : List ℕ) → WiresSo root status (setup_of players slots (IsNumberGiven Post) tells) world input output → IsNumberGiven Post served_wait
-      → WiresSo root status (setup_of players slots (λ number. number ≡ served_wait) tells) world input output
+  wires_with : (root : List ℕ) → WiresSo root status (setup_by players slots (IsNumberGiven Post) moments tells) world input output → IsNumberGiven Post served_wait
+      → WiresSo root status (setup_by players slots (λ number. number ≡ served_wait) moments tells) world input output
   wires_with root wire given = record {
     wire_answered = λ number known. wire.wire_answered number (waits Post given number known);
     wire_told = λ number known. wire.wire_told number (waits Post given number known);
@@ -30,8 +34,8 @@ module _ (asked : Option Command) (status : ℕ) (players : List Player) (slots 
     wire_no_read_fault = wire.wire_no_read_fault;
   }
 
-  pub served_with : ServesFrames asked status (setup_of players slots (IsNumberGiven Post) tells) world input output → IsNumberGiven Post served_wait
-      → ServesFrames asked status (setup_of players slots (λ number. number ≡ served_wait) tells) world input output
+  pub served_with : ServesFrames asked status (setup_by players slots (IsNumberGiven Post) moments tells) world input output → IsNumberGiven Post served_wait
+      → ServesFrames asked status (setup_by players slots (λ number. number ≡ served_wait) moments tells) world input output
   served_with s given = record {
     wire = λ root is. wires_with root (s.wire root is) given;
     command = s.command;
@@ -41,8 +45,8 @@ module _ (asked : Option Command) (status : ℕ) (players : List Player) (slots 
   }
 
   -- the same for modules that are known
-  pub served_as : (others : List Player) → ServesFrames asked status (setup_of players slots (IsNumberGiven Post) tells) world input output
-      → IsNumberGiven Post served_wait → players ≡ others → ServesFrames asked status (setup_of others slots (λ number. number ≡ served_wait) tells) world
+  pub served_as : (others : List Player) → ServesFrames asked status (setup_by players slots (IsNumberGiven Post) moments tells) world input output
+      → IsNumberGiven Post served_wait → players ≡ others → ServesFrames asked status (setup_by others slots (λ number. number ≡ served_wait) moments tells) world
       input output
   served_as others s given same =
-      subst (λ ps. ServesFrames asked status (setup_of ps slots (λ number. number ≡ served_wait) tells) world input output) same (served_with s given)
+      subst (λ ps. ServesFrames asked status (setup_by ps slots (λ number. number ≡ served_wait) moments tells) world input output) same (served_with s given)

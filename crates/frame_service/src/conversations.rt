@@ -14,28 +14,34 @@ pub struct Conversations {
 
 /// What contracts see of `Conversations`.
 pub trait ConversationsTold {
-    ghost use Rattle.std.specs.Prelude.{Bool, List};
-    ghost use Rattle.cmd_check.specs.pam_library.specs.Slots.{PlainSlot};
-
-    /// Whether all conversations of the transactions are modelled, and the time is a script's.
-    ghost tells: { Self → Bool };
+    ghost use Rattle.std.specs.Prelude.{Bool};
+    ghost use Rattle.cmd_all.specs.Setup.{Setup};
 
     /// Whether there is a time of day.
     ghost has_time: { Self → Bool };
 
-    /// The closed slots that they make.
-    ghost slots: { Self → List PlainSlot };
+    /// What a run gets of them, with the shipped modules and the waits of `served_wait`.
+    ghost setup: { Self → Setup };
 }
 
 impl ConversationsTold for Conversations {
-    ghost use Rattle.std.specs.Prelude.{◌&&◌, is_none, is_some, map};
+    ghost use Rattle.std.specs.Prelude.{◌≡◌, ◌&&◌, is_some, map};
     ghost use Rattle.std.specs.List.{list_all};
     ghost use Rattle.cmd_check.specs.pam_library.specs.Slots.{closed};
-
-    ghost tells = { λ c. is_none c.time
-        && list_all (λ b. (Conv-box b).conv_tells b.value) c.convs.items };
+    ghost use Rattle.cmd_all.specs.Setup.{timing_of};
+    ghost use Rattle.shipped_modules.specs.Shipped.{shipped_players};
+    ghost use Rattle.frame_service.specs.Service.{served_wait};
 
     ghost has_time = { λ c. is_some c.time };
 
-    ghost slots = { λ c. map (λ b. closed ((Conv-box b).conv_holds b.value)) c.convs.items };
+    ghost setup = { λ c. record {
+      players = shipped_players;
+      slots = map (λ b. closed ((Conv-box b).conv_holds b.value)) c.convs.items;
+      gives = λ number. number ≡ served_wait;
+      moments = (timing_of (λ b. (TimeOfDay-box b).time_tells b.value) (λ b.
+          (TimeOfDay-box b).time_gives b.value) c.time).moments;
+      tells = (timing_of (λ b. (TimeOfDay-box b).time_tells b.value) (λ b.
+          (TimeOfDay-box b).time_gives b.value) c.time).tells
+          && list_all (λ b. (Conv-box b).conv_tells b.value) c.convs.items;
+    } };
 }

@@ -1,9 +1,8 @@
 ghost use Rattle.std.specs.Prelude.{◌≡◌, ◌≤◌, ◌<◌, ◌^◌, ℕ, [], IfOk, length};
 ghost use Rattle.pam_base.specs.declared.code.Code.{Code};
 ghost use Rattle.fail_delay.specs.DelayFn.{GivesOneNumber};
-ghost use Rattle.cmd_all.specs.ByCommand.{object_of, setup_of};
+ghost use Rattle.cmd_all.specs.ByCommand.{object_of};
 ghost use Rattle.cmd_all.specs.Command.{command_of};
-ghost use Rattle.shipped_modules.specs.Shipped.{shipped_players};
 ghost use Rattle.frame_service.specs.Service.{IsOfFrames, StatusOf, served_wait};
 ghost use Rattle.frame_service.specs.Serving.{ServesFrames};
 
@@ -36,8 +35,7 @@ pub fn serve_frames<S: Source, K: Sink>(
     requires no_receipts { world.old.process.ledger.filed ≡ [] }
     ensures status { IfOk result (λ status. StatusOf (command_of words.now) status) }
     ensures served { IfOk result (λ status. ServesFrames (command_of words.now) status
-        (setup_of shipped_players (⟦<Conversations as ConversationsTold>⟧.slots talks)
-        (λ number. number ≡ served_wait) (⟦<Conversations as ConversationsTold>⟧.tells talks))
+        (⟦<Conversations as ConversationsTold>⟧.setup talks)
         (⟦<Outside as OutsideTold>⟧.around world.old world.new)
         (object_of S.source_tells S.source_holds S.source_faults script.old script.new)
         (object_of K.sink_tells K.sink_holds K.sink_faults out.old out.new)) }

@@ -119,7 +119,7 @@ module _ (settles : FirstFrameSettles) where
 
     pub step-bad : (n : ℕ) (s : State) (frame : List ℕ) → n < 65536 → step_of frame ≡ None → step_at answers n s frame ≡ Err BadFrame
     unfolding step_at
-    step-bad n s frame lt none = rw (lt-leb 65536 n lt) (ap (called answers s) none)
+    step-bad n s frame lt none = rw (lt-leb 65536 n lt) (ap (called answers n s) none)
 
     is_err : (r : Result (State × List ℕ) FrameFault) (k : FrameFault) (x : State × List ℕ) → r ≡ Err k → r ≡ Ok x → ⊥
     is_err r k x e f =

@@ -184,9 +184,9 @@ module _ (settles : FirstFrameSettles) (reads : ReadsTable) (opens : OpensByTabl
     unfolding run_of run_items
     none_run n s bytes ended e = ap (run_items (step_at answers) n s) e
 
-    step-ok : (n : ℕ) (s : State) (frame : List ℕ) (step : Step) → n < 65536 → step_of frame ≡ Some step → step_at answers n s frame ≡ Ok (answers s step)
+    step-ok : (n : ℕ) (s : State) (frame : List ℕ) (step : Step) → n < 65536 → step_of frame ≡ Some step → step_at answers n s frame ≡ Ok (answers n s step)
     unfolding step_at
-    step-ok n s frame step lt e = rw (lt-leb 65536 n lt) (ap (called answers s) e)
+    step-ok n s frame step lt e = rw (lt-leb 65536 n lt) (ap (called answers n s) e)
 
     bad_run : (n : ℕ) (s : State) (rest : List ℕ) (ended : Bool) (size : ℕ) → n < 65536 → first_frame_of rest ≡ Whole size → step_of (take size rest) ≡ None
         → run_of looked (step_at answers) n s rest ended ≡ come_to [] s n (Some BadFrame)
@@ -240,7 +240,7 @@ module _ (settles : FirstFrameSettles) (reads : ReadsTable) (opens : OpensByTabl
         after_run n s rest ended fault all (subst (λ (j : ℕ). IsPast j rest ended fault) e h) ∙ ap (λ (j : ℕ). come_to [] s j fault) (sym e)
 
     run_steps : (steps : List Step) (n : ℕ) (s : State) (bytes : List ℕ) (ended : Bool) (rest : List ℕ) (fault : Option FrameFault) → AreBytes bytes → SpellsFrom n bytes ended steps rest fault
-        → run_of looked (step_at answers) n s bytes ended ≡ come_to (answers_to answers s steps) (state_past answers s steps) (n + length steps) fault
+        → run_of looked (step_at answers) n s bytes ended ≡ come_to (answers_to answers n s steps) (state_past answers n s steps) (n + length steps) fault
     run_steps [] n s bytes ended rest fault all sp =
         ap (λ (z : List ℕ). run_of looked (step_at answers) n s z ended) sp.frames.parts
         ∙ last_run n (n + length {A = Step} []) s rest ended fault (omega arith) (All-same (λ b. b < 256) rest bytes (sym sp.frames.parts) all) sp.past_end
@@ -250,14 +250,14 @@ module _ (settles : FirstFrameSettles) (reads : ReadsTable) (opens : OpensByTabl
         let has : has_frame step ≡ true = sp.frames.framed.0 in
         let lt : n < 65536 = omega (arith, sp.few) in
         let seen : looked n bytes ended ≡ frame_of step ∷ looked (n + 1) more ended = ap (λ (z : List ℕ). looked n z ended) parts ∙ first settles reads n step more ended lt has in
-        let ok : step_at answers n s (frame_of step) ≡ Ok (answers s step) = step-ok n s (frame_of step) step lt ((reads (frame_of step) step).0 (record { within = has; bytes_are = refl })) in
+        let ok : step_at answers n s (frame_of step) ≡ Ok (answers n s step) = step-ok n s (frame_of step) step lt ((reads (frame_of step) step).0 (record { within = has; bytes_are = refl })) in
         let k : n + length (step ∷ steps) ≡ (n + 1) + length steps = omega arith in
-        let next = run_steps steps (n + 1) (answers s step).0 more ended rest fault (bytes_after bytes step more parts all)
+        let next = run_steps steps (n + 1) (answers n s step).0 more ended rest fault (bytes_after bytes step more parts all)
         (record { frames = record { framed = sp.frames.framed.1; parts = refl }; few = omega (arith, sp.few); past_end = subst (λ (j : ℕ). IsPast j rest ended fault) k sp.past_end }) in
         whole_run settles answers n s bytes (frame_of step) more ended seen
         ∙ ap (λ (r : Result (State × List ℕ) FrameFault). after n s r (λ d. run_of looked (step_at answers) (n + 1) d more ended)) ok
-        ∙ ap (with_text (answers s step).1) next
-        ∙ ap (λ (j : ℕ). come_to (answers_to answers s (step ∷ steps)) (state_past answers s (step ∷ steps)) j fault) (sym k)
+        ∙ ap (with_text (answers n s step).1) next
+        ∙ ap (λ (j : ℕ). come_to (answers_to answers n s (step ∷ steps)) (state_past answers n s (step ∷ steps)) j fault) (sym k)
 
     pub run_is_of_steps : RunIsOfSteps answers
     run_is_of_steps = λ n s bytes ended steps rest fault all sp. run_steps steps n s bytes ended rest fault all sp
@@ -269,9 +269,9 @@ module _ (settles : FirstFrameSettles) (reads : ReadsTable) (opens : OpensByTabl
       few : n < 65536
       step : Step
       read : step_of item ≡ Some step
-      does : x ≡ answers s step
+      does : x ≡ answers n s step
 
-    accepted_call : (n : ℕ) (s : State) (item : List ℕ) (x : State × List ℕ) (o : Option Step) → n < 65536 → step_of item ≡ o → called answers s o ≡ Ok x → IsAccepted n s item x
+    accepted_call : (n : ℕ) (s : State) (item : List ℕ) (x : State × List ℕ) (o : Option Step) → n < 65536 → step_of item ≡ o → called answers n s o ≡ Ok x → IsAccepted n s item x
     accepted_call n s item x None lt e ok = absurd cc
     accepted_call n s item x (Some step) lt e ok = record { few = lt; step = step; read = e; does = cc }
 
@@ -324,8 +324,8 @@ module _ (settles : FirstFrameSettles) (reads : ReadsTable) (opens : OpensByTabl
         ap (λ (x : State). come_to r.text x r.items r.refused) a ∙ ap (λ (x : ℕ). come_to r.text t x r.refused) b ∙ ap (λ (x : Option FrameFault). come_to r.text t m x) c
 
     -- the first one, and those after it
-    front_more : (n m : ℕ) (s t : State) (bytes item : List ℕ) (ended : Bool) (step : Step) (more : List ℕ) (items past_end : List (List ℕ)) (text others : List ℕ) → item ≡ frame_of step → IsCut bytes step more → text ≡ (answers s step).1 ++ others
-        → PrefixIsOfSteps answers (n + 1) m (answers s step).0 t more ended items past_end others → PrefixIsOfSteps answers n m s t bytes ended (item ∷ items) past_end text
+    front_more : (n m : ℕ) (s t : State) (bytes item : List ℕ) (ended : Bool) (step : Step) (more : List ℕ) (items past_end : List (List ℕ)) (text others : List ℕ) → item ≡ frame_of step → IsCut bytes step more → text ≡ (answers n s step).1 ++ others
+        → PrefixIsOfSteps answers (n + 1) m (answers n s step).0 t more ended items past_end others → PrefixIsOfSteps answers n m s t bytes ended (item ∷ items) past_end text
     front_more n m s t bytes item ended step more items past_end text others i c e f = record {
       steps = step ∷ f.steps;
       rest = f.rest;
@@ -337,7 +337,7 @@ module _ (settles : FirstFrameSettles) (reads : ReadsTable) (opens : OpensByTabl
       number = omega (arith, f.number);
       few = f.few;
       others = f.others;
-      text_is = e ∙ ap (λ (z : List ℕ). (answers s step).1 ++ z) f.text_is;
+      text_is = e ∙ ap (λ (z : List ℕ). (answers n s step).1 ++ z) f.text_is;
       state_is = f.state_is;
     }
 
@@ -358,9 +358,9 @@ module _ (settles : FirstFrameSettles) (reads : ReadsTable) (opens : OpensByTabl
         let run : r ≡ come_to r.text t m None =
         rebuilt r t m (ap (λ (z : Run State FrameFault). z.last) e) (ap (λ (z : Run State FrameFault). z.items) e) (ap (λ (z : Run State FrameFault). z.refused) e) in
         let is_text : text ≡ x.1 ++ r.text = sym (ap (λ (z : Run State FrameFault). z.text) e) in
-        let does : x ≡ answers s a.step = a.does in
+        let does : x ≡ answers n s a.step = a.does in
         front_more n m s t bytes item ended a.step f.more items past_end text r.text f.item_is f.cut (is_text ∙ ap (λ (z : State × List ℕ). z.1 ++ r.text) does)
-        (next (n + 1) m (answers s a.step).0 t f.more ended past_end r.text (omega (arith, a.few)) (bytes_after bytes a.step f.more f.cut.parts all) f.seen
+        (next (n + 1) m (answers n s a.step).0 t f.more ended past_end r.text (omega (arith, a.few)) (bytes_after bytes a.step f.more f.cut.parts all) f.seen
         (ap (λ (z : State × List ℕ). run_items (step_at answers) (n + 1) z.0 items) (sym does) ∙ run))
 
     served_all : (items : List (List ℕ)) → Served items

@@ -33,7 +33,7 @@ module _ {State : Type 0} (answers : CallStep State) where
       (rest : List ℕ) (fault : Option FrameFault) → AreBytes bytes
       → SpellsFrom n bytes ended steps rest fault
       → run_of looked (step_at answers) n s bytes ended
-      ≡ come_to (answers_to answers s steps) (state_past answers s steps) (n + length steps) fault
+      ≡ come_to (answers_to answers n s steps) (state_past answers n s steps) (n + length steps) fault
 
   -- some bytes begin with some frames; they are those of steps, which have this result
   pub record PrefixIsOfSteps (n m : ℕ) (s t : State) (bytes : List ℕ) (ended : Bool)
@@ -45,8 +45,8 @@ module _ {State : Type 0} (answers : CallStep State) where
     pub number : m ≡ n + length steps
     pub few : m ≤ 65536
     pub others : looked m rest ended ≡ past_end
-    pub text_is : text ≡ answers_to answers s steps
-    pub state_is : t ≡ state_past answers s steps
+    pub text_is : text ≡ answers_to answers n s steps
+    pub state_is : t ≡ state_past answers n s steps
 
   -- items at the beginning of what is read that were not refused are the frames of steps
   abbrev pub ServedAreSteps : Type 0

@@ -29,12 +29,13 @@ pub record SpellsFrom (n : ℕ) (bytes : List ℕ) (ended : Bool) (steps : List 
 abbrev pub Spells : List ℕ → Bool → List Step → List ℕ → Option FrameFault → Type 0
 Spells bytes ended steps rest fault = SpellsFrom 0 bytes ended steps rest fault
 
--- what is written for steps, one answer after the other, and the state after them
+-- what is written for steps that n others come before, one answer after the other, and the state after them
 module _ {State : Type 0} (answers : CallStep State) where
-  abbrev pub answers_to : State → List Step → List ℕ
-  answers_to s [] = []
-  answers_to s (step ∷ steps) = (answers s step).1 ++ answers_to (answers s step).0 steps
+  abbrev pub answers_to : ℕ → State → List Step → List ℕ
+  answers_to n s [] = []
+  answers_to n s (step ∷ steps) =
+      (answers n s step).1 ++ answers_to (n + 1) (answers n s step).0 steps
 
-  abbrev pub state_past : State → List Step → State
-  state_past s [] = s
-  state_past s (step ∷ steps) = state_past (answers s step).0 steps
+  abbrev pub state_past : ℕ → State → List Step → State
+  state_past n s [] = s
+  state_past n s (step ∷ steps) = state_past (n + 1) (answers n s step).0 steps

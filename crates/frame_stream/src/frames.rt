@@ -16,11 +16,11 @@ pub trait CallStepping {
     /// What a call changes.
     ghost State: { Type 0 };
 
-    /// The state after a call, and the answer that is written for it.
-    ghost answers: { Setting → State → Step → State × List ℕ };
+    /// The state after a call that follows n others, and the answer that is written for it.
+    ghost answers: { Setting → ℕ → State → Step → State × List ℕ };
 
-    /// The states that a frame may leave if its call runs out of memory.
-    ghost fails: { Setting → State → List ℕ → State → Type 0 };
+    /// The states that a frame after n others may leave if its call runs out of memory.
+    ghost fails: { Setting → ℕ → State → List ℕ → State → Type 0 };
 }
 
 /// The stream of the frames of such calls.

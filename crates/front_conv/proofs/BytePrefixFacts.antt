@@ -1,5 +1,5 @@
 -- Where it becomes known what some bytes begin with.
-use Rattle.std.proofs.Common.{◌≡◌, ◌⊎◌, ℕ, List, [], ◌∷◌, ◌++◌}
+use Rattle.std.proofs.Common.{◌≡◌, ℕ, List, [], ◌∷◌, ◌++◌}
 use Rattle.pam_wire.specs.declared.prefix.FirstFrame.TheVariants.{Open}
 use Rattle.pam_wire.specs.Read.{first_frame_of}
 

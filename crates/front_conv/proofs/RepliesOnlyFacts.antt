@@ -1,23 +1,19 @@
 -- An exchange with a front end that sends nothing but replies.
-use Rattle.std.proofs.Common.{◌≡◌, ◌≢◌, ℕ, ◌+◌, ◌<◌, ◌≤◌, Bool, true, false, ◌&&◌, leb, map, drop, Option, option_map, Some, None, is_some, Result, Ok, Err, List, [], ◌∷◌, ◌++◌, length, refl, sym, ap, ◌∙◌, append_assoc, length-append, arith}
+use Rattle.std.proofs.Common.{◌≡◌, ◌≢◌, ℕ, ◌<◌, Bool, true, false, ◌&&◌, map, drop, Option, option_map, Some, None, is_some, Result, Ok, Err, List, [], ◌∷◌, ◌++◌, length, refl, sym, ap, ◌∙◌, append_assoc, length-append, arith}
 use Rattle.std.proofs.lemmas.Bool.{eqb-true, le-leb, lt-leb}
 use Rattle.std.proofs.lemmas.List.{append-nil, map-append}
 use Rattle.std.specs.Bool.{IsTrue, ◌==◌}
-use Rattle.std.specs.Io.KnownBytes.{Consumes, IsAtEnd}
-use Rattle.conv_port.specs.declared.conv.ConvFault.{ConvFault}
+use Rattle.std.specs.Io.KnownBytes.{Consumes}
 use Rattle.conv_port.specs.declared.conv.ConvFault.TheVariants as faults
 use Rattle.conv_port.specs.declared.message.Message.{Message}
 use Rattle.conv_port.specs.declared.message.Reply.{Reply}
-use Rattle.conv_port.specs.declared.offer.Offer.{Offer}
 use Rattle.conv_port.specs.declared.offer.Offer.TheVariants.{Answer}
 use Rattle.conv_port.specs.Conv.{ConvState, answer_to, has_replies, ready_replies, replies_from, state_after}
 use Rattle.conv_port.specs.Message.{AreReplies, IsReply, prompt_count}
 use Rattle.pam_base.specs.Style.{is_prompt}
-use Rattle.pam_wire.specs.declared.prefix.FirstFrame.TheVariants.{Open}
-use Rattle.pam_wire.specs.Read.{first_frame_of, step_of}
 use Rattle.front_conv.specs.declared.cause.Cause.{Cause}
 use Rattle.front_conv.specs.declared.cause.Cause.TheVariants as causes
-use Rattle.front_conv.specs.Front.{BreaksOff, IsOdd, Takes, TakesAll, TakesOne, declining, deferring, reply_in, texts_of}
+use Rattle.front_conv.specs.Front.{BreaksOff, IsOdd, Takes, TakesAll, TakesOne, declining, deferring, texts_of}
 use Rattle.front_conv.specs.Spelled.{IsKept, IsSteady, is_modelled, source_of, loses_replies, only_from, only_in, texts_from, texts_in}
 use Rattle.front_conv.proofs.ReplyBytesFacts.{first_only, only_taken, open_on, texts_taken}
 

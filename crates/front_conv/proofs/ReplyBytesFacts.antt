@@ -1,5 +1,5 @@
 -- The replies in bytes that begin with frames of replies.
-use Rattle.std.proofs.Common.{◌≡◌, ◌≢◌, ℕ, Bool, true, false, ◌&&◌, Option, Some, None, is_some, List, [], ◌∷◌, ◌++◌, length, refl, sym, ap, ◌∙◌, append_assoc}
+use Rattle.std.proofs.Common.{◌≡◌, ◌≢◌, ℕ, true, false, ◌&&◌, Option, Some, None, is_some, List, [], ◌∷◌, ◌++◌, refl, sym, ap, ◌∙◌, append_assoc}
 use Rattle.std.proofs.lemmas.List.{append-nil}
 use Rattle.std.specs.Io.KnownBytes.{Consumes}
 use Rattle.pam_wire.specs.declared.prefix.FirstFrame.{FirstFrame}
@@ -7,8 +7,8 @@ use Rattle.pam_wire.specs.declared.prefix.FirstFrame.TheVariants.{Open, OutOfRan
 use Rattle.pam_wire.specs.Laws.{Settles}
 use Rattle.pam_wire.specs.Read.{first_frame_of, step_of}
 use Rattle.pam_wire.proofs.BytePrefixFacts.{first_frame_settles}
-use Rattle.front_conv.specs.Front.{AreReplyFrames, IsFirst, IsReplyFrame, is_open, open_by, reply_in}
-use Rattle.front_conv.specs.Spelled.{past_end, only_from, only_in, texts_from, texts_in}
+use Rattle.front_conv.specs.Front.{AreReplyFrames, IsFirst, is_open, open_by, reply_in}
+use Rattle.front_conv.specs.Spelled.{reply_then, only_from, only_in, texts_from, texts_in}
 
 -- the beginning of what is incomplete is incomplete
 out_of_range : (f : FirstFrame) → f ≡ Open → f ≡ OutOfRange → ⊥
@@ -47,10 +47,10 @@ only_on part (b ∷ bs) rest e =
 
 -- it is known what comes first
 texts_step : (front : List ℕ) (last : ℕ) (bytes rest : List ℕ) → bytes ≡ front ++ last ∷ [] → open_by (first_frame_of bytes) ≡ false
-    → texts_from front (last ∷ rest) ≡ past_end (reply_in (step_of bytes)) (texts_from [] rest)
+    → texts_from front (last ∷ rest) ≡ reply_then (reply_in (step_of bytes)) (texts_from [] rest)
 texts_step front last bytes rest is shuts =
     let shut : open_by (first_frame_of (front ++ last ∷ [])) ≡ false = ap (λ b. open_by (first_frame_of b)) (sym is) ∙ shuts in
-    rw shut (ap (λ b. past_end (reply_in (step_of b)) (texts_from [] rest)) (sym is))
+    rw shut (ap (λ b. reply_then (reply_in (step_of b)) (texts_from [] rest)) (sym is))
 
 only_step : (front : List ℕ) (last : ℕ) (bytes rest : List ℕ) → bytes ≡ front ++ last ∷ [] → open_by (first_frame_of bytes) ≡ false
     → only_from front (last ∷ rest) ≡ (is_some (reply_in (step_of bytes)) && only_from [] rest)
@@ -61,7 +61,7 @@ only_step front last bytes rest is shuts =
 in_parts : (bytes rest : List ℕ) (f : IsFirst bytes) → bytes ++ rest ≡ f.front ++ f.last ∷ rest
 in_parts bytes rest f = ap (λ b. b ++ rest) f.parts ∙ append_assoc f.front (f.last ∷ []) rest
 
-pub first_on : (bytes rest : List ℕ) → IsFirst bytes → texts_from [] (bytes ++ rest) ≡ past_end (reply_in (step_of bytes)) (texts_from [] rest)
+pub first_on : (bytes rest : List ℕ) → IsFirst bytes → texts_from [] (bytes ++ rest) ≡ reply_then (reply_in (step_of bytes)) (texts_from [] rest)
 first_on bytes rest f = ap (texts_from []) (in_parts bytes rest f) ∙ (open_on [] f.front (f.last ∷ rest) f.incomplete
     ∙ texts_step f.front f.last bytes rest f.parts (closed _ f.known))
 
@@ -75,7 +75,7 @@ all_on [] frames rest are = ap (λ f. texts_from [] (f ++ rest)) are
 all_on (t ∷ ts) frames rest are =
     let parts : frames ++ rest ≡ are.0 ++ (are.1 ++ rest) = ap (λ f. f ++ rest) are.2 ∙ append_assoc are.0 are.1 rest in
     ap (texts_from []) parts ∙ (first_on are.0 (are.1 ++ rest) are.3.first
-    ∙ (ap (λ r. past_end r (texts_from [] (are.1 ++ rest))) are.3.reply_is ∙ ap (λ ys. t ∷ ys) (all_on ts are.1 rest are.4)))
+    ∙ (ap (λ r. reply_then r (texts_from [] (are.1 ++ rest))) are.3.reply_is ∙ ap (λ ys. t ∷ ys) (all_on ts are.1 rest are.4)))
 
 pub all_only : (texts : List (List ℕ)) (frames rest : List ℕ) → AreReplyFrames texts frames → only_from [] (frames ++ rest) ≡ only_from [] rest
 all_only [] frames rest are = ap (λ f. only_from [] (f ++ rest)) are

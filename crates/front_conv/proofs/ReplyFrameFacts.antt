@@ -1,5 +1,5 @@
 -- The messages of an exchange have their replies, one after another, each prompt's from a frame.
-use Rattle.std.proofs.Common.{◌≡◌, ℕ, ◌+◌, ◌<◌, ◌≤◌, Bool, true, false, Option, Some, None, Result, Ok, Err, List, [], ◌∷◌, ◌++◌, length, refl, sym, subst, ap, ◌∙◌, append_assoc, length-append, arith}
+use Rattle.std.proofs.Common.{◌≡◌, ℕ, ◌+◌, Bool, true, false, Option, Result, Ok, Err, List, [], ◌∷◌, ◌++◌, length, refl, sym, subst, ap, ◌∙◌, append_assoc, length-append, arith}
 use Rattle.std.specs.Io.KnownBytes.{Consumes}
 use Rattle.std.proofs.KnownBytes.{Consumes-nil, Consumes-trans}
 use Rattle.std.proofs.lemmas.List.{append-nil}
@@ -9,7 +9,7 @@ use Rattle.pam_base.specs.Style.{is_prompt}
 use Rattle.conv_port.specs.Message.{AreReplies, IsReply, prompt_count}
 use Rattle.front_conv.specs.declared.cause.Cause.{Cause}
 use Rattle.front_conv.specs.declared.cause.Cause.TheVariants as causes
-use Rattle.front_conv.specs.Front.{AreReplyFrames, BreaksOff, IsReplyFrame, Takes, TakesAll, TakesFor, TakesOne, TakesSome, texts_of}
+use Rattle.front_conv.specs.Front.{AreReplyFrames, BreaksOff, IsReplyFrame, Takes, TakesAll, TakesFor, TakesOne, texts_of}
 
 -- some messages have their replies, and their frames were taken
 pub record IsCollecting (messages rest : List Message) (done : List Reply) (from now : Option (List ℕ)) : Type 0 where

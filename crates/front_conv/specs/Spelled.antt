@@ -1,5 +1,5 @@
 -- What a conversation holds with a modelled front end, which sends nothing but replies (this project's own).
-use Rattle.std.specs.Prelude.{◌≡◌, ◌≢◌, ℕ, Bool, true, false, ◌&&◌, if◌then◌else◌, is_some, map, Option, Some, None, Result, Ok, Err, List, [], ◌∷◌, ◌++◌, IsTrue}
+use Rattle.std.specs.Prelude.{◌≢◌, ℕ, Bool, true, false, ◌&&◌, if◌then◌else◌, is_some, map, Option, Some, None, Result, Ok, Err, List, [], ◌∷◌, ◌++◌, IsTrue}
 use Rattle.conv_port.specs.declared.conv.ConvFault.{ConvFault}
 use Rattle.conv_port.specs.declared.message.Reply.{Reply}
 use Rattle.conv_port.specs.declared.offer.Offer.TheVariants.{Answer}
@@ -11,15 +11,16 @@ use Rattle.front_conv.specs.Front.{FrontState, fault_of, is_open, reply_in}
 
 -- ---- the replies in some bytes, the first bytes of a frame being taken already
 
-abbrev pub past_end : Option (List ℕ) → List (List ℕ) → List (List ℕ)
-past_end None texts = []
-past_end (Some text) texts = text ∷ texts
+-- a reply and the texts after it; none if there is no reply
+abbrev pub reply_then : Option (List ℕ) → List (List ℕ) → List (List ℕ)
+reply_then None texts = []
+reply_then (Some text) texts = text ∷ texts
 
 -- their texts, up to a frame that isn't one
 abbrev pub texts_from : List ℕ → List ℕ → List (List ℕ)
 texts_from part [] = []
 texts_from part (b ∷ bs) = if is_open (part ++ b ∷ []) then texts_from (part ++ b ∷ []) bs
-    else past_end (reply_in (step_of (part ++ b ∷ []))) (texts_from [] bs)
+    else reply_then (reply_in (step_of (part ++ b ∷ []))) (texts_from [] bs)
 
 -- whether there is nothing else, but perhaps the beginning of a frame at the end
 abbrev pub only_from : List ℕ → List ℕ → Bool

@@ -1,5 +1,5 @@
 ghost use Rattle.std.specs.Prelude.{◌≡◌, ◌≢◌, ◌≤◌, [], length, IsTrue, IfOk, None, Err};
-ghost use Rattle.pam_base.specs.Counts.{Rose, next_count};
+ghost use Rattle.pam_base.specs.Counts.{next_count};
 ghost use Rattle.conv_port.specs.declared.conv.ConvFault.{ConvFault};
 ghost use Rattle.conv_port.specs.Message.{AreReplies, HasPrompt, IsExchange};
 ghost use Rattle.conv_port.specs.Conv.{Answers, TakesOffer};
@@ -152,28 +152,15 @@ impl<F: FrontEnd> Conv for FrontConv<F> {
     fn talk(&mut self, alloc: Global, messages: &Messages) -> Result<Replies, ConvFault>
         requires { IsExchange messages.now }
         ensures replies { IfOk result (λ replies. AreReplies messages.now replies) }
-        ensures tells { ⟦<FrontConv<F> as Conv>⟧.conv_tells self.new
-            ≡ ⟦<FrontConv<F> as Conv>⟧.conv_tells self.old }
-        ensures told { IsTrue (⟦<FrontConv<F> as Conv>⟧.conv_tells self.old) →
-            Answers result messages.now (⟦<FrontConv<F> as Conv>⟧.conv_holds self.old)
-            (⟦<FrontConv<F> as Conv>⟧.conv_holds self.new) }
-        ensures faults { ⟦<FrontConv<F> as Conv>⟧.conv_faults self.old
-            ≤ ⟦<FrontConv<F> as Conv>⟧.conv_faults self.new }
-        ensures gone { result ≡ Err ConvFault.Gone →
-            Rose (⟦<FrontConv<F> as Conv>⟧.conv_faults self.old)
-            (⟦<FrontConv<F> as Conv>⟧.conv_faults self.new) }
-        ensures no_fault { result ≢ Err ConvFault.Gone →
-            ⟦<FrontConv<F> as Conv>⟧.conv_faults self.new
-            ≡ ⟦<FrontConv<F> as Conv>⟧.conv_faults self.old }
-        ensures deferrals { ⟦<FrontConv<F> as Conv>⟧.conv_deferrals self.old
-            ≤ ⟦<FrontConv<F> as Conv>⟧.conv_deferrals self.new }
-        ensures again { result ≡ Err ConvFault.Again →
-            Rose (⟦<FrontConv<F> as Conv>⟧.conv_deferrals self.old)
-            (⟦<FrontConv<F> as Conv>⟧.conv_deferrals self.new) }
+        ensures begun { self.new.begun ≡ self.old.begun }
+        ensures told { IsTrue (is_modelled F.front_tells F.incoming self.old.begun) →
+            Answers result messages.now (held F.incoming self.old) (held F.incoming self.new) }
+        ensures faults { self.old.faults ≤ self.new.faults }
+        ensures no_fault { result ≢ Err ConvFault.Gone → self.new.faults ≡ self.old.faults }
+        ensures deferrals { self.old.deferrals ≤ self.new.deferrals }
         ensures prompt { result ≡ Err ConvFault.Again → HasPrompt messages.now }
         ensures no_deferral { result ≢ Err ConvFault.Again →
-            ⟦<FrontConv<F> as Conv>⟧.conv_deferrals self.new
-            ≡ ⟦<FrontConv<F> as Conv>⟧.conv_deferrals self.old }
+            self.new.deferrals ≡ self.old.deferrals }
         ensures one_fault { result ≡ Err ConvFault.Gone →
             self.new.faults ≡ next_count self.old.faults }
         ensures one_deferral { result ≡ Err ConvFault.Again →
@@ -205,15 +192,8 @@ impl<F: FrontEnd> Conv for FrontConv<F> {
     /// A front end replies only when it is asked, so the text is no reply to a later exchange.
     fn offer(&mut self, alloc: Global, text: &[u8]) -> Result<(), NoMemory>
         requires { length text.now ≤ MAX_TEXT }
-        ensures tells { ⟦<FrontConv<F> as Conv>⟧.conv_tells self.new
-            ≡ ⟦<FrontConv<F> as Conv>⟧.conv_tells self.old }
-        ensures told { IsTrue (⟦<FrontConv<F> as Conv>⟧.conv_tells self.old) →
-            TakesOffer result text.now (⟦<FrontConv<F> as Conv>⟧.conv_holds self.old)
-            (⟦<FrontConv<F> as Conv>⟧.conv_holds self.new) }
-        ensures faults { ⟦<FrontConv<F> as Conv>⟧.conv_faults self.new
-            ≡ ⟦<FrontConv<F> as Conv>⟧.conv_faults self.old }
-        ensures deferrals { ⟦<FrontConv<F> as Conv>⟧.conv_deferrals self.new
-            ≡ ⟦<FrontConv<F> as Conv>⟧.conv_deferrals self.old }
+        ensures told { IsTrue (is_modelled F.front_tells F.incoming self.old.begun) →
+            TakesOffer result text.now (held F.incoming self.old) (held F.incoming self.new) }
         ensures nothing { self.new ≡ record self.old { offered = self.new.offered } }
     {
         let copy = Text::from_bytes(alloc, text)?;

@@ -40,7 +40,7 @@ use Rattle.item_store.specs.declared.access.Access.TheVariants.{ApplicationSets,
 use Rattle.pam_base.specs.declared.call.Func.{Func}
 use Rattle.pam_base.specs.declared.call.Func.TheVariants as funcs
 use Rattle.pam_base.specs.declared.call.AppCall.TheVariants as calls
-use Rattle.cmd_run.specs.State.{Setting, RunState}
+use Rattle.cmd_run.specs.State.{RunState, Setting, kept_at}
 use Rattle.cmd_run.specs.Step.{line_step}
 use Rattle.cmd_run.specs.Closings.{world_after}
 use Rattle.report_lines.specs.Line.{Told, told_visit, Shown, Command, Block, AreBytes, IsLong, byte_of, bytes_of, long_of, IsSeen, IsTold}
@@ -255,7 +255,7 @@ module _ (setting : Setting) where
   formed_if false blocks all = all
 
   line_formed : (n : ℕ) (s : RunState) (line : List ℕ) → AreBlocksBut (line_blocks setting n s line)
-  line_formed n s line = formed_if (nat_le 65536 n) _ (formed_if (nat_lt 513 (length line)) _ (asked_formed s line (parsed line) refl))
+  line_formed n s line = formed_if (nat_le 65536 n) _ (formed_if (nat_lt 513 (length line)) _ (asked_formed (kept_at setting n s) line (parsed line) refl))
 
   on_formed : (x : Result (RunState × List ℕ) ScriptKind) (rest : RunState → List Block) → ((t : RunState) → AreBlocksBut (rest t))
       → AreBlocksBut (blocks_on setting x rest)

@@ -4,17 +4,16 @@ use Rattle.pam_base.specs.declared.code.Code.TheVariants as returns
 use Rattle.pam_room.specs.Call.{PlainCall, value_among}
 use Rattle.pam_room.specs.env_list.specs.Environment.{Variable}
 use Rattle.mod_unix.specs.module_acts.specs.account_db.specs.declared.passwd.Passwd.{Passwd}
-use Rattle.mod_unix.specs.module_acts.specs.declared.content.Content.{Content}
-use Rattle.mod_unix.specs.module_acts.specs.Act.{Act, answers, in_room}
+use Rattle.mod_unix.specs.module_acts.specs.Act.{Act, answers}
 use Rattle.mod_env.specs.declared.conf.EnvLine.{EnvLine}
 use Rattle.mod_env.specs.declared.expand.Expansion.{Expansion}
 use Rattle.mod_env.specs.declared.expand.Expansion.TheVariants.{TooLong, Puts}
 use Rattle.mod_env.specs.Conf.{conf_of}
 use Rattle.mod_env.specs.EnvFile.{assignments_of}
-use Rattle.mod_env.specs.Expand.{Sources, asks_account, expansion_of}
+use Rattle.mod_env.specs.Expand.{asks_account, expansion_of}
 use Rattle.mod_env.specs.Env.{at_once, sets_if_well_formed, puts_expansion, after_conf, puts_if_all_fit, sets_by_texts, finds_entry}
-use Rattle.mod_env.specs.Env.{entry_in, env_act, env_limit, is_zero, looks_if, put_in, puts_all, puts_env, reads_first, reads_second}
-use Rattle.mod_env.specs.Env.{sees_env, sees_sources, sets_all, sets_by, sets_variable, text_in}
+use Rattle.mod_env.specs.Env.{entry_in, env_act, env_limit, is_zero, looks_if, puts_all, puts_env, reads_first, reads_second}
+use Rattle.mod_env.specs.Env.{sees_env, sets_all, sets_by, sets_variable, text_in}
 use Rattle.laws_audit.proofs.Steps.{Leaves, answering, finding, reading, seeing_items, unless}
 
 module _ (path : List ℕ) where

@@ -1,5 +1,5 @@
 -- The lines of pam_faillock among those that a run runs.
-use Rattle.std.proofs.Common.{◌≡◌, ◌≢◌, ◌⊎◌, inl, inr, ◌<◌, ◌^◌, ℕ, List, [], ◌∷◌, map, Option, Some, None, unwrap_or, slice_get, refl, ap, ◌∙◌, sym, subst}
+use Rattle.std.proofs.Common.{◌≡◌, ◌≢◌, ◌⊎◌, inl, inr, ◌<◌, ◌^◌, ℕ, List, [], ◌∷◌, map, Option, Some, None, unwrap_or, refl, ap, ◌∙◌, sym, subst}
 use Rattle.std.specs.List.{AllByRecursion}
 use Rattle.pam_room.specs.item_store.specs.Items.{ItemTexts}
 use Rattle.pam_outside.specs.Files.{File, file_at}
@@ -8,7 +8,7 @@ use Rattle.pam_room.specs.Module.{NamedData, Player, Plays, SeenRoom, Sight}
 use Rattle.handler_chain.specs.FlatLines.{number_of_name}
 use Rattle.control_words.specs.Module.{name_of_module}
 use Rattle.dispatch_core.specs.Lines.{names_of}
-use Rattle.pam_library.specs.Plays.{Asked, AskedLine, LineLeads, LinesLead, answer_of, module_of_path, player_numbered}
+use Rattle.pam_library.specs.Plays.{ModuleGets, AskedLine, LineLeads, LinesLead, answer_of, module_of_path, player_numbered}
 use Rattle.mod_tally.specs.Faillock.{faillock_plays, new_failure}
 use Rattle.mod_tally.specs.declared.tally.Failure.{Failure}
 use Rattle.mod_tally.specs.Tally.{IsFailure}
@@ -35,7 +35,7 @@ module _ (path : List ℕ) (players : List Player) (alone : FaillockAloneWrites 
   by_number (Some n) p e = alone n p e
 
   -- what a call records can be written, with its interval
-  recorded_with : (interval : ℕ) (a : Asked) (deed : Deed) → Does path a.call a.sight (faillock_plays a.call a.room a.held a.sight) deed → CanRecord interval a
+  recorded_with : (interval : ℕ) (a : ModuleGets) (deed : Deed) → Does path a.call a.sight (faillock_plays a.call a.room a.held a.sight) deed → CanRecord interval a
       → IsWith interval deed
   recorded_with interval a left d can = tt
   recorded_with interval a (recorded i failure) d can =
@@ -82,12 +82,12 @@ module _ (path : List ℕ) (players : List Player) (alone : FaillockAloneWrites 
       → ((files : List File) → LinesLead players files rest last → Led (file_at path files) rest (file_at path last))
       → Led (file_at path before) (a ∷ rest) (file_at path last)
   by_plays p a rest before last e (inl same) v more =
-      let got : Asked = a.asked in
+      let got : ModuleGets = a.asked in
       counts p a rest before (file_at path last) e same v.0
       (subst (λ (plays : Plays). a.visit.answer ≡ answer_of (plays got.call got.room got.held got.sight)) same v.1)
       (subst (λ (plays : Plays). Led (file_at path (plays got.call got.room got.held got.sight).files) rest (file_at path last)) same (more _ v.2))
   by_plays p a rest before last e (inr leaves) v more =
-      let got : Asked = a.asked in
+      let got : ModuleGets = a.asked in
       passes a rest (file_at path before) (file_at path (p.plays got.call got.room got.held got.sight).files) (file_at path last)
       (subst (λ (o : Option Player). LeavesFileIf path o) (sym e) leaves) (leaves got.call got.room got.held got.sight ∙ ap (file_at path) v.0) (more _ v.2)
 

@@ -1,6 +1,6 @@
 -- pam_wheel(8) and pam_securetty(8) leave each file as it was, and pam_pwhistory(8) each file
 -- except its history.
-use Rattle.std.proofs.Common.{◌≡◌, ℕ, Bool, true, false, ◌==◌, List, [], ◌∷◌, length, nat_le, Option, Some, None, codes}
+use Rattle.std.proofs.Common.{◌≡◌, ℕ, Bool, true, false, ◌==◌, List, length, nat_le, Option, Some, None, codes}
 use Rattle.pam_base.specs.declared.code.Code.{Code}
 use Rattle.pam_base.specs.declared.code.Code.TheVariants as returns
 use Rattle.pam_base.specs.declared.item.ItemName.TheVariants.{AuthTok}

@@ -2,10 +2,8 @@
 use Rattle.std.proofs.Common.{◌≡◌, ℕ, zero, suc, ◌+◌, ◌-◌, ◌<◌, ◌≤◌, Bool, true, false, ◌==◌, ◌&&◌, cond, nat_le, nat_lt, List, [], ◌∷◌}
 use Rattle.std.proofs.Common.{◌++◌, map, codes, Option, Some, None, Result, Ok, Err, refl, sym, ◌∙◌, subst, arith}
 use Rattle.std.proofs.lemmas.Bool.Decides.{nat_tests}
-use Rattle.std.specs.List.{AllByRecursion, cons_option, filter_map, flat_map, list_all}
-use Rattle.std.specs.Result.{is_ok, result_ok}
-use Rattle.pam_base.specs.declared.fault.FaultKind.{FaultKind}
-use Rattle.pam_base.specs.declared.fault.FaultKind.TheVariants.{TooManyLines}
+use Rattle.std.specs.List.{AllByRecursion, flat_map}
+use Rattle.std.specs.Result.{is_ok}
 use Rattle.pam_outside.specs.Counts.{fails_next}
 use Rattle.control_words.specs.conf_lex.specs.declared.token.RawRule.{RawRule}
 use Rattle.control_words.specs.Stack as stack
@@ -16,11 +14,11 @@ use Rattle.control_words.specs.declared.bracket.ControlFault.{ControlFault}
 use Rattle.control_words.specs.declared.control.Action.{Action}
 use Rattle.control_words.specs.conf_lex.specs.declared.token.Token.{Token}
 use Rattle.laws_audit.proofs.ModuleNameFacts.{OnGood, good_if, kept_good}
-use Rattle.service_load.specs.Files.{Held, absent, faulty, holds, all_fine, entries_of, held, is_absent, is_in_directory, plain_file, rules_held}
-use Rattle.service_load.specs.FirstFault.{Counts, Stop, absent_file, asked, past_end, checked_rule, going_on, held_file, look, opened, stop}
-use Rattle.service_load.specs.Order.{Item, Opener, as_last, as_other, as_service, begin, by_rule, checked, content_items, entry_items}
-use Rattle.service_load.specs.Order.{file_items, items, items_of, made, opening, other_opener, tree_items, trees_items}
-use Rattle.service_load.specs.Tree.{content_nodes, entry_nodes, nodes, nodes_of, serves, tree_from, tree_of}
+use Rattle.service_load.specs.Files.{Held, absent, faulty, holds, all_fine, entries_of, held, is_in_directory, plain_file, rules_held}
+use Rattle.service_load.specs.FirstFault.{Counts, Stop, absent_file, asked, past_end, checked_rule, going_on, held_file, look}
+use Rattle.service_load.specs.Order.{Item, Opener, as_last, as_other, as_service, by_rule, checked, content_items, entry_items}
+use Rattle.service_load.specs.Order.{file_items, items, items_of, made, opening, other_opener, tree_items}
+use Rattle.service_load.specs.Tree.{content_nodes, entry_nodes, nodes, nodes_of, serves, tree_from}
 use Rattle.service_load.specs.RuleType.{is_word, type_field_of}
 use Rattle.service_load.specs.declared.rule_type.RuleType.{RuleType}
 

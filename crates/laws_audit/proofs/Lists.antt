@@ -5,20 +5,17 @@ use Rattle.pam_base.specs.declared.code.Code.TheVariants as returns
 use Rattle.pam_base.specs.declared.item.ItemName.TheVariants as names
 use Rattle.pam_base.specs.declared.style.Style.TheVariants.{ErrorMsg, TextInfo}
 use Rattle.pam_room.specs.Call.{PlainCall, value_among}
-use Rattle.pam_room.specs.item_store.specs.Items.{ItemTexts, text_of}
+use Rattle.pam_room.specs.item_store.specs.Items.{text_of}
 use Rattle.std.specs.Str.{bytes_eq}
 use Rattle.mod_unix.specs.module_acts.specs.account_db.specs.declared.passwd.Passwd.{Passwd}
-use Rattle.mod_unix.specs.module_acts.specs.account_db.specs.declared.group.Group.{Group as Entry}
 use Rattle.mod_unix.specs.module_acts.specs.account_db.specs.Passwd.{entry_of}
 use Rattle.mod_unix.specs.module_acts.specs.declared.content.Content.{Content}
 use Rattle.mod_unix.specs.module_acts.specs.declared.content.Content.TheVariants.{Absent, Unreadable, Holds}
 use Rattle.mod_unix.specs.module_acts.specs.Accounts.{Account, account_limit, found, missing, unreadable}
-use Rattle.mod_unix.specs.module_acts.specs.Act.{Act, answers, asks_user, finds_account, reads_file}
+use Rattle.mod_unix.specs.module_acts.specs.Act.{Act, answers, finds_account}
 use Rattle.mod_unix.specs.module_acts.specs.Uncheck.{code_unchecked}
-use Rattle.mod_lists.specs.declared.condition.AccountField.{AccountField}
 use Rattle.mod_lists.specs.declared.condition.Field.{Field}
 use Rattle.mod_lists.specs.declared.condition.Field.TheVariants as fields
-use Rattle.mod_lists.specs.declared.condition.ItemField.{ItemField}
 use Rattle.mod_lists.specs.declared.list_scope.Applies.{Applies}
 use Rattle.mod_lists.specs.declared.list_scope.Applies.TheVariants.{Yes, No, Unknown}
 use Rattle.mod_lists.specs.declared.list_settings.ListItem.{ListItem}
@@ -28,7 +25,7 @@ use Rattle.mod_lists.specs.declared.list_values.Values.TheVariants as values
 use Rattle.mod_lists.specs.declared.truth.Truth.{Truth}
 use Rattle.mod_lists.specs.declared.truth.Truth.TheVariants as truths
 use Rattle.mod_lists.specs.Nologin.{notice_for_account as notice_account, after_notice, admits_root_only, checks_notice, nologin_act}
-use Rattle.mod_lists.specs.Nologin.{notice_limit, or_etc, plain_answer, reads_notice, reads_usual}
+use Rattle.mod_lists.specs.Nologin.{notice_limit, or_etc, plain_answer, reads_notice}
 use Rattle.mod_lists.specs.ListSettings.{PlainApply, PlainSettings, apply_of, everyone, members, one, settings_of}
 use Rattle.mod_lists.specs.Listfile.{applies, at_once as listfile_at_once, reads_group_values as values_account, if_applies, file_verdict}
 use Rattle.mod_lists.specs.Listfile.{applies_in_groups as applies_groups, applies_after_passwds as applies_passwds, checks_list}

@@ -1,15 +1,14 @@
 -- The names of the modules of a stack that is loaded from files of bytes are of bytes.
-use Rattle.std.proofs.Common.{◌≡◌, ℕ, zero, suc, ◌+◌, ◌-◌, ◌<◌, Bool, true, false, cond, List, [], ◌∷◌, ◌++◌, length, take, map, nat_eq}
-use Rattle.std.proofs.Common.{nat_lt, Option, Some, None, Result, Ok, Err, refl, codes, subst, arith, ◌==◌}
-use Rattle.std.specs.List.{AllByRecursion, cons_option, ends_with, flat_map, filter_map}
+use Rattle.std.proofs.Common.{ℕ, zero, suc, ◌+◌, ◌-◌, ◌<◌, Bool, true, false, cond, List, [], ◌∷◌, ◌++◌, length, take, nat_eq}
+use Rattle.std.proofs.Common.{nat_lt, Option, Some, None, Result, Ok, Err, codes, subst, arith, ◌==◌}
+use Rattle.std.specs.List.{AllByRecursion, cons_option, ends_with, flat_map}
 use Rattle.std.specs.Result.{result_ok}
 use Rattle.pam_base.specs.Bytes.{has_byte}
-use Rattle.pam_base.specs.declared.fault.FaultKind.{FaultKind}
 use Rattle.pam_outside.specs.Files.{File, file_at, file_put}
 use Rattle.pam_outside.specs.Paths.{path_of}
 use Rattle.std.specs.Str.{bytes_eq}
 use Rattle.control_words.specs.conf_lex.specs.Answer.{answer_to, answer_unless_nul}
-use Rattle.control_words.specs.conf_lex.specs.Lexing.{answer_at, answer_of, given, nul_line}
+use Rattle.control_words.specs.conf_lex.specs.Lexing.{answer_at, given, nul_line}
 use Rattle.control_words.specs.conf_lex.specs.Piece.{BracketUnit, escaped, joined, single, units_bytes, units_text, Piece, newline, white}
 use Rattle.control_words.specs.conf_lex.specs.Piece.{join, plain, bracket, open_bracket, comment, IsReading, is_newline, piece_bytes}
 use Rattle.control_words.specs.conf_lex.specs.Piece.{piece_tokens, spelling, tokens_of}
@@ -20,16 +19,16 @@ use Rattle.control_words.specs.conf_lex.specs.declared.token.LexFault.{LexFault}
 use Rattle.control_words.specs.conf_lex.specs.declared.token.RawRule.{RawRule}
 use Rattle.control_words.specs.conf_lex.specs.declared.token.Token.{Token}
 use Rattle.control_words.specs.Bracket.{control_of}
-use Rattle.control_words.specs.Module.{last_part, name_of_module, without_suffix}
+use Rattle.control_words.specs.Module.{last_part, name_of_module}
 use Rattle.control_words.specs.Stack as stack
 use Rattle.control_words.specs.Stack.{Stack, count, none, line, sub}
 use Rattle.control_words.specs.declared.bracket.ControlFault.{ControlFault}
 use Rattle.control_words.specs.declared.control.Action.{Action}
 use Rattle.service_load.specs.Entry.{after_type, entry_at, entry_of, entry_of_tokens, named_file, with_control, with_type}
-use Rattle.service_load.specs.Files.{Held, absent, faulty, holds, entries_of, held, held_answer, held_for, held_in_conf, held_text}
+use Rattle.service_load.specs.Files.{entries_of, held, held_answer, held_for, held_in_conf, held_text}
 use Rattle.service_load.specs.Files.{is_in_directory, own_rule, own_rules, plain_file, rule_without, rules_held}
 use Rattle.service_load.specs.RuleType.{is_word, type_field_of}
-use Rattle.service_load.specs.Tree.{content_nodes, entry_nodes, nodes, nodes_of, serves, tree_from, tree_of}
+use Rattle.service_load.specs.Tree.{content_nodes, entry_nodes, nodes, nodes_of, serves, tree_from}
 use Rattle.service_load.specs.declared.rule_type.RuleType.{RuleType}
 use Rattle.report_lines.specs.Line.{AreBytes}
 use Rattle.session_audit.specs.Sound.{AreNamed}

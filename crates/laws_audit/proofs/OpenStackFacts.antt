@@ -28,7 +28,7 @@ use Rattle.pam_library.specs.Slots.{PlainSlot, closed, opened, slot_at, with_slo
 use Rattle.pam_library.specs.SlotStep.{SlotStepped, filed_in, is_refused_for_flags, other_pending, unless_pending, stack_step, open_step}
 use Rattle.pam_library.specs.SlotStep.{closed_step, slot_step, opened_by}
 use Rattle.pam_library.specs.Step.{stepped_at, stepped}
-use Rattle.cmd_run.specs.State.{Setting, RunState}
+use Rattle.cmd_run.specs.State.{RunState, Setting, kept_at}
 use Rattle.cmd_run.specs.Step.{applied_or_refused, line_step}
 use Rattle.laws_audit.specs.Calls.{GoesAs}
 use Rattle.laws_audit.specs.Step.{HasStacks, HaveStacks}
@@ -153,10 +153,10 @@ module _ (setting : Setting) (stacks : Stacks) where
   on_if true kind r there = tt
   on_if false kind r there = there
 
-  line_has : (n : ℕ) (s : RunState) (line : List ℕ) → HaveStacks stacks s.slots → AskedFinds setting stacks s (parsed line)
+  line_has : (n : ℕ) (s : RunState) (line : List ℕ) → HaveStacks stacks s.slots → AskedFinds setting stacks (kept_at setting n s) (parsed line)
       → OnHave (step_at (line_step setting) n s line)
   unfolding step_at line_step
-  line_has n s line have finds = on_if (nat_le 65536 n) _ _ (on_if (nat_lt 513 (length line)) _ _ (asked_has s (parsed line) have finds))
+  line_has n s line have finds = on_if (nat_le 65536 n) _ _ (on_if (nat_lt 513 (length line)) _ _ (asked_has (kept_at setting n s) (parsed line) have finds))
 
   on_each : (x : Result (RunState × List ℕ) ScriptKind) (Find : Type 0) (Starts Along : RunState → Type 0) → (Find → OnHave x)
       → ((t : RunState) → HaveStacks stacks t.slots → Starts t → Along t)
@@ -167,5 +167,5 @@ module _ (setting : Setting) (stacks : Stacks) where
   pub starts_have : (n : ℕ) (s : RunState) (ls : List (List ℕ)) → HaveStacks stacks s.slots → StartsFind setting stacks n s ls → HaveAlong setting stacks n s ls
   starts_have n s [] have finds = tt
   starts_have n s (l ∷ ls) have finds =
-      on_each (step_at (line_step setting) n s l) (AskedFinds setting stacks s (parsed l)) _ (λ t. HaveAlong setting stacks (n + 1) t ls) (line_has n s l have)
+      on_each (step_at (line_step setting) n s l) (AskedFinds setting stacks (kept_at setting n s) (parsed l)) _ (λ t. HaveAlong setting stacks (n + 1) t ls) (line_has n s l have)
       (λ t have' finds'. starts_have (n + 1) t ls have' finds') finds

@@ -1,5 +1,5 @@
 -- The modules other than pam_faillock leave a user's file as it was.
-use Rattle.std.proofs.Common.{◌≡◌, ◌⊎◌, inl, inr, ℕ, false, List, [], ◌∷◌, Option, Some, None, slice_get, refl, subst, sym, ap, zero, suc, ◌∙◌}
+use Rattle.std.proofs.Common.{◌≡◌, ◌⊎◌, inl, inr, ℕ, false, List, [], ◌∷◌, refl, subst, sym, zero, suc}
 use Rattle.std.specs.List.{AllByRecursion}
 use Rattle.pam_room.specs.Module.{Player, Plays}
 use Rattle.mod_lists.specs.Listfile.{listfile_act}

@@ -2,8 +2,7 @@
 use Rattle.std.proofs.Common.{◌≡◌, ◌≢◌, ℕ, Bool, true, false, ◌==◌, ◌||◌, List, [], ◌∷◌, ◌++◌, codes, refl, sym, ap, ◌∙◌, subst, append_assoc, arith}
 use Rattle.std.specs.List.{list_any}
 use Rattle.pam_outside.specs.Paths.{path_of, root_before}
-use Rattle.mod_unix.specs.module_acts.specs.Content.{is_rooted}
-use Rattle.mod_tally.specs.Faillock.{is_no_file, tally_name}
+use Rattle.mod_tally.specs.Faillock.{is_no_file}
 use Rattle.laws_audit.specs.Others.{IsApart, IsPart, tally_path}
 
 abbrev slash : ℕ → Bool

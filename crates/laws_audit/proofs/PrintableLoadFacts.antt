@@ -1,5 +1,5 @@
 -- What is loaded from files of bytes can be printed.
-use Rattle.std.proofs.Common.{◌≡◌, ℕ, ◌+◌, ◌<◌, ◌≤◌, ◌^◌, Bool, true, false, cond, List, Option, Result, Ok, Err, codes, sym, subst, arith}
+use Rattle.std.proofs.Common.{◌≡◌, ℕ, ◌<◌, ◌≤◌, Bool, true, false, cond, List, Result, Ok, Err, codes, sym, subst, arith}
 use Rattle.std.specs.List.{AllByRecursion}
 use Rattle.pam_outside.specs.Counts.{next_count}
 use Rattle.pam_outside.specs.Files.{File, VaultState, is_failing}
@@ -7,18 +7,15 @@ use Rattle.control_words.specs.conf_lex.specs.Piece.{IsReading}
 use Rattle.control_words.specs.conf_lex.specs.Reading.{pieces_of}
 use Rattle.control_words.specs.Stack.{Stack, lines_in}
 use Rattle.service_load.specs.Files.{service_file}
-use Rattle.service_load.specs.FirstFault.{Counts, Stop, look}
+use Rattle.service_load.specs.FirstFault.{Counts, Stop}
 use Rattle.service_load.specs.Load.{directory_exists, loaded, loaded_from}
 use Rattle.service_load.specs.Loading.{texts_of}
-use Rattle.service_load.specs.Order.{order, trees_items}
 use Rattle.service_load.specs.RuleType.{all_types}
-use Rattle.service_load.specs.Stacks.{Stacks}
-use Rattle.service_load.specs.Tree.{tree, tree_from}
 use Rattle.service_load.specs.declared.rule_type.RuleType.{RuleType}
 use Rattle.service_load.specs.declared.rule_type.RuleType.TheVariants.{Auth, Account, Password, Session}
 use Rattle.pam_handle.specs.Start.{stacks_under}
 use Rattle.session_audit.specs.Sound.{AreNamed, ArePrintable, IsPrintable}
-use Rattle.laws_audit.specs.Loaded.{AreLoaded, LoadedArePrintable}
+use Rattle.laws_audit.specs.Loaded.{LoadedArePrintable}
 use Rattle.laws_audit.proofs.ModuleNameFacts.{texts_of_bytes, tree_named}
 use Rattle.laws_audit.proofs.LineLimitFacts.{trees_fit}
 

@@ -34,7 +34,7 @@ use Rattle.pam_library.specs.SlotStep.{closed_step, slot_step, opened_by}
 use Rattle.pam_library.specs.Step.{Stepped, stepped_at, stepped}
 use Rattle.report_step.specs.Cleaned.{filed_text}
 use Rattle.report_step.specs.Step.{step_text}
-use Rattle.cmd_run.specs.State.{Setting, RunState}
+use Rattle.cmd_run.specs.State.{RunState, Setting, kept_at}
 use Rattle.cmd_run.specs.Step.{applied_or_refused, line_step}
 use Rattle.report_lines.specs.Line.{Block, Shown, block_text, blocks_text}
 use Rattle.session_audit.specs.Fits.{SlotLog, fold_on, fold, after_block}
@@ -178,9 +178,11 @@ module _ (by : ByRemainders) (setting : Setting) (stacks : Stacks) where
   line_if false s kind r blocks fits = fits
 
   line_fits : (n : ℕ) (s : RunState) (line : List ℕ) → HaveStacks stacks s.slots → AreSound stacks (places_of s.slots)
-      → LineFits s (step_at (line_step setting) n s line) (line_blocks setting n s line)
+      → LineFits (kept_at setting n s) (step_at (line_step setting) n s line) (line_blocks setting n s line)
   unfolding step_at line_step
-  line_fits n s line have sound = line_if (nat_le 65536 n) s _ _ _ (line_if (nat_lt 513 (length line)) s _ _ _ (asked_fits s (parsed line) have sound))
+  line_fits n s line have sound =
+      let now : RunState = (kept_at setting n s) in
+      line_if (nat_le 65536 n) now _ _ _ (line_if (nat_lt 513 (length line)) now _ _ _ (asked_fits now (parsed line) have sound))
 
   -- lines that have n lines before them
   pub record LinesFit (s : RunState) (r : Run RunState) (blocks : List Block) : Type 0 where
@@ -189,7 +191,7 @@ module _ (by : ByRemainders) (setting : Setting) (stacks : Stacks) where
 
   lines_on : (n : ℕ) (s : RunState) (x : Result (RunState × List ℕ) ScriptKind) (blocks : List Block) (next : RunState → Run RunState)
       (rest : RunState → List Block) (Along : RunState → Type 0)
-      → LineFits s x blocks → AreSound stacks (places_of s.slots) → OnState setting x (λ t. HaveStacks stacks t.slots × Along t)
+      → LineFits (kept_at setting n s) x blocks → AreSound stacks (places_of s.slots) → OnState setting x (λ t. HaveStacks stacks t.slots × Along t)
       → ((t : RunState) → HaveStacks stacks t.slots → AreSound stacks (places_of t.slots) → Along t → LinesFit t (next t) (rest t))
       → LinesFit s (after n s x next) (blocks ++ blocks_on setting x rest)
   lines_on n s (Err kind) blocks next rest Along fits sound have each =

@@ -2,7 +2,6 @@
 use Rattle.std.proofs.Common.{◌≡◌, ℕ, Bool, true, false, not, cond, ◌||◌, nat_lt, length, List, [], ◌∷◌, Option, Some, None, Result, Ok}
 use Rattle.std.proofs.Common.{Err, codes, refl, ap, ◌∙◌}
 use Rattle.std.specs.Str.{bytes_eq}
-use Rattle.std.specs.Bool.{Decides}
 use Rattle.std.proofs.lemmas.Slice.Eq.{bytes_eq-Decides}
 use Rattle.pam_base.specs.declared.code.Code.{Code}
 use Rattle.pam_base.specs.declared.item.ItemName.{ItemName}
@@ -14,8 +13,8 @@ use Rattle.pam_outside.specs.Paths.{path_of}
 use Rattle.pam_outside.specs.Time.{Time}
 use Rattle.pam_room.specs.Call.{PlainCall}
 use Rattle.pam_room.specs.Module.{NamedData, Played, SeenRoom, Sight}
-use Rattle.pam_room.specs.Say.{Asked, speak, token_asked, token_of, user_asked}
-use Rattle.pam_room.specs.item_store.specs.Items.{ItemTexts, text_of, with_text}
+use Rattle.pam_room.specs.Say.{speak, token_asked, user_asked}
+use Rattle.pam_room.specs.item_store.specs.Items.{ItemTexts}
 use Rattle.pam_room.specs.conv_port.specs.declared.conv.ConvFault.{ConvFault}
 use Rattle.pam_room.specs.conv_port.specs.declared.message.Message.{Message}
 use Rattle.pam_room.specs.conv_port.specs.declared.message.Reply.{Reply}
@@ -28,7 +27,7 @@ use Rattle.mod_unix.specs.module_acts.specs.Accounts.{Account, account_in, accou
 use Rattle.mod_unix.specs.module_acts.specs.Act.{Act, Stage, answers, asks_user, called, draws_word, finds_account, groups_by, holds_if}
 use Rattle.mod_unix.specs.module_acts.specs.Act.{holds_lock, holds_unless, in_room, later, lets_go, passwds_by, plays_by, reads_file}
 use Rattle.mod_unix.specs.module_acts.specs.Act.{reads_groups, reads_if, reads_passwds, reads_shells, replaced, replaces_file, sees_items}
-use Rattle.mod_unix.specs.module_acts.specs.Act.{sees_moment, shown, shows, unless_answered}
+use Rattle.mod_unix.specs.module_acts.specs.Act.{shown, shows, unless_answered}
 use Rattle.mod_unix.specs.module_acts.specs.Steps.{answers_keeping, asks_token, exchanges, requests_delay, sees_caller, sees_clock}
 use Rattle.mod_unix.specs.module_acts.specs.Steps.{sees_data, sets_item, with_replies}
 use Rattle.laws_audit.specs.Tallied.{LeavesFile}

@@ -8,7 +8,6 @@ use Rattle.pam_base.specs.declared.item.ItemName.TheVariants.{AuthTok}
 use Rattle.pam_outside.specs.declared.held.LockKind.TheVariants.{Record}
 use Rattle.pam_outside.specs.Paths.{path_of}
 use Rattle.pam_room.specs.Call.{PlainCall, has_flag, prelim_check}
-use Rattle.pam_room.specs.Module.{NamedData}
 use Rattle.mod_unix.specs.module_acts.specs.account_db.specs.declared.shadow.Shadow.{Shadow}
 use Rattle.mod_unix.specs.module_acts.specs.account_db.specs.declared.fault.DbFault.{DbFault}
 use Rattle.mod_unix.specs.module_acts.specs.account_db.specs.declared.passwd.Passwd.{Passwd}
@@ -16,7 +15,7 @@ use Rattle.mod_unix.specs.module_acts.specs.account_db.specs.Passwd.{entry_of, p
 use Rattle.mod_unix.specs.module_acts.specs.declared.content.Content.{Content}
 use Rattle.mod_unix.specs.module_acts.specs.declared.content.Content.TheVariants as content
 use Rattle.mod_unix.specs.module_acts.specs.Accounts.{account_limit}
-use Rattle.mod_unix.specs.module_acts.specs.Act.{Act, answers, asks_user, draws_word, lets_go}
+use Rattle.mod_unix.specs.module_acts.specs.Act.{Act, answers, draws_word, lets_go}
 use Rattle.mod_unix.specs.module_acts.specs.Arguments.{has_argument}
 use Rattle.mod_unix.specs.module_acts.specs.Steps.{answers_keeping}
 use Rattle.pam_base.specs.Code.{number_of}

@@ -1,5 +1,5 @@
 -- Stacks that were loaded from files of bytes (this project's own).
-use Rattle.std.specs.Prelude.{◌≡◌, ℕ, List, [], Ok}
+use Rattle.std.specs.Prelude.{◌≡◌, ℕ, List, Ok}
 use Rattle.std.specs.List.{AllByRecursion}
 use Rattle.pam_outside.specs.Files.{File, VaultState, file_put}
 use Rattle.service_load.specs.FirstFault.{Counts}

@@ -15,7 +15,7 @@ use Rattle.mod_lists.specs.SucceedIf.{succeed_if_plays}
 use Rattle.mod_env.specs.Env.{env_plays}
 use Rattle.mod_unix.specs.Unix.{unix_plays}
 use Rattle.mod_unix.specs.module_acts.specs.Content.{is_rooted}
-use Rattle.mod_tally.specs.Faillock.{faillock_plays, is_no_file, tally_name}
+use Rattle.mod_tally.specs.Faillock.{faillock_plays, tally_name}
 use Rattle.mod_history.specs.Wheel.{wheel_plays}
 use Rattle.mod_history.specs.Securetty.{securetty_plays}
 use Rattle.mod_history.specs.Pwhistory.{pwhistory_plays}

@@ -22,7 +22,7 @@ use Rattle.pam_library.specs.declared.outcome.Answer.TheVariants as answers
 use Rattle.pam_library.specs.Slots.{PlainSlot, closed, opened}
 use Rattle.pam_library.specs.Step.{Stepped, stepped}
 use Rattle.pam_outside.specs.Streams.{SourceState, SinkState}
-use Rattle.cmd_run.specs.State.{Setting, RunState}
+use Rattle.cmd_run.specs.State.{RunState, Setting, kept_at}
 use Rattle.cmd_run.specs.Step.{line_step}
 use Rattle.cmd_run.specs.Closings.{world_after}
 use Rattle.cmd_run.specs.Whole.{EndsAs, RunsScript, ending_status}
@@ -42,7 +42,7 @@ module _ (setting : Setting) where
 
   -- the blocks of a line that has n lines before it
   abbrev pub line_blocks : ℕ → RunState → List ℕ → List Block
-  line_blocks n s line = if nat_le 65536 n then [] else if nat_lt held_limit (length line) then [] else blocks_asked s (parsed line)
+  line_blocks n s line = if nat_le 65536 n then [] else if nat_lt held_limit (length line) then [] else blocks_asked (kept_at setting n s) (parsed line)
 
   abbrev pub blocks_on : Result (RunState × List ℕ) ScriptKind → (RunState → List Block) → List Block
   blocks_on (Ok x) rest = rest x.0
@@ -70,7 +70,7 @@ module _ (setting : Setting) where
   -- each start of a run that succeeds finds these stacks
   abbrev pub StartsFind : Stacks → ℕ → RunState → List (List ℕ) → Type 0
   StartsFind stacks n s [] = Unit {0}
-  StartsFind stacks n s (l ∷ ls) = OnState (step_at (line_step setting) n s l) (λ t. AskedFinds stacks s (parsed l) × StartsFind stacks (n + 1) t ls)
+  StartsFind stacks n s (l ∷ ls) = OnState (step_at (line_step setting) n s l) (λ t. AskedFinds stacks (kept_at setting n s) (parsed l) × StartsFind stacks (n + 1) t ls)
 
   -- after each line of a run, the open transactions have these stacks
   abbrev pub HaveAlong : Stacks → ℕ → RunState → List (List ℕ) → Type 0

@@ -4,7 +4,7 @@ use Rattle.std.specs.List.{AllByRecursion}
 use Rattle.pam_outside.specs.Files.{File, file_at}
 use Rattle.pam_room.specs.Call.{PlainCall}
 use Rattle.pam_room.specs.Module.{NamedData, Player, Plays, SeenRoom, Sight}
-use Rattle.pam_library.specs.Plays.{Asked, AskedLine, answer_of, module_of_path}
+use Rattle.pam_library.specs.Plays.{ModuleGets, AskedLine, answer_of, module_of_path}
 use Rattle.mod_tally.specs.declared.tally.Failure.{Failure}
 use Rattle.mod_tally.specs.Faillock.{faillock_plays}
 use Rattle.mod_tally.specs.Recorded.{Follow, IsWith, Served, deeds_of, played, failures_on_file, failures_by}
@@ -65,7 +65,7 @@ IsText text = AllByRecursion (λ (b : ℕ). b < 256) (unwrap_or text [])
 
 -- A call uses this `fail_interval`, and a failure that it records can be written: its time has at most 13 digits, and
 -- the items that name its source are bytes.
-pub record CanRecord (interval : ℕ) (a : Asked) : Type 0 where
+pub record CanRecord (interval : ℕ) (a : ModuleGets) : Type 0 where
   pub interval_is : (settings_of a.call.args).interval ≡ interval
   pub moment : a.sight.clock.moment < 10 ^ 13
   pub rhost : IsText (faillock_plays a.call a.room a.held a.sight).room.items.rhost

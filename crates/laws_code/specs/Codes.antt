@@ -15,20 +15,17 @@ abbrev pub permit_codes : Func → List Code
 permit_codes func = returns.Success ∷ []
 
 abbrev pub deny_codes : Func → List Code
-deny_codes Authenticate = returns.AuthErr ∷ []
 deny_codes SetCred = returns.CredErr ∷ []
-deny_codes AcctMgmt = returns.AuthErr ∷ []
 deny_codes OpenSession = returns.SessionErr ∷ []
 deny_codes CloseSession = returns.SessionErr ∷ []
 deny_codes ChAuthTok = returns.AuthtokErr ∷ []
+deny_codes other = returns.AuthErr ∷ []
 
 abbrev pub rootok_codes : Func → List Code
-rootok_codes Authenticate = returns.Success ∷ returns.AuthErr ∷ []
 rootok_codes SetCred = returns.Success ∷ []
-rootok_codes AcctMgmt = returns.Success ∷ returns.AuthErr ∷ []
 rootok_codes OpenSession = returns.ModuleUnknown ∷ []
 rootok_codes CloseSession = returns.ModuleUnknown ∷ []
-rootok_codes ChAuthTok = returns.Success ∷ returns.AuthErr ∷ []
+rootok_codes other = returns.Success ∷ returns.AuthErr ∷ []
 
 -- ---- modules that only check the user
 
@@ -37,9 +34,7 @@ abbrev pub check_codes : List Code → List Code → Func → List Code
 check_codes check setcred Authenticate = check
 check_codes check setcred AcctMgmt = check
 check_codes check setcred SetCred = setcred
-check_codes check setcred OpenSession = returns.ModuleUnknown ∷ []
-check_codes check setcred CloseSession = returns.ModuleUnknown ∷ []
-check_codes check setcred ChAuthTok = returns.ModuleUnknown ∷ []
+check_codes check setcred other = returns.ModuleUnknown ∷ []
 
 abbrev pub nologin_check : List Code
 nologin_check = returns.Success ∷ returns.Ignore ∷ returns.AuthErr ∷ returns.ConvErr
@@ -95,10 +90,9 @@ env_sets = returns.Success ∷ returns.BufErr ∷ returns.ServiceErr ∷ []
 abbrev pub env_codes : Func → List Code
 env_codes Authenticate = returns.Ignore ∷ []
 env_codes SetCred = env_sets
-env_codes AcctMgmt = returns.ServiceErr ∷ []
 env_codes OpenSession = env_sets
 env_codes CloseSession = returns.Success ∷ []
-env_codes ChAuthTok = returns.ServiceErr ∷ []
+env_codes other = returns.ServiceErr ∷ []
 
 -- ---- pam_faillock
 
@@ -115,9 +109,7 @@ abbrev pub faillock_codes : Func → List Code
 faillock_codes Authenticate = faillock_auth
 faillock_codes SetCred = returns.Success ∷ []
 faillock_codes AcctMgmt = faillock_account
-faillock_codes OpenSession = returns.ModuleUnknown ∷ []
-faillock_codes CloseSession = returns.ModuleUnknown ∷ []
-faillock_codes ChAuthTok = returns.ModuleUnknown ∷ []
+faillock_codes other = returns.ModuleUnknown ∷ []
 
 -- ---- pam_unix
 
@@ -138,9 +130,8 @@ abbrev pub unix_codes : Func → List Code
 unix_codes Authenticate = unix_auth
 unix_codes SetCred = all_codes
 unix_codes AcctMgmt = unix_account
-unix_codes OpenSession = returns.Success ∷ []
-unix_codes CloseSession = returns.Success ∷ []
 unix_codes ChAuthTok = unix_change
+unix_codes other = returns.Success ∷ []
 
 -- ---- pam_pwhistory
 

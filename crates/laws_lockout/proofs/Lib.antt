@@ -2,3 +2,9 @@ mod KeptStackFacts
 mod Within
 mod UserFileFacts
 mod LockoutDenialFacts
+mod RecentFailureFacts
+mod OwnFileFacts
+mod FirstLineFacts
+mod RefusedCallFacts
+mod OtherCallFacts
+mod AttemptFacts

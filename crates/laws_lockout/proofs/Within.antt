@@ -13,7 +13,8 @@ use Rattle.pam_room.specs.State.{PlainWorld, State, state_of}
 use Rattle.pam_room.specs.declared.visits.Visit.{Visit}
 use Rattle.pam_handle.specs.Items.{all_told}
 use Rattle.pam_handle.specs.Stopping.{first_stack, room_begun}
-use Rattle.pam_library.specs.Plays.{AskedLine, IsLineOf, LineRun, RunOn, RunsBy, RunsNothing, StackCall, IsRuleAt, asked_along, module_of_path, run_in, stack_call_of}
+use Rattle.pam_library.specs.Plays.{AskedLine, IsLineOf, LineRun, RunOn, RunsBy, RunsNothing, IsRuleAt, asked_along, module_of_path, run_in}
+use Rattle.pam_library.specs.StackOf.{stack_of}
 use Rattle.pam_library.specs.SideBySide.{Met}
 use Rattle.pam_library.specs.Slots.{PlainSlot, closed, opened, slot_at}
 use Rattle.pam_library.specs.Step.{stepped}
@@ -52,13 +53,13 @@ module _ (players : List Player) (interval : ℕ) where
   by_func funcs.CloseSession stacks all = all.session
   by_func funcs.ChAuthTok stacks all = all.password
 
-  along : (call : StackCall) (stacks : Stacks) → Such stacks → (ls : List LineRun) (s t : State) → AllByRecursion (IsLineOf call stacks) ls
+  along : (call : Func × ℕ) (stacks : Stacks) → Such stacks → (ls : List LineRun) (s t : State) → AllByRecursion (IsLineOf call stacks) ls
       → RunOn players ls s t → AllByRecursion WithinIf (asked_along players ls s)
   along call stacks all [] s t each ran = tt
   along call stacks all (l ∷ ls) s t each ran =
       let path_is : l.visit.path ≡ l.rule.path = ap (λ (v : Visit). v.path) ran.0 in
       let within : CountsWithin players interval l.rule =
-      at_place (CountsWithin players interval) l.rule l.visit.place (first_stack call.func stacks) 1 (by_func call.func stacks all) each.0.stands in (
+      at_place (CountsWithin players interval) l.rule l.visit.place (first_stack call.0 stacks) 1 (by_func call.0 stacks all) each.0.stands in (
         (λ p there same. within p (ap (module_of_path players) (sym path_is) ∙ there) same),
         along call stacks all ls (run_in players l s).state t each.1 ran.1,
       )
@@ -67,12 +68,12 @@ module _ (players : List Player) (interval : ℕ) where
       → AllByRecursion WithinIf asked
   nothing_asked w trail asked last r = subst (AllByRecursion WithinIf) (sym r.asked_are) tt
 
-  by_slot : (w : PlainWorld) (slot : Option PlainSlot) (call : Option StackCall) (trail : List Visit) (asked : List AskedLine) (last : List File)
+  pub by_slot : (w : PlainWorld) (slot : Option PlainSlot) (call : Option (Func × ℕ)) (trail : List Visit) (asked : List AskedLine) (last : List File)
       → HasIf Such slot
       → RunsBy players w slot call trail asked last → AllByRecursion WithinIf asked
   by_slot w (Some (opened h)) (Some call) trail asked last has r =
       subst (AllByRecursion WithinIf) (sym r.asked_are)
-      (along call h.stacks has r.lines (state_of (room_begun call.func (all_told h)) w) r.last r.each r.ran)
+      (along call h.stacks has r.lines (state_of (room_begun call.0 (all_told h)) w) r.last r.each r.ran)
   by_slot w (Some (opened h)) None trail asked last has r = nothing_asked w trail asked last r
   by_slot w (Some (closed conv)) call trail asked last has r = nothing_asked w trail asked last r
   by_slot w None call trail asked last has r = nothing_asked w trail asked last r
@@ -83,5 +84,5 @@ module _ (players : List Player) (interval : ℕ) where
   steps_within number_of (m ∷ steps) slots asked all finds a =
       let next = (stepped players number_of slots m.world m.step).slots in
       subst (AllByRecursion WithinIf) (sym a.2)
-      (both_hold WithinIf a.0 a.1 (by_slot m.world (slot_at slots m.step.number) (stack_call_of m.step.call) _ a.0 _ (have_at Such slots m.step.number all) a.3)
+      (both_hold WithinIf a.0 a.1 (by_slot m.world (slot_at slots m.step.number) (stack_of m.step.call) _ a.0 _ (have_at Such slots m.step.number all) a.3)
       (steps_within number_of steps next a.1 (step_has players number_of Such slots m.world m.step all finds.0) finds.1 a.4))

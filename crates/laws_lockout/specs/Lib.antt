@@ -1,3 +1,4 @@
 pub mod Within
 pub mod Calls
 pub mod Lockout
+pub mod Refused

@@ -14,7 +14,7 @@ use Rattle.pam_room.specs.State.{PlainWorld, scene_in, state_of}
 use Rattle.pam_handle.specs.Handle.{PlainHandle}
 use Rattle.pam_library.specs.declared.outcome.Answer.{Answer}
 use Rattle.pam_library.specs.declared.outcome.Answer.TheVariants as answers
-use Rattle.pam_library.specs.Plays.{Asked, AskedLine, module_of_path}
+use Rattle.pam_library.specs.Plays.{ModuleGets, AskedLine, module_of_path}
 use Rattle.pam_library.specs.SideBySide.{Met}
 use Rattle.pam_library.specs.Slots.{PlainSlot, opened, slot_at}
 use Rattle.pam_library.specs.Step.{stepped}
@@ -35,7 +35,7 @@ use Rattle.laws_lockout.specs.Calls.{AreConfigured, OnlyTheseWrite, StepsAsk}
 
 -- a failure that the call records can be written: the time has at most 13 digits, and the items
 -- that name its source are bytes
-pub record CanWrite (a : Asked) : Type 0 where
+pub record CanWrite (a : ModuleGets) : Type 0 where
   pub moment : a.sight.clock.moment < 10 ^ 13
   pub rhost : IsText (faillock_plays a.call a.room a.held a.sight).room.items.rhost
   pub tty : IsText (faillock_plays a.call a.room a.held a.sight).room.items.tty

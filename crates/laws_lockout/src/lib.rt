@@ -1,4 +1,5 @@
-//! Only a law on wrong passwords: who gave too many of them, in whatever transactions, is denied.
+//! Only laws on wrong passwords: who gave too many of them, in whatever transactions, is denied.
 #![tactic(auto)]
 
 pub mod laws;
+pub mod refused_laws;

@@ -4,7 +4,7 @@
 use Rattle.std.specs.Prelude.{◌≡◌, ◌≢◌, ℕ, List, [], ◌∷◌, Some, codes, slice_get}
 use Rattle.std.specs.List.{AllByRecursion}
 use Rattle.pam_base.specs.declared.call.Func.{Func}
-use Rattle.pam_base.specs.declared.call.Func.TheVariants.{Authenticate, SetCred, AcctMgmt, OpenSession, CloseSession, ChAuthTok}
+use Rattle.pam_base.specs.declared.call.Func.TheVariants.{ChAuthTok}
 use Rattle.pam_base.specs.declared.code.Code.{Code}
 use Rattle.pam_outside.specs.Files.{File, file_at}
 use Rattle.pam_outside.specs.Paths.{path_of}
@@ -15,6 +15,7 @@ use Rattle.pam_room.specs.Call.{PlainCall}
 use Rattle.pam_room.specs.Module.{NamedData, Played, Player, Plays, SeenRoom, Sight}
 use Rattle.pam_room.specs.State.{PlainWorld}
 use Rattle.account_db.specs.declared.shadow.Shadow.{Shadow}
+use Rattle.dispatch_core.specs.Calls.{first_stack}
 use Rattle.dispatch_core.specs.Lines.{names_of}
 use Rattle.pam_handle.specs.Call.{Called}
 use Rattle.pam_handle.specs.Handle.{PlainHandle}
@@ -99,12 +100,7 @@ pub record TheseKeepToOwn : Type 0 where
 
 -- the stack that a call runs
 abbrev pub stack_run : Func → PlainHandle → Stack
-stack_run Authenticate h = h.stacks.auth
-stack_run SetCred h = h.stacks.auth
-stack_run AcctMgmt h = h.stacks.account
-stack_run OpenSession h = h.stacks.session
-stack_run CloseSession h = h.stacks.session
-stack_run ChAuthTok h = h.stacks.password
+stack_run func h = first_stack func h.stacks
 
 -- the module of a line, if there is one, keeps to the user's own entries
 abbrev pub IsOwnLine : List Player → Func → List ℕ → ℕ → Rule → Type 0

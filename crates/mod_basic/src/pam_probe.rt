@@ -10,7 +10,7 @@ ghost use Rattle.mod_basic.specs.Probe.{Probes, ProbesAll, births_in, code_in, f
 use crate::request::{Request, request_in};
 use conv_port::Conv;
 use data_cleanup::{Datum, Ledger, Receipt};
-use pam_base::{Code, ConvErr, NoMemory, Refuse, Text, Texts, code_named};
+use pam_base::{Code, ConvErr, MAX_TEXT, NoMemory, Refuse, Text, Texts, code_named};
 use pam_outside::{Clock, Vault};
 use pam_room::{Call, Module, Process, Transaction, first_bytes, laws, send, value_in};
 use std::alloc::Global;
@@ -143,7 +143,7 @@ fn do_request(
             transaction.set_data(alloc, ledger, name, payload)?;
         }
         Request::Send { style, text } => {
-            let text = Text::from_bytes(alloc, first_bytes(text, 512))?;
+            let text = Text::from_bytes(alloc, first_bytes(text, MAX_TEXT))?;
             let _reply = send(alloc, transaction, conv, style, text)?;
         }
         Request::Delay { micros } => transaction.delay.request(micros),

@@ -1,5 +1,5 @@
 -- The second pass of a change, step by step.
-use Rattle.std.proofs.Common.{◌≡◌, ◌≢◌, ℕ, ◌==◌, nat_le, Bool, true, false, List, length, Option, Some, None, Result, Ok, refl, sym, ap, ◌∙◌, subst}
+use Rattle.std.proofs.Common.{◌≡◌, ◌≢◌, ℕ, ◌==◌, nat_le, Bool, true, false, List, length, Option, Some, None, Result, Ok, Err, IfOk, refl, sym, ap, ◌∙◌, subst}
 use Rattle.pam_base.specs.declared.code.Code.{Code}
 use Rattle.pam_base.specs.declared.code.Code.TheVariants as returns
 use Rattle.pam_base.specs.declared.fault.ConvErr.{ConvErr}
@@ -11,12 +11,14 @@ use Rattle.pam_outside.specs.Files.{VaultState}
 use Rattle.pam_outside.specs.Time.{ClockState}
 use Rattle.pam_room.specs.Call.{PlainCall}
 use Rattle.pam_room.specs.Module.{Played, with_played}
-use Rattle.pam_room.specs.State.{PlainProcess, Scene}
+use Rattle.pam_room.specs.Plain.{plain_process}
+use Rattle.pam_room.specs.State.{PlainProcess, Scene, scene_of}
+use Rattle.pam_room.specs.declared.process.Process.{Process}
 use Rattle.pam_room.specs.declared.transaction.Transaction.{Transaction}
 use Rattle.account_db.specs.declared.shadow.Shadow.{Shadow}
 use Rattle.module_acts.specs.declared.content.Content.{Content}
 use Rattle.module_acts.specs.Accounts.{Known}
-use Rattle.module_acts.specs.Act.{Act, Acts, Yields, Reaches, reads_file, replaces_file, stage_of}
+use Rattle.module_acts.specs.Act.{Act, Acts, Yields, Reaches, StepsTo, reads_file, replaces_file, stage_of}
 use Rattle.module_acts.specs.Returns.{Returns, scene_of_parts}
 use Rattle.module_acts.specs.Steps.{sees_caller}
 use Rattle.mod_unix.specs.declared.look.KnownPassword.{KnownPassword}
@@ -24,7 +26,7 @@ use Rattle.mod_unix.specs.declared.look.KnownPassword.TheVariants.{Unknown, Unav
 use Rattle.mod_unix.specs.Change.{write_result}
 use Rattle.mod_history.specs.declared.history.Remembered.{Remembered}
 use Rattle.mod_history.specs.History.{history_text}
-use Rattle.mod_history.specs.Pwhistory.{stores_if_fits, unless_remember_zero, stores_unless_used, compares_token, history_in, history_limit, history_name, is_refused, locks_history, refuses_token, remember_in_history, remember_of, remembers, renew_if_known, renews, stores_text, unless_used, unsets_item}
+use Rattle.mod_history.specs.Pwhistory.{stores_if_fits, unless_remember_zero, stores_unless_used, compares_token, history_in, history_limit, history_name, is_refused, locks_history, refuses_token, remember_in_history, remember_locked, remember_of, remembers, renew_if_known, renews, stores_text, unless_used, unsets_item}
 use Rattle.mod_history.specs.Renewal.{hashes_of, renewed}
 
 pub none_if : {A : Type 0} (o : Option A) → ((x : A) → o ≢ Some x) → o ≡ None
@@ -58,6 +60,10 @@ module _ (call : PlainCall) (user hash : List ℕ) (found : Option (List ℕ)) (
   no_token e = subst (λ (t : Option (List ℕ)). Yields returns.AuthtokErr (remembers call user hash t) s s) (sym e) (λ act known c end rest. rest)
 
   module _ (token : List ℕ) (is : found ≡ Some token) where
+    pub with_token : (code : Code) (new : Scene) → Yields code (remembers call user hash (Some token)) s new
+        → Yields code (remembers call user hash found) s new
+    with_token code new h = rw is h
+
     by_zero : (code : Code) (new : Scene) (none : Bool) → (remember_of call.args == 0) ≡ none → Yields code (unless_remember_zero none call (remember_of call.args) user hash token) s new → Yields code (remembers call user hash found) s new
     unfolding remembers
     by_zero code new none e h = subst (λ (t : Option (List ℕ)). Yields code (remembers call user hash t) s new) (sym is)
@@ -66,11 +72,16 @@ module _ (call : PlainCall) (user hash : List ℕ) (found : Option (List ℕ)) (
     pub not_remembered : (remember_of call.args == 0) ≡ true → Yields returns.Success (remembers call user hash found) s s
     not_remembered e = by_zero returns.Success s true e (λ act known c end rest. rest)
 
-    pub compared : (content : Content) (history : Option (List Remembered)) (code : Code) (mid new : Scene) → (remember_of call.args == 0) ≡ false → Yields content (reads_file history_name history_limit) s mid
-        → history ≡ history_in content → Yields code (compares_token call (remember_of call.args) user hash token history) mid new → Yields code (remembers call user hash found) s new
-    compared content history code mid new e read h done = by_zero code new false e
-        (λ act known c end rest. read (λ k. compares_token call (remember_of call.args) user hash token (history_in k) act) known c end
-        (subst (λ (o : Option (List Remembered)). Acts (compares_token call (remember_of call.args) user hash token o act) known mid c end) h (done act known c end rest)))
+    pub compared : {E : Type 0} (content : Content) (history : Option (List Remembered)) (r : Result Code E) (mid new : Scene)
+        → (remember_of call.args == 0) ≡ false → Yields content (reads_file history_name history_limit) s mid
+        → history ≡ history_in content
+        → IfOk r (λ code. Yields code (compares_token call (remember_of call.args) user hash token history) mid new)
+        → IfOk r (λ code. Yields code (remembers call user hash found) s new)
+    compared content history (Ok code) mid new e read h done = by_zero code new false e (λ act known c end rest.
+        read (λ k. compares_token call (remember_of call.args) user hash token (history_in k) act) known c end
+        (subst (λ (o : Option (List Remembered)). Acts (compares_token call (remember_of call.args) user hash token o act) known mid c end) h
+        (done act known c end rest)))
+    compared content history (Err e) mid new zero read h done = tt
 
 -- ---- with the history
 
@@ -93,9 +104,12 @@ module _ (seeing : (act : ℕ → Act) (known : Known) (s : Scene) (code : Code)
     pub had : (new : Scene) → true ≡ is_refused call.args s.process.caller token hash (hashes_of user history) → Yields returns.AuthtokErr refuses_token s new → Yields returns.AuthtokErr (compares_token call remember user hash token found) s new
     had new e h = by_comparison returns.AuthtokErr new true e h
 
-    pub had_not : (code : Code) (new : Scene) → false ≡ is_refused call.args s.process.caller token hash (hashes_of user history) → Yields code (locks_history call remember user hash token) s new
-        → Yields code (compares_token call remember user hash token found) s new
-    had_not code new e h = by_comparison code new false e h
+    pub had_not : {E : Type 0} (r : Result Code E) (new : Scene)
+        → false ≡ is_refused call.args s.process.caller token hash (hashes_of user history)
+        → IfOk r (λ code. Yields code (locks_history call remember user hash token) s new)
+        → IfOk r (λ code. Yields code (compares_token call remember user hash token found) s new)
+    had_not (Ok code) new e h = by_comparison code new false e h
+    had_not (Err fault) new e h = tt
 
     -- under the lock
     by_refusal : (done : Option Code) (new : Scene) (refused : Bool) → refused ≡ is_refused call.args s.process.caller token hash (hashes_of user history) → Yields done (stores_unless_used refused remember user hash history) s new
@@ -137,3 +151,18 @@ module _ (t u : Transaction) (conv : ConvState) (vault : VaultState) (clock : Cl
         code_is = rest.code_is ∙ ap (λ (p : Played). p.code) (sym stage);
         scene_is = rest.scene_is ∙ scene (act (stage_of known (scene_of_parts u conv vault clock process))) ∙ ap (λ (p : Played). with_played p (scene_of_parts t conv vault clock process)) (sym stage);
       }
+
+-- ---- the history is read again
+
+module _ (call : PlainCall) (remember : ℕ) (user hash token : List ℕ) (content : Content) (history : Option (List Remembered))
+    (process : Process) (old mid new : VaultState) where
+  pub read_again : {E : Type 0} (r : Result (Option Code) E)
+      → StepsTo (reads_file history_name history_limit) content process old mid → history ≡ history_in content
+      → IfOk r (λ done. StepsTo (remember_in_history call remember user hash token history) done process mid new)
+      → IfOk r (λ done. StepsTo (remember_locked call remember user hash token) done process old new)
+  unfolding remember_locked
+  read_again (Ok done) read is h = λ room clock act known code end rest.
+      read room clock (λ k. remember_in_history call remember user hash token (history_in k) act) known code end
+      (subst (λ (o : Option (List Remembered)). Acts (remember_in_history call remember user hash token o act) known
+      (scene_of room mid clock (plain_process process)) code end) is (h room clock act known code end rest))
+  read_again (Err e) read is h = tt

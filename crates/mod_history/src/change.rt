@@ -1,4 +1,4 @@
-ghost use Rattle.std.specs.Prelude.{◌≡◌, ◌≤◌, ◌<◌, IsTrue, IfOk, OnErr, IfSome, length};
+ghost use Rattle.std.specs.Prelude.{◌≡◌, ◌≤◌, ◌<◌, Some, IsTrue, IfOk, OnErr, length};
 ghost use Rattle.pam_outside.specs.Time.{ClockState};
 ghost use Rattle.pam_room.specs.Plain.{plain_call, plain_process};
 ghost use Rattle.module_acts.specs.Act.{Yields};
@@ -9,12 +9,13 @@ ghost use Rattle.mod_history.specs.Pwhistory.{compares_token, renew_if_known, ch
 use crate::arguments::remember_of;
 use crate::file::{HISTORY_LIMIT, HISTORY_NAME, history_in};
 use crate::history::{History, hashes_of};
+use crate::job::Job;
 use crate::locked::lock_history;
 use crate::refusal::{is_refused, refuse_token};
 use conv_port::Conv;
 use mod_unix::{KnownPassword, look_up, take_token};
 use module_acts::{Asked, laws, read_named, require_user, user_of};
-use pam_base::{Code, ConvErr, NoMemory, Refuse, Text};
+use pam_base::{Code, ConvErr, MAX_TEXT, NoMemory, Refuse, Text};
 use pam_outside::Vault;
 use pam_room::Transaction;
 
@@ -107,39 +108,42 @@ fn renew(
 {
     laws::talking();
     let token = take_token(asked.alloc, asked.call, transaction, conv)?;
-    let code = remember(asked, user, hash, token, transaction, conv, vault)?;
-    Ok(code)
+    let Some(token) = token else {
+        return Ok(Code::AuthtokErr);
+    };
+    let job = Job {
+        asked,
+        user,
+        hash,
+        token: token.bytes(),
+    };
+    Ok(remember(&job, transaction, conv, vault)?)
 }
 
-// Remembers the hash of the present token, if there is a new one that the user neither has nor had.
+// Remembers the hash of the present token, if the user neither has nor had the new one.
 fn remember(
-    asked: &Asked,
-    user: &[u8],
-    hash: &[u8],
-    token: Option<Text>,
+    job: &Job,
     transaction: &mut Transaction,
     conv: &mut dyn Conv,
     vault: &mut dyn Vault,
 ) -> Result<Code, NoMemory>
-    requires { IfSome token (λ t. length t ≤ 512) }
+    requires { length job.now.token.now ≤ MAX_TEXT }
     ensures conv_tells { conv_tells conv.new ≡ conv_tells conv.old }
     ensures vault_tells { vault_tells vault.new ≡ vault_tells vault.old }
     ensures err { IsTrue (vault_tells vault.old) →
         OnErr result ((vault_holds vault.new).files ≡ (vault_holds vault.old).files) }
     ensures told { IsTrue (conv_tells conv.old) → IsTrue (vault_tells vault.old) →
         (clock : ClockState) →
-        IfOk result (λ code. Yields code (remembers (plain_call asked.now.call.now) user.now
-        hash.now token)
+        IfOk result (λ code. Yields code (remembers (plain_call job.now.asked.now.call.now)
+        job.now.user.now job.now.hash.now (Some job.now.token.now))
         (scene_of_parts transaction.old (conv_holds conv.old) (vault_holds vault.old) clock
-        (plain_process asked.now.process.now))
+        (plain_process job.now.asked.now.process.now))
         (scene_of_parts transaction.new (conv_holds conv.new) (vault_holds vault.new) clock
-        (plain_process asked.now.process.now))) }
+        (plain_process job.now.asked.now.process.now))) }
     ensures talks { OnlyTalks transaction.old transaction.new }
 {
     laws::talking();
-    let Some(token) = token else {
-        return Ok(Code::AuthtokErr);
-    };
+    let asked = job.asked;
     if remember_of(asked.call) == 0 {
         return Ok(Code::Success);
     }
@@ -151,44 +155,32 @@ fn remember(
         HISTORY_LIMIT,
     )?;
     let history = history_in(asked.alloc, content)?;
-    let code = compare(
-        asked,
-        user,
-        hash,
-        token.bytes(),
-        history,
-        transaction,
-        conv,
-        vault,
-    )?;
-    Ok(code)
+    compare(job, history, transaction, conv, vault)
 }
 
 // Refuses the token if the history has it. This takes long, so nothing is locked meanwhile.
 fn compare(
-    asked: &Asked,
-    user: &[u8],
-    hash: &[u8],
-    token: &[u8],
+    job: &Job,
     history: Option<History>,
     transaction: &mut Transaction,
     conv: &mut dyn Conv,
     vault: &mut dyn Vault,
 ) -> Result<Code, NoMemory>
-    requires short { length token.now ≤ 512 }
-    requires remembers { 0 < remember_of asked.now.call.now.args.now }
+    requires short { length job.now.token.now ≤ MAX_TEXT }
+    requires remembers { 0 < remember_of job.now.asked.now.call.now.args.now }
     ensures conv_tells { conv_tells conv.new ≡ conv_tells conv.old }
     ensures vault_tells { vault_tells vault.new ≡ vault_tells vault.old }
     ensures err { IsTrue (vault_tells vault.old) →
         OnErr result ((vault_holds vault.new).files ≡ (vault_holds vault.old).files) }
     ensures told { IsTrue (conv_tells conv.old) → IsTrue (vault_tells vault.old) →
         (clock : ClockState) →
-        IfOk result (λ code. Yields code (compares_token (plain_call asked.now.call.now)
-        (remember_of asked.now.call.now.args.now) user.now hash.now token.now history)
+        IfOk result (λ code. Yields code (compares_token (plain_call job.now.asked.now.call.now)
+        (remember_of job.now.asked.now.call.now.args.now) job.now.user.now job.now.hash.now
+        job.now.token.now history)
         (scene_of_parts transaction.old (conv_holds conv.old) (vault_holds vault.old) clock
-        (plain_process asked.now.process.now))
+        (plain_process job.now.asked.now.process.now))
         (scene_of_parts transaction.new (conv_holds conv.new) (vault_holds vault.new) clock
-        (plain_process asked.now.process.now))) }
+        (plain_process job.now.asked.now.process.now))) }
     ensures talks { OnlyTalks transaction.old transaction.new }
 {
     laws::acting();
@@ -196,12 +188,10 @@ fn compare(
     let Some(history) = history else {
         return Ok(Code::AuthtokErr);
     };
-    let hashes = hashes_of(user, &history);
-    let refused = is_refused(asked.call, asked.process.caller, token, hash, hashes);
-    if refused {
-        refuse_token(asked.alloc, transaction, conv)?;
+    let hashes = hashes_of(job.user, &history);
+    if is_refused(job, hashes) {
+        refuse_token(job.asked.alloc, transaction, conv)?;
         return Ok(Code::AuthtokErr);
     }
-    let code = lock_history(asked, user, hash, token, hashes, transaction, conv, vault)?;
-    Ok(code)
+    lock_history(job, hashes, transaction, conv, vault)
 }

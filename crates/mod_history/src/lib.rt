@@ -8,6 +8,7 @@ mod change;
 mod distinct;
 mod file;
 mod history;
+mod job;
 pub mod laws;
 mod locked;
 mod pam_pwhistory;

@@ -9,11 +9,12 @@ ghost use Rattle.mod_history.specs.Pwhistory.{is_refused, locks_history, remembe
 use crate::arguments::remember_of;
 use crate::file::{HISTORY_LIMIT, HISTORY_NAME, history_in, store_text};
 use crate::history::{History, hashes_of};
+use crate::job::Job;
 use crate::refusal::{is_refused_now, refuse_token, unset_token};
 use crate::renewal::renewed_text;
 use conv_port::Conv;
-use module_acts::{Asked, hold_named, laws, read_named, release};
-use pam_base::{Code, NoMemory, Text};
+use module_acts::{hold_named, laws, read_named, release};
+use pam_base::{Code, MAX_TEXT, NoMemory, Text};
 use pam_outside::{LockKind, Vault};
 use pam_room::Transaction;
 
@@ -22,34 +23,34 @@ use pam_room::Transaction;
 /// the read to the replacement, as lckpwdf(3) locks them, and not while the user gets a message, so
 /// that nobody can hold the lock by not reading a terminal.
 pub(crate) fn lock_history(
-    asked: &Asked,
-    user: &[u8],
-    hash: &[u8],
-    token: &[u8],
+    job: &Job,
     earlier: &[Text],
     transaction: &mut Transaction,
     conv: &mut dyn Conv,
     vault: &mut dyn Vault,
 ) -> Result<Code, NoMemory>
-    requires short { length token.now ≤ 512 }
-    requires remembers { 0 < remember_of asked.now.call.now.args.now }
-    requires earlier { is_refused asked.now.call.now.args.now asked.now.process.now.caller
-        token.now hash.now earlier.now ≡ false }
+    requires short { length job.now.token.now ≤ MAX_TEXT }
+    requires remembers { 0 < remember_of job.now.asked.now.call.now.args.now }
+    requires earlier { is_refused job.now.asked.now.call.now.args.now
+        job.now.asked.now.process.now.caller job.now.token.now job.now.hash.now earlier.now
+        ≡ false }
     ensures conv_tells { conv_tells conv.new ≡ conv_tells conv.old }
     ensures vault_tells { vault_tells vault.new ≡ vault_tells vault.old }
     ensures err { IsTrue (vault_tells vault.old) →
         OnErr result ((vault_holds vault.new).files ≡ (vault_holds vault.old).files) }
     ensures told { IsTrue (conv_tells conv.old) → IsTrue (vault_tells vault.old) →
         (clock : ClockState) →
-        IfOk result (λ code. Yields code (locks_history (plain_call asked.now.call.now)
-        (remember_of asked.now.call.now.args.now) user.now hash.now token.now)
+        IfOk result (λ code. Yields code (locks_history (plain_call job.now.asked.now.call.now)
+        (remember_of job.now.asked.now.call.now.args.now) job.now.user.now job.now.hash.now
+        job.now.token.now)
         (scene_of_parts transaction.old (conv_holds conv.old) (vault_holds vault.old) clock
-        (plain_process asked.now.process.now))
+        (plain_process job.now.asked.now.process.now))
         (scene_of_parts transaction.new (conv_holds conv.new) (vault_holds vault.new) clock
-        (plain_process asked.now.process.now))) }
+        (plain_process job.now.asked.now.process.now))) }
     ensures talks { OnlyTalks transaction.old transaction.new }
 {
     laws::talking();
+    let asked = job.asked;
     let held = hold_named(
         asked.alloc,
         vault,
@@ -62,7 +63,7 @@ pub(crate) fn lock_history(
         unset_token(transaction);
         return Ok(Code::AuthtokErr);
     };
-    let done = remember_locked(asked, user, hash, token, earlier, vault)?;
+    let done = remember_locked(job, earlier, vault)?;
     release(vault, held);
     match done {
         Some(code) => Ok(code),
@@ -75,27 +76,27 @@ pub(crate) fn lock_history(
 
 // Reads the history again, and replaces it; None if the token has been used since.
 fn remember_locked(
-    asked: &Asked,
-    user: &[u8],
-    hash: &[u8],
-    token: &[u8],
+    job: &Job,
     earlier: &[Text],
     vault: &mut dyn Vault,
 ) -> Result<Option<Code>, NoMemory>
-    requires short { length token.now ≤ 512 }
-    requires remembers { 0 < remember_of asked.now.call.now.args.now }
-    requires earlier { is_refused asked.now.call.now.args.now asked.now.process.now.caller
-        token.now hash.now earlier.now ≡ false }
+    requires short { length job.now.token.now ≤ MAX_TEXT }
+    requires remembers { 0 < remember_of job.now.asked.now.call.now.args.now }
+    requires earlier { is_refused job.now.asked.now.call.now.args.now
+        job.now.asked.now.process.now.caller job.now.token.now job.now.hash.now earlier.now
+        ≡ false }
     ensures tells { vault_tells vault.new ≡ vault_tells vault.old }
     ensures err { IsTrue (vault_tells vault.old) →
         OnErr result ((vault_holds vault.new).files ≡ (vault_holds vault.old).files) }
     ensures none { IsTrue (vault_tells vault.old) → result ≡ Ok None →
         (vault_holds vault.new).files ≡ (vault_holds vault.old).files }
     ensures told { IsTrue (vault_tells vault.old) →
-        IfOk result (λ done. StepsTo (remember_locked (plain_call asked.now.call.now)
-        (remember_of asked.now.call.now.args.now) user.now hash.now token.now) done
-        asked.now.process.now (vault_holds vault.old) (vault_holds vault.new)) }
+        IfOk result (λ done. StepsTo (remember_locked (plain_call job.now.asked.now.call.now)
+        (remember_of job.now.asked.now.call.now.args.now) job.now.user.now job.now.hash.now
+        job.now.token.now) done job.now.asked.now.process.now (vault_holds vault.old)
+        (vault_holds vault.new)) }
 {
+    let asked = job.asked;
     let content = read_named(
         asked.alloc,
         vault,
@@ -104,51 +105,43 @@ fn remember_locked(
         HISTORY_LIMIT,
     )?;
     let history = history_in(asked.alloc, content)?;
-    let done = remember_in_history(asked, user, hash, token, earlier, history, vault)?;
-    Ok(done)
+    remember_in_history(job, earlier, history, vault)
 }
 
 // Continues with the history, unless it can't be read.
 fn remember_in_history(
-    asked: &Asked,
-    user: &[u8],
-    hash: &[u8],
-    token: &[u8],
+    job: &Job,
     earlier: &[Text],
     history: Option<History>,
     vault: &mut dyn Vault,
 ) -> Result<Option<Code>, NoMemory>
-    requires short { length token.now ≤ 512 }
-    requires remembers { 0 < remember_of asked.now.call.now.args.now }
-    requires earlier { is_refused asked.now.call.now.args.now asked.now.process.now.caller
-        token.now hash.now earlier.now ≡ false }
+    requires short { length job.now.token.now ≤ MAX_TEXT }
+    requires remembers { 0 < remember_of job.now.asked.now.call.now.args.now }
+    requires earlier { is_refused job.now.asked.now.call.now.args.now
+        job.now.asked.now.process.now.caller job.now.token.now job.now.hash.now earlier.now
+        ≡ false }
     ensures tells { vault_tells vault.new ≡ vault_tells vault.old }
     ensures err { IsTrue (vault_tells vault.old) →
         OnErr result ((vault_holds vault.new).files ≡ (vault_holds vault.old).files) }
     ensures none { IsTrue (vault_tells vault.old) → result ≡ Ok None →
         (vault_holds vault.new).files ≡ (vault_holds vault.old).files }
     ensures told { IsTrue (vault_tells vault.old) →
-        IfOk result (λ done. StepsTo (remember_in_history (plain_call asked.now.call.now)
-        (remember_of asked.now.call.now.args.now) user.now hash.now token.now history) done
-        asked.now.process.now (vault_holds vault.old) (vault_holds vault.new)) }
+        IfOk result (λ done. StepsTo (remember_in_history (plain_call job.now.asked.now.call.now)
+        (remember_of job.now.asked.now.call.now.args.now) job.now.user.now job.now.hash.now
+        job.now.token.now history) done job.now.asked.now.process.now (vault_holds vault.old)
+        (vault_holds vault.new)) }
 {
     laws::acting();
     let Some(history) = history else {
         return Ok(Some(Code::AuthtokErr));
     };
-    let hashes = hashes_of(user, &history);
-    let refused = is_refused_now(
-        asked.call,
-        asked.process.caller,
-        token,
-        hash,
-        earlier,
-        hashes,
-    );
-    if refused {
+    let hashes = hashes_of(job.user, &history);
+    if is_refused_now(job, earlier, hashes) {
         return Ok(None);
     }
-    let text = renewed_text(asked.alloc, remember_of(asked.call), user, hash, &history)?;
+    let asked = job.asked;
+    let remember = remember_of(asked.call);
+    let text = renewed_text(asked.alloc, remember, job.user, job.hash, &history)?;
     let code = store_text(asked.alloc, asked.process, vault, text.bytes())?;
     Ok(Some(code))
 }

@@ -11,61 +11,52 @@ ghost use Rattle.module_acts.specs.Returns.{scene_of_parts};
 ghost use Rattle.module_acts.specs.OnlyTalks.{OnlyTalks};
 ghost use Rattle.mod_history.specs.Pwhistory.{has_hash, is_enforced, is_refused, refuses_token, unsets_item, was_used};
 
+use crate::job::Job;
 use conv_port::Conv;
 use item_store::Items;
-use module_acts::{has_argument, show};
-use pam_base::{Code, ItemName, NoMemory, Refuse, Style, Text};
-use pam_room::{Call, Transaction};
+use module_acts::{Asked, has_argument, show};
+use pam_base::{Code, ItemName, MAX_TEXT, NoMemory, Refuse, Style, Text};
+use pam_room::Transaction;
 use sha_crypt::crypt;
 use std::alloc::Global;
 
 /// Whether a token is refused: the user has it or had it, and that matters for the caller. Nothing
 /// is allocated, here and below, so a token that was used can't come out as out of memory.
-pub(crate) fn is_refused(
-    call: &Call,
-    caller: u32,
-    token: &[u8],
-    hash: &[u8],
-    hashes: &[Text],
-) -> bool
-    requires { length token.now ≤ 512 }
-    ensures { result ≡ is_refused call.now.args.now caller token.now hash.now hashes.now }
+pub(crate) fn is_refused(job: &Job, hashes: &[Text]) -> bool
+    requires { length job.now.token.now ≤ MAX_TEXT }
+    ensures { result ≡ is_refused job.now.asked.now.call.now.args.now
+        job.now.asked.now.process.now.caller job.now.token.now job.now.hash.now hashes.now }
 {
-    is_enforced(call, caller) && was_used(token, hash, hashes)
+    is_enforced(job.asked) && was_used(job.token, job.hash, hashes)
 }
 
 /// The same, if by the user's earlier hashes it isn't refused: only hashes that are new are
 /// compared.
-pub(crate) fn is_refused_now(
-    call: &Call,
-    caller: u32,
-    token: &[u8],
-    hash: &[u8],
-    earlier: &[Text],
-    hashes: &[Text],
-) -> bool
-    requires short { length token.now ≤ 512 }
-    requires earlier { is_refused call.now.args.now caller token.now hash.now earlier.now
+pub(crate) fn is_refused_now(job: &Job, earlier: &[Text], hashes: &[Text]) -> bool
+    requires short { length job.now.token.now ≤ MAX_TEXT }
+    requires earlier { is_refused job.now.asked.now.call.now.args.now
+        job.now.asked.now.process.now.caller job.now.token.now job.now.hash.now earlier.now
         ≡ false }
-    ensures { result ≡ is_refused call.now.args.now caller token.now hash.now hashes.now }
+    ensures { result ≡ is_refused job.now.asked.now.call.now.args.now
+        job.now.asked.now.process.now.caller job.now.token.now job.now.hash.now hashes.now }
 {
-    if !is_enforced(call, caller) {
+    if !is_enforced(job.asked) {
         return false;
     }
-    has_new_hash(token, hash, earlier, hashes)
+    has_new_hash(job.token, job.hash, earlier, hashes)
 }
 
 // Whether root, too, may not use a password again.
-fn is_enforced(call: &Call, caller: u32) -> bool
-    ensures { result ≡ is_enforced call.now.args.now caller }
+fn is_enforced(asked: &Asked) -> bool
+    ensures { result ≡ is_enforced asked.now.call.now.args.now asked.now.process.now.caller }
 {
-    caller != 0 || has_argument(b"enforce_for_root", call.args)
+    asked.process.caller != 0 || has_argument(b"enforce_for_root", asked.call.args)
 }
 
 // Whether the user has the token or had it.
 #[tactic(auto, unfolding(crate::specs::Pwhistory::was_used))]
 fn was_used(token: &[u8], hash: &[u8], hashes: &[Text]) -> bool
-    requires { length token.now ≤ 512 }
+    requires { length token.now ≤ MAX_TEXT }
     ensures { result ≡ was_used token.now hash.now hashes.now }
 {
     if has_hash(token, hash) {
@@ -84,7 +75,7 @@ fn was_used(token: &[u8], hash: &[u8], hashes: &[Text]) -> bool
 // Whether the user had the token, who by the earlier hashes neither has it nor had it.
 #[tactic(auto, unfolding(crate::specs::Pwhistory::was_used))]
 fn has_new_hash(token: &[u8], hash: &[u8], earlier: &[Text], hashes: &[Text]) -> bool
-    requires short { length token.now ≤ 512 }
+    requires short { length token.now ≤ MAX_TEXT }
     requires earlier { was_used token.now hash.now earlier.now ≡ false }
     ensures { result ≡ was_used token.now hash.now hashes.now }
 {
@@ -100,7 +91,7 @@ fn has_new_hash(token: &[u8], hash: &[u8], earlier: &[Text], hashes: &[Text]) ->
 
 // Whether a hash is the token's. One of the earlier ones isn't.
 fn is_new_hash(token: &[u8], hash: &[u8], earlier: &[Text], other: &[u8]) -> bool
-    requires short { length token.now ≤ 512 }
+    requires short { length token.now ≤ MAX_TEXT }
     requires earlier { was_used token.now hash.now earlier.now ≡ false }
     ensures { result ≡ has_hash token.now other.now }
 {
@@ -121,7 +112,7 @@ fn is_among(hash: &[u8], hashes: &[Text]) -> bool
 
 // Whether the token's hash, under this one as the setting, is this one (`crypt(3)`).
 fn has_hash(token: &[u8], hash: &[u8]) -> bool
-    requires { length token.now ≤ 512 }
+    requires { length token.now ≤ MAX_TEXT }
     ensures { result ≡ has_hash token.now hash.now }
 {
     match crypt(hash, token) {

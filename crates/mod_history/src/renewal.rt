@@ -8,9 +8,9 @@ use mod_unix::is_locked;
 use pam_base::{NoMemory, Text};
 use std::alloc::Global;
 
-#[tactic(auto, unfolding(crate::specs::History::history_text))]
 /// The text of the history with the user's line renewed: this hash is added at its end, and the
 /// last n are kept.
+#[tactic(auto, unfolding(crate::specs::History::history_text))]
 pub(crate) fn renewed_text(
     alloc: Global,
     remember: u32,

@@ -57,8 +57,8 @@ fn counts(interval: u32, greatest: u64, failure: &Failure) -> bool
     greatest.saturating_sub(failure.moment) < u64::from(interval)
 }
 
-#[tactic(auto, unfolding(crate::specs::Tally::tally_text))]
 /// The text of a tally file with those of the failures that count.
+#[tactic(auto, unfolding(crate::specs::Tally::tally_text))]
 pub(crate) fn counting_text(
     alloc: Global,
     interval: u32,

@@ -51,8 +51,8 @@ fn is_printed(byte: u8) -> bool
     33 <= byte && byte <= 126
 }
 
-#[tactic(auto, unfolding(crate::specs::Source::unspelled))]
 /// The source that a word spells; None if it spells none.
+#[tactic(auto, unfolding(crate::specs::Source::unspelled))]
 pub(crate) fn unspelled(alloc: Global, word: &[u8]) -> Result<Option<Text>, NoMemory>
     ensures { IfOk result (λ source. source ≡ unspelled word.now) }
 {
@@ -77,8 +77,8 @@ struct Spelled<'a> {
     after: &'a [u8],
 }
 
-#[tactic(auto, unfolding(crate::specs::Source::unspelled))]
 // The byte that is spelled at the beginning of a word.
+#[tactic(auto, unfolding(crate::specs::Source::unspelled))]
 fn first_spelled(word: &[u8]) -> Option<Spelled<'_>>
     requires { 0 < length word.now }
     ensures shorter { IfSome result (λ s. length s.after.now < length word.now) }

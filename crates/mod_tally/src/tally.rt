@@ -40,8 +40,8 @@ pub fn failures(alloc: Global, text: &[u8]) -> Result<Failures, Refuse<Damaged>>
     read_failures(alloc, text)?.ok_or(Refuse::Named(Damaged))
 }
 
-#[tactic(auto, unfolding(crate::specs::Tally::failures_of))]
 /// The same; None if the text is damaged.
+#[tactic(auto, unfolding(crate::specs::Tally::failures_of))]
 pub(crate) fn read_failures(alloc: Global, text: &[u8]) -> Result<Option<Failures>, NoMemory>
     ensures { IfOk result (λ found. found ≡ failures_of text.now) }
 {

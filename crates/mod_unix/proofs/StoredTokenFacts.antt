@@ -1,5 +1,5 @@
 -- The second pass of a change.
-use Rattle.std.proofs.Common.{◌≡◌, ℕ, Bool, true, false, List, Option, Some, None, codes, Result, Ok, Err, sym, ap, ◌∙◌, subst}
+use Rattle.std.proofs.Common.{◌≡◌, ℕ, Bool, true, false, List, Option, Some, None, codes, Result, Ok, Err, IfOk, sym, ap, ◌∙◌, subst}
 use Rattle.pam_base.specs.declared.code.Code.{Code}
 use Rattle.pam_base.specs.declared.code.Code.TheVariants as returns
 use Rattle.pam_base.specs.declared.fault.ConvErr.{ConvErr}
@@ -11,19 +11,22 @@ use Rattle.item_store.specs.Items.{ItemTexts}
 use Rattle.pam_outside.specs.Time.{ClockState, Time, random_taken, time_of}
 use Rattle.pam_room.specs.Call.{PlainCall, has_flag, prelim_check}
 use Rattle.pam_outside.specs.Files.{VaultState}
+use Rattle.pam_room.specs.Plain.{plain_process}
+use Rattle.pam_room.specs.declared.process.Process.{Process}
 use Rattle.pam_room.specs.State.{PlainProcess, PlainRoom, Scene, scene_of}
 use Rattle.account_db.specs.declared.shadow.Shadow.{Shadow}
 use Rattle.module_acts.specs.declared.content.Content.{Content}
 use Rattle.module_acts.specs.Accounts.{Known, account_limit}
-use Rattle.module_acts.specs.Act.{Act, Acts, Yields, Reaches, draws_word, reads_file, replaces_file, sees_items}
+use Rattle.module_acts.specs.Act.{Act, Acts, Yields, Reaches, StepsTo, asks_user, draws_word, reads_file, replaces_file, sees_items}
 use Rattle.module_acts.specs.Returns.{Returns, Ends, early, then}
 use Rattle.module_acts.specs.Steps.{exchanges, sees_clock, sets_item}
 use Rattle.mod_unix.specs.declared.look.KnownPassword.{KnownPassword}
 use Rattle.mod_unix.specs.declared.look.KnownPassword.TheVariants.{Unknown, Unavailable, Plain, Shadowed}
 use Rattle.mod_unix.specs.Aging.{day_of}
+use Rattle.mod_unix.specs.Look.{looks}
 use Rattle.module_acts.specs.Arguments.{has_argument}
 use Rattle.mod_unix.specs.NewHash.{hashed_token}
-use Rattle.mod_unix.specs.Change.{change_by, authtok_or_asks, write_result, unless_token_is_kept, checks_or_changes, replaces_shadow, changed_shadow, changes_entry, changes_locked, changes_shadow, is_kept, new_prompts, same_reply, sets_new, stores_token, takes_token, tries_change, usable}
+use Rattle.mod_unix.specs.Change.{change_by, changes_token, authtok_or_asks, write_result, unless_token_is_kept, checks_or_changes, replaces_shadow, changed_shadow, changes_entry, changes_locked, changes_shadow, is_kept, new_prompts, same_reply, sets_new, stores_token, takes_token, tries_change, usable}
 
 -- ---- the new token
 
@@ -63,28 +66,39 @@ module _ (user hash : List ℕ) (today : ℕ) (content : Content) (s mid : Scene
       (subst (λ (x : Option (List ℕ)). Acts (replaces_shadow x act) known mid code end) e (d (λ b. act (write_result b)) known code end rest))
 
 -- a random word is taken for the salt
-module _ (seeing : (act : Time → Act) (known : Known) (s : Scene) (code : Code) (new : Scene) → Acts (act (time_of s.clock)) known s code new → Acts (sees_clock act) known s code new)
+module _ (seeing : (act : Time → Act) (known : Known) (s : Scene) (code : Code) (new : Scene)
+    → Acts (act (time_of s.clock)) known s code new → Acts (sees_clock act) known s code new)
     (drawing : (act : ℕ → Act) (known : Known) (room : PlainRoom) (vault : VaultState) (clock : ClockState) (process : PlainProcess) (code : Code) (new : Scene)
     → Acts (act clock.word) known (scene_of room vault (random_taken clock) process) code new → Acts (draws_word act) known (scene_of room vault clock process) code new)
-    (call : PlainCall) (user : List ℕ) (room : PlainRoom) (vault : VaultState) (clock : ClockState) (process : PlainProcess) (new : Scene)
-    (token : List ℕ) (today word : ℕ) (day : today ≡ day_of clock.moment) (random : word ≡ clock.word) where
-  pub made : (hash : List ℕ) (code : Code) → hash ≡ hashed_token call.args word token → Yields code (changes_shadow user hash today) (scene_of room vault (random_taken clock) process) new
-      → Yields code (stores_token call user (Some token)) (scene_of room vault clock process) new
+    (call : PlainCall) (user : List ℕ) (room : PlainRoom) (vault new : VaultState) (clock : ClockState) (process : Process)
+    (token : List ℕ) (today word : ℕ) (day : today ≡ day_of clock.moment) (random : word ≡ clock.word)
+    (hash : List ℕ) (is : hash ≡ hashed_token call.args word token) where
+  written : (code : Code) → StepsTo (changes_shadow user hash today) code process vault new
+      → Yields code (stores_token call user (Some token)) (scene_of room vault clock (plain_process process))
+      (scene_of room new (random_taken clock) (plain_process process))
   unfolding stores_token
-  made hash code e h = λ act known c end rest.
-      let before = scene_of room vault (random_taken clock) process in
-      let is : hash ≡ hashed_token call.args clock.word token = e ∙ ap (λ w. hashed_token call.args w token) random in
-      let written = subst (λ (m : List ℕ). Acts (changes_shadow user m (day_of clock.moment) act) known before c end) is (subst (λ t. Acts (changes_shadow user hash t act) known before c end) day (h act known c end rest)) in
-      seeing (λ time. draws_word (λ w. changes_shadow user (hashed_token call.args w token) (day_of time.moment) act)) known (scene_of room vault clock process) c end
-      (drawing (λ w. changes_shadow user (hashed_token call.args w token) (day_of clock.moment) act) known room vault clock process c end written)
+  written code h = λ act known c end rest.
+      let before = scene_of room vault (random_taken clock) (plain_process process) in
+      let made : hash ≡ hashed_token call.args clock.word token = is ∙ ap (λ w. hashed_token call.args w token) random in
+      let done = h room (random_taken clock) act known c end rest in
+      let changed = subst (λ (m : List ℕ). Acts (changes_shadow user m (day_of clock.moment) act) known before c end) made
+      (subst (λ t. Acts (changes_shadow user hash t act) known before c end) day done) in
+      seeing (λ time. draws_word (λ w. changes_shadow user (hashed_token call.args w token) (day_of time.moment) act)) known
+      (scene_of room vault clock (plain_process process)) c end
+      (drawing (λ w. changes_shadow user (hashed_token call.args w token) (day_of clock.moment) act) known room vault clock
+      (plain_process process) c end changed)
+
+  pub made : {E : Type 0} (r : Result Code E) (found : Option (List ℕ)) → found ≡ Some token
+      → IfOk r (λ code. StepsTo (changes_shadow user hash today) code process vault new)
+      → IfOk r (λ code. Yields code (stores_token call user found) (scene_of room vault clock (plain_process process))
+      (scene_of room new (random_taken clock) (plain_process process)))
+  made (Ok code) found some h = rw some (written code h)
+  made (Err e) found some h = tt
 
 module _ (seeing : (act : Time → Act) (known : Known) (s : Scene) (code : Code) (new : Scene) → Acts (act (time_of s.clock)) known s code new → Acts (sees_clock act) known s code new) (call : PlainCall) (user : List ℕ) (s new : Scene) where
   pub no_token : new ≡ s → (token : Option (List ℕ)) → token ≡ None → Yields returns.AuthtokErr (stores_token call user token) s new
   unfolding stores_token
   no_token same token e = rw (e, same) (λ act known code end rest. rest)
-
-  pub with_token : (found : Option (List ℕ)) (token : List ℕ) (code : Code) → found ≡ Some token → Yields code (stores_token call user (Some token)) s new → Yields code (stores_token call user found) s new
-  with_token found token code e h = subst (λ (x : Option (List ℕ)). Yields code (stores_token call user x) s new) (sym e) h
 
   -- ---- both passes
 
@@ -131,3 +145,12 @@ module _ (call : PlainCall) (user : List ℕ) (look : KnownPassword) (s : Scene)
   pub by_shadow : (entry : Shadow) (new : Scene) (r : Result Code (Refuse ConvErr)) → look ≡ Shadowed entry → Returns r (changes_entry call user entry) s new → Returns r (change_by call user look) s new
   unfolding change_by
   by_shadow entry new r e h = subst (λ (l : KnownPassword). Returns r (change_by call user l) s new) (sym e) h
+
+-- the user was asked for, and what is known of the password was looked up
+module _ (call : PlainCall) (user : List ℕ) (look : KnownPassword) (s mid after : Scene)
+    (asked : Yields user asks_user s mid) (found : Yields look (looks user) mid after) where
+  pub by_look : (r : Result Code (Refuse ConvErr)) (new : Scene) → Returns r (change_by call user look) after new
+      → Returns r (changes_token call) s new
+  unfolding changes_token
+  by_look r new h = then asks_user (λ user (act : Code → Act). looks user (λ look. change_by call user look act)) r user s mid new
+      asked (then (looks user) (λ look (act : Code → Act). change_by call user look act) r look mid after new found h)

@@ -8,13 +8,14 @@ ghost use Rattle.module_acts.specs.Arguments.{has_argument};
 ghost use Rattle.module_acts.specs.OnlyTalks.{OnlyTalks};
 ghost use Rattle.mod_unix.specs.Authenticate.{asks_password, authenticates, has_empty_hash, is_open, is_success, verifies_token};
 
+use crate::job::Job;
 use crate::look::{KnownPassword, look_up};
 use crate::verify::verify;
 use conv_port::Conv;
 use module_acts::{has_argument, laws, request_delay, require_token, require_user, user_of};
 use pam_base::{Code, ConvErr, DISALLOW_NULL_AUTHTOK, ItemName, Refuse};
 use pam_outside::Vault;
-use pam_room::{Call, Process, Transaction, get_item};
+use pam_room::{Call, Transaction, get_item};
 use std::alloc::Global;
 
 /// What authenticate returns.
@@ -29,10 +30,8 @@ pub(crate) enum Authenticated {
 /// the comparison allocates nothing, so a wrong password can't come out as out of memory. (With
 /// `try_first_pass` AUTHTOK is compared before the user is asked, which takes memory.)
 pub(crate) fn authenticate(
-    alloc: Global,
-    call: &Call,
+    job: &Job,
     transaction: &mut Transaction,
-    process: &Process,
     conv: &mut dyn Conv,
     vault: &mut dyn Vault,
 ) -> Result<Authenticated, Refuse<ConvErr>>
@@ -42,26 +41,26 @@ pub(crate) fn authenticate(
         (vault_holds vault.new).files ≡ (vault_holds vault.old).files }
     ensures told { IsTrue (conv_tells conv.old) → IsTrue (vault_tells vault.old) →
         (clock : ClockState) →
-        Returns result (authenticates (plain_call call.now))
+        Returns result (authenticates (plain_call job.now.call.now))
         (scene_of_parts transaction.old (conv_holds conv.old) (vault_holds vault.old) clock
-        (plain_process process.now))
+        (plain_process job.now.process.now))
         (scene_of_parts transaction.new (conv_holds conv.new) (vault_holds vault.new) clock
-        (plain_process process.now)) }
+        (plain_process job.now.process.now)) }
     ensures refused { transaction.old.items.user ≢ None →
         OnErr result (transaction.new.items ≡ transaction.old.items) }
     ensures talks { OnlyTalks transaction.old transaction.new }
 {
     laws::talking();
-    require_user(alloc, transaction, conv)?;
-    let look = look_up(alloc, vault, process, user_of(transaction))?;
-    if is_open(call, &look) {
+    require_user(job.alloc, transaction, conv)?;
+    let look = look_up(job.alloc, vault, job.process, user_of(transaction))?;
+    if is_open(job.call, &look) {
         return Ok(Authenticated::Kept(Code::Success));
     }
-    if has_argument(b"nodelay", call.args) {
-        return verify_token(alloc, call, &look, transaction, conv);
+    if has_argument(b"nodelay", job.call.args) {
+        return verify_token(job, &look, transaction, conv);
     }
     request_delay(transaction, 2_000_000);
-    verify_token(alloc, call, &look, transaction, conv)
+    verify_token(job, &look, transaction, conv)
 }
 
 // Whether a user without a password is let in.
@@ -85,8 +84,7 @@ fn has_empty_hash(look: &KnownPassword) -> bool
 
 // Verifies the token of an earlier module, or one that it asks for.
 fn verify_token(
-    alloc: Global,
-    call: &Call,
+    job: &Job,
     look: &KnownPassword,
     transaction: &mut Transaction,
     conv: &mut dyn Conv,
@@ -94,33 +92,33 @@ fn verify_token(
     ensures tells { conv_tells conv.new ≡ conv_tells conv.old }
     ensures told { IsTrue (conv_tells conv.old) →
         (vault : VaultState) (clock : ClockState) (process : PlainProcess) →
-        Returns result (verifies_token (plain_call call.now) look.now)
+        Returns result (verifies_token (plain_call job.now.call.now) look.now)
         (scene_of_parts transaction.old (conv_holds conv.old) vault clock process)
         (scene_of_parts transaction.new (conv_holds conv.new) vault clock process) }
-    ensures first { IsTrue (has_argument (codes "use_first_pass") call.now.args.now) →
+    ensures first { IsTrue (has_argument (codes "use_first_pass") job.now.call.now.args.now) →
         IsOk result }
     ensures refused { OnErr result (transaction.new.items ≡ transaction.old.items) }
     ensures talks { OnlyTalks transaction.old transaction.new }
 {
     module_acts::laws::act_steps();
     laws::talking();
-    if has_argument(b"use_first_pass", call.args) {
+    if has_argument(b"use_first_pass", job.call.args) {
         return match get_item(&transaction.items, ItemName::AuthTok) {
             Some(token) => Ok(Authenticated::Kept(verify(look, token))),
             None => Ok(Authenticated::Unkept(Code::AuthErr)),
         };
     }
-    if !has_argument(b"try_first_pass", call.args) {
-        return ask_password(alloc, look, transaction, conv);
+    if !has_argument(b"try_first_pass", job.call.args) {
+        return ask_password(job.alloc, look, transaction, conv);
     }
     let code = match get_item(&transaction.items, ItemName::AuthTok) {
         Some(token) => verify(look, token),
-        None => return ask_password(alloc, look, transaction, conv),
+        None => return ask_password(job.alloc, look, transaction, conv),
     };
     if is_success(code) {
         return Ok(Authenticated::Kept(Code::Success));
     }
-    ask_password(alloc, look, transaction, conv)
+    ask_password(job.alloc, look, transaction, conv)
 }
 
 fn is_success(code: Code) -> bool

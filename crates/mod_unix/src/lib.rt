@@ -6,6 +6,7 @@ mod account;
 mod aging;
 mod authenticate;
 mod change;
+mod job;
 pub mod laws;
 mod look;
 mod new_hash;

@@ -13,9 +13,9 @@ ghost use Rattle.mod_unix.specs.Authenticate.{keeps_for_setcred};
 ghost use Rattle.mod_unix.specs.Unix.{code_in, kept_code, payload_named, unix_plays};
 
 use crate::account::check_account;
-use crate::aging::day_of;
 use crate::authenticate::{Authenticated, authenticate};
 use crate::change::change_token;
+use crate::job::Job;
 use conv_port::Conv;
 use data_cleanup::{DataList, Datum, Receipt};
 use module_acts::{answer_and_keep, code_or_conv_err, laws};
@@ -66,29 +66,21 @@ impl Module for Unix {
         laws::acting();
         laws::talking();
         pam_room::laws::files_stay();
+        let job = Job {
+            alloc,
+            call,
+            process: &*process,
+            moment,
+        };
         match call.func {
             Func::Authenticate => {
-                let answer = authenticate(alloc, call, transaction, process, conv, vault);
+                let answer = authenticate(&job, transaction, conv, vault);
                 keep_for_setcred(alloc, transaction, process, answer)
             }
             Func::SetCred => Ok(kept_code(&transaction.datums)),
-            Func::AcctMgmt => {
-                let answer = check_account(alloc, transaction, process, conv, vault, moment);
-                code_or_conv_err(answer)
-            }
+            Func::AcctMgmt => code_or_conv_err(check_account(&job, transaction, conv, vault)),
             Func::ChAuthTok => {
-                let today = day_of(moment);
-                let answer = change_token(
-                    alloc,
-                    call,
-                    today,
-                    transaction,
-                    process,
-                    conv,
-                    vault,
-                    clock,
-                );
-                code_or_conv_err(answer)
+                code_or_conv_err(change_token(&job, transaction, conv, vault, clock))
             }
             Func::OpenSession => Ok(Code::Success),
             Func::CloseSession => Ok(Code::Success),

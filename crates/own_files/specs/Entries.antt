@@ -1,5 +1,5 @@
 -- Which lines have the form of an entry of shadow(5), whatever the path of their file (this project's own).
-use Rattle.std.specs.Prelude.{ℕ, ◌+◌, ◌==◌, Bool, true, false, ◌&&◌, ◌||◌, List, [], ◌∷◌, nat_le, nat_lt}
+use Rattle.std.specs.Prelude.{ℕ, ◌+◌, ◌==◌, Bool, ◌&&◌, ◌||◌, List, [], ◌∷◌, nat_le, nat_lt}
 use Rattle.std.specs.List.{list_all, list_any}
 use Rattle.pam_base.specs.Lines.{lines_of}
 use Rattle.pam_base.specs.Parts.{parts_of}

@@ -1,5 +1,5 @@
 -- A user's own lines of a shadow file (shadow(5)).
-use Rattle.std.specs.Prelude.{◌≡◌, ℕ, Bool, false, if◌then◌else◌, List, [], ◌∷◌, ◌++◌}
+use Rattle.std.specs.Prelude.{ℕ, Bool, false, if◌then◌else◌, List, [], ◌∷◌, ◌++◌}
 use Rattle.std.specs.Str.{bytes_eq}
 use Rattle.pam_base.specs.Lines.{lines_of}
 use Rattle.pam_base.specs.Parts.{parts_of}

@@ -1,13 +1,13 @@
-ghost use Rattle.std.specs.Prelude.{◌≡◌, ◌≢◌, ◌≤◌, ℕ, List, Some, false, true, length, IsTrue, IfOk, OnOk, Err};
+ghost use Rattle.std.specs.Prelude.{◌≡◌, ◌≢◌, ◌≤◌, false, true, length, IsTrue, IfOk, Err};
 ghost use Rattle.pam_outside.specs.Counts.{Rose, next_count};
-ghost use Rattle.pam_outside.specs.Files.{ReadsFile, TellsDirectory, Replaces, TakesLock, counted, file_at, unlocked};
+ghost use Rattle.pam_outside.specs.Files.{TellsDirectory, counted};
 ghost use Rattle.own_files.specs.Own.{IsOwn, IsShown, IsUnchanged, ReadsOther, ReadsOwn, ReadsShown, files_for};
 ghost use Rattle.own_files.specs.Entries.{has_entry};
 
 use crate::entries::has_entry;
 use crate::lines::own_lines;
 use crate::paths::{is_of_shadow, is_shadow};
-use pam_base::{NoMemory, Text};
+use pam_base::Text;
 use pam_outside::{Held, LockKind, ReplaceFault, Vault, VaultFault};
 use std::alloc::Global;
 use std::marker::Model;
@@ -125,10 +125,7 @@ fn own_part<V: Vault>(
         V.vault_holds inner.new ≡ counted (V.vault_holds inner.old) }
 {
     let whole = inner.read(alloc, path, limit)?;
-    let own = match own_lines(alloc, user, whole.bytes()) {
-        Ok(own) => own,
-        Err(NoMemory) => return Err(VaultFault::NoMemory),
-    };
+    let own = own_lines(alloc, user, whole.bytes())?;
     if own.len() > limit as usize {
         return Err(VaultFault::TooLong);
     }
@@ -148,21 +145,9 @@ impl<V: Vault> Vault for OwnFiles<V> {
     /// the shadow file, and as the store below returns it.
     fn read(&mut self, alloc: Global, path: &[u8], limit: u32) -> Result<Text, VaultFault>
         ensures bound { IfOk result (λ text. length text ≤ limit) }
-        ensures tells { ⟦<OwnFiles<V> as Vault>⟧.vault_tells self.new ≡
-            ⟦<OwnFiles<V> as Vault>⟧.vault_tells self.old }
-        ensures told { IsTrue (⟦<OwnFiles<V> as Vault>⟧.vault_tells self.old) →
-            ReadsFile result path.now limit (⟦<OwnFiles<V> as Vault>⟧.vault_holds self.old) }
-        ensures counts { IsTrue (⟦<OwnFiles<V> as Vault>⟧.vault_tells self.old) →
-            ⟦<OwnFiles<V> as Vault>⟧.vault_holds self.new ≡ counted
-            (⟦<OwnFiles<V> as Vault>⟧.vault_holds self.old) }
-        ensures faults { ⟦<OwnFiles<V> as Vault>⟧.vault_faults self.old ≤
-            ⟦<OwnFiles<V> as Vault>⟧.vault_faults self.new }
-        ensures failed { result ≡ Err VaultFault.Failed →
-            Rose (⟦<OwnFiles<V> as Vault>⟧.vault_faults self.old)
-            (⟦<OwnFiles<V> as Vault>⟧.vault_faults self.new) }
-        ensures no_fault { result ≢ Err VaultFault.Failed →
-            ⟦<OwnFiles<V> as Vault>⟧.vault_faults self.new ≡
-            ⟦<OwnFiles<V> as Vault>⟧.vault_faults self.old }
+        ensures faults { self.old.faults ≤ self.new.faults }
+        ensures failed { result ≡ Err VaultFault.Failed → Rose self.old.faults self.new.faults }
+        ensures no_fault { result ≢ Err VaultFault.Failed → self.new.faults ≡ self.old.faults }
         ensures user { self.new.user ≡ self.old.user }
         ensures begun { self.new.begun ≡ self.old.begun }
         ensures shown { IfOk result (λ text. IsShown self.old.user path.now text) }
@@ -180,21 +165,9 @@ impl<V: Vault> Vault for OwnFiles<V> {
 
     /// As the store below says.
     fn folder(&mut self, alloc: Global, path: &[u8]) -> Result<bool, ReplaceFault>
-        ensures tells { ⟦<OwnFiles<V> as Vault>⟧.vault_tells self.new ≡
-            ⟦<OwnFiles<V> as Vault>⟧.vault_tells self.old }
-        ensures told { IsTrue (⟦<OwnFiles<V> as Vault>⟧.vault_tells self.old) →
-            TellsDirectory result path.now (⟦<OwnFiles<V> as Vault>⟧.vault_holds self.old) }
-        ensures counts { IsTrue (⟦<OwnFiles<V> as Vault>⟧.vault_tells self.old) →
-            ⟦<OwnFiles<V> as Vault>⟧.vault_holds self.new ≡ counted
-            (⟦<OwnFiles<V> as Vault>⟧.vault_holds self.old) }
-        ensures faults { ⟦<OwnFiles<V> as Vault>⟧.vault_faults self.old ≤
-            ⟦<OwnFiles<V> as Vault>⟧.vault_faults self.new }
-        ensures failed { result ≡ Err ReplaceFault.Failed →
-            Rose (⟦<OwnFiles<V> as Vault>⟧.vault_faults self.old)
-            (⟦<OwnFiles<V> as Vault>⟧.vault_faults self.new) }
-        ensures no_fault { result ≢ Err ReplaceFault.Failed →
-            ⟦<OwnFiles<V> as Vault>⟧.vault_faults self.new ≡
-            ⟦<OwnFiles<V> as Vault>⟧.vault_faults self.old }
+        ensures faults { self.old.faults ≤ self.new.faults }
+        ensures failed { result ≡ Err ReplaceFault.Failed → Rose self.old.faults self.new.faults }
+        ensures no_fault { result ≢ Err ReplaceFault.Failed → self.new.faults ≡ self.old.faults }
         ensures user { self.new.user ≡ self.old.user }
         ensures begun { self.new.begun ≡ self.old.begun }
         ensures shows { IsTrue (V.vault_tells self.old.inner) →
@@ -211,27 +184,7 @@ impl<V: Vault> Vault for OwnFiles<V> {
 
     /// Failed is returned, and the store below isn't called.
     fn replace(&mut self, _alloc: Global, _path: &[u8], _bytes: &[u8]) -> Result<(), ReplaceFault>
-        ensures tells { ⟦<OwnFiles<V> as Vault>⟧.vault_tells self.new ≡
-            ⟦<OwnFiles<V> as Vault>⟧.vault_tells self.old }
-        ensures told { IsTrue (⟦<OwnFiles<V> as Vault>⟧.vault_tells self.old) →
-            Replaces result _path.now _bytes.now (⟦<OwnFiles<V> as Vault>⟧.vault_holds self.old)
-            (⟦<OwnFiles<V> as Vault>⟧.vault_holds self.new) }
-        ensures found { IsTrue (⟦<OwnFiles<V> as Vault>⟧.vault_tells self.old) →
-            OnOk result
-            (file_at _path.now
-            (⟦<OwnFiles<V> as Vault>⟧.vault_holds self.new).files ≡ Some _bytes.now) }
-        ensures others { IsTrue (⟦<OwnFiles<V> as Vault>⟧.vault_tells self.old) →
-            (other : List ℕ) → other ≢ _path.now →
-            file_at other (⟦<OwnFiles<V> as Vault>⟧.vault_holds self.new).files ≡ file_at other
-            (⟦<OwnFiles<V> as Vault>⟧.vault_holds self.old).files }
-        ensures faults { ⟦<OwnFiles<V> as Vault>⟧.vault_faults self.old ≤
-            ⟦<OwnFiles<V> as Vault>⟧.vault_faults self.new }
-        ensures failed { result ≡ Err ReplaceFault.Failed →
-            Rose (⟦<OwnFiles<V> as Vault>⟧.vault_faults self.old)
-            (⟦<OwnFiles<V> as Vault>⟧.vault_faults self.new) }
-        ensures no_fault { result ≢ Err ReplaceFault.Failed →
-            ⟦<OwnFiles<V> as Vault>⟧.vault_faults self.new ≡
-            ⟦<OwnFiles<V> as Vault>⟧.vault_faults self.old }
+        ensures faults { self.old.faults ≤ self.new.faults }
         ensures refused { result ≡ Err ReplaceFault.Failed }
         ensures untouched { self.new ≡ record self.old { faults = next_count self.old.faults } }
     {
@@ -242,19 +195,7 @@ impl<V: Vault> Vault for OwnFiles<V> {
     /// Failed is returned, and the store below isn't called: a lock would be a file that is made, and would keep others out.
     fn hold(&mut self, _alloc: Global, _path: &[u8], _kind: LockKind) -> Result<Held, ReplaceFault>
         ensures held { IfOk result (λ held. held ≡ true) }
-        ensures tells { ⟦<OwnFiles<V> as Vault>⟧.vault_tells self.new ≡
-            ⟦<OwnFiles<V> as Vault>⟧.vault_tells self.old }
-        ensures told { IsTrue (⟦<OwnFiles<V> as Vault>⟧.vault_tells self.old) →
-            TakesLock result _path.now _kind (⟦<OwnFiles<V> as Vault>⟧.vault_holds self.old)
-            (⟦<OwnFiles<V> as Vault>⟧.vault_holds self.new) }
-        ensures faults { ⟦<OwnFiles<V> as Vault>⟧.vault_faults self.old ≤
-            ⟦<OwnFiles<V> as Vault>⟧.vault_faults self.new }
-        ensures failed { result ≡ Err ReplaceFault.Failed →
-            Rose (⟦<OwnFiles<V> as Vault>⟧.vault_faults self.old)
-            (⟦<OwnFiles<V> as Vault>⟧.vault_faults self.new) }
-        ensures no_fault { result ≢ Err ReplaceFault.Failed →
-            ⟦<OwnFiles<V> as Vault>⟧.vault_faults self.new ≡
-            ⟦<OwnFiles<V> as Vault>⟧.vault_faults self.old }
+        ensures faults { self.old.faults ≤ self.new.faults }
         ensures refused { result ≡ Err ReplaceFault.Failed }
         ensures untouched { self.new ≡ record self.old { faults = next_count self.old.faults } }
     {
@@ -264,13 +205,6 @@ impl<V: Vault> Vault for OwnFiles<V> {
 
     /// Nothing happens, since no lock was taken here.
     fn let_go(&mut self, _held: Held)
-        ensures tells { ⟦<OwnFiles<V> as Vault>⟧.vault_tells self.new ≡
-            ⟦<OwnFiles<V> as Vault>⟧.vault_tells self.old }
-        ensures told { IsTrue (⟦<OwnFiles<V> as Vault>⟧.vault_tells self.old) →
-            ⟦<OwnFiles<V> as Vault>⟧.vault_holds self.new ≡
-            unlocked _held (⟦<OwnFiles<V> as Vault>⟧.vault_holds self.old) }
-        ensures faults { ⟦<OwnFiles<V> as Vault>⟧.vault_faults self.new ≡
-            ⟦<OwnFiles<V> as Vault>⟧.vault_faults self.old }
         ensures untouched { self.new ≡ self.old }
     {}
 }

@@ -25,12 +25,7 @@ same_went {T} c d f g s t code past_end state = ap (λ (x : Code). went x f s) c
 -- what is held after the first pass of a call
 held_is : {T : Type 0} (func : Func) (p : calls.Passed T) (h : Held)
     → held_past func None p h ≡ held (authenticated_with func p.kept h.authenticated) (opened_with func p.kept h.opened) (pending_after func None p.paused)
-held_is Authenticate p h = refl
-held_is SetCred p h = refl
-held_is AcctMgmt p h = refl
-held_is OpenSession p h = refl
-held_is CloseSession p h = refl
-held_is ChAuthTok p h = refl
+held_is func p h = refl
 
 went_first : {T : Type 0} (func : Func) (p : calls.Passed T) (h : Held) (code : Code) (kept : Option KeptAnswers) (paused : Option (List Code)) (t : T) → PassesTo p code kept paused t
     → went p.code (held_past func None p h) p.state ≡ went code (held (authenticated_with func kept h.authenticated) (opened_with func kept h.opened) (pending_after func None paused)) t
@@ -61,12 +56,7 @@ module _ {State : Type 0} (asking : Asking State) (stacks : Stacks) where
       → calls.first_pass asking stacks func past h s
       ≡ passed_by (kind_of func (first_kept func h)) (first_kept func h)
       (pass_after (kind_of func (first_kept func h)) (answers_held (first_kept func h)) (asking func false) (stack_at stacks (stack_type func)) past s)
-  first_is Authenticate past h s = refl
-  first_is SetCred past h s = refl
-  first_is AcctMgmt past h s = refl
-  first_is OpenSession past h s = refl
-  first_is CloseSession past h s = refl
-  first_is ChAuthTok past h s = refl
+  first_is func past h s = refl
 
   pub first_passes : (func : Func) (past : List Code) (h : Held) (s t : State) (code : Code) (kept : Option KeptAnswers) (paused : Option (List Code))
       → PassesTo (passed_by (kind_of func (first_kept func h)) (first_kept func h)
@@ -93,15 +83,11 @@ module _ {State : Type 0} (asking : Asking State) (stacks : Stacks) where
       → is_second func first ≡ false → is_followed func code ≡ false → PassesTo (calls.first_pass asking stacks func past h s) code kept paused t
       → calls.call_after asking stacks func past (kept_answers first) h s
       ≡ went code (held (authenticated_with func kept h.authenticated) (opened_with func kept h.opened) (pending_after func None paused)) t
-  goes_once Authenticate past first h s t code kept paused begins last e = went_first Authenticate (calls.first_pass asking stacks Authenticate past h s) h code kept paused t e
-  goes_once SetCred past first h s t code kept paused begins last e = went_first SetCred (calls.first_pass asking stacks SetCred past h s) h code kept paused t e
-  goes_once AcctMgmt past first h s t code kept paused begins last e = went_first AcctMgmt (calls.first_pass asking stacks AcctMgmt past h s) h code kept paused t e
-  goes_once OpenSession past first h s t code kept paused begins last e = went_first OpenSession (calls.first_pass asking stacks OpenSession past h s) h code kept paused t e
-  goes_once CloseSession past first h s t code kept paused begins last e = went_first CloseSession (calls.first_pass asking stacks CloseSession past h s) h code kept paused t e
   goes_once ChAuthTok past (Some cells) h s t code kept paused begins last e = absurd (false_true (sym begins))
   goes_once ChAuthTok past None h s t code kept paused begins last e =
       checked_as h (calls.first_pass asking stacks ChAuthTok past h s) code kept paused t e
       ∙ past_other code kept (held h.authenticated h.opened (pending_after ChAuthTok None paused)) t last
+  goes_once func past first h s t code kept paused begins last e = went_first func (calls.first_pass asking stacks func past h s) h code kept paused t e
 
   went_second : (first : Option KeptAnswers) (past : List Code) (h : Held) (s t : State) (code : Code) (later : Option KeptAnswers) (paused : Option (List Code))
       → PassesTo (calls.second_pass asking stacks first past s) code later paused t

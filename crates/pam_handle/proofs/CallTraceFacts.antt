@@ -82,13 +82,9 @@ trail_twice (Ok last) stacks func past first h before middle after code kept lat
 -- once the codes of a pending call are taken out, that it was pending doesn't matter any more
 aside : {State : Type 0} (asking : Asking State) (stacks : Stacks) (func : Func) (past : List Code) (first : Option KeptAnswers) (authenticated opened : Option KeptAnswers) (p q : Option Pending) (s : State)
     → calls.call_after asking stacks func past first (held authenticated opened p) s ≡ calls.call_after asking stacks func past first (held authenticated opened q) s
-aside asking stacks Authenticate past first authenticated opened p q s = refl
-aside asking stacks SetCred past first authenticated opened p q s = refl
-aside asking stacks AcctMgmt past first authenticated opened p q s = refl
-aside asking stacks OpenSession past first authenticated opened p q s = refl
-aside asking stacks CloseSession past first authenticated opened p q s = refl
 aside asking stacks ChAuthTok past None authenticated opened p q s = refl
 aside asking stacks ChAuthTok past (Some first) authenticated opened p q s = refl
+aside asking stacks func past first authenticated opened p q s = refl
 
 pub goes_after : {State : Type 0} (asking : Asking State) (stacks : Stacks) (func : Func) (given : List Code) (first : Option KeptAnswers) (q : Option Pending) (h : PlainHandle) (s : State)
     → given ≡ past_in h.pending → first ≡ first_in h.pending

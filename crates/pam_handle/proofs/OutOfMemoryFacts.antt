@@ -40,11 +40,7 @@ once : (func : Func) (flags : ℕ) (first : Answers) (past : List Code) (p : Pas
 once ChAuthTok flags (Some cells) past p begins s = absurd (false_true (sym begins))
 once ChAuthTok flags None past p begins (inl u) = inl u
 once ChAuthTok flags None past p begins (inr t) = inr (inl t)
-once Authenticate flags first past p begins s = s
-once SetCred flags first past p begins s = s
-once AcctMgmt flags first past p begins s = s
-once OpenSession flags first past p begins s = s
-once CloseSession flags first past p begins s = s
+once func flags first past p begins s = s
 
 pub stops_once : (result : Result Code NoMemory) (func : Func) (flags : ℕ) (first : Answers) (past : List Code) (p : Passing)
     → is_second func first ≡ false → OnErr result (FirstStops func flags past p) → OnErr result (StopsIn func flags (kept_answers first) past p)

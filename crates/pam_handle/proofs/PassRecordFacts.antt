@@ -40,14 +40,10 @@ over old new handle_is_kept world_is_kept nap_is_kept = record
 
 -- ---- what is cached
 
-pub kept_of : (func : Func) (authenticated opened : Answers) (pending : Option Pending)
-    → kept_answers (cached_of func authenticated opened None) ≡ first_kept func (held (kept_answers authenticated) (kept_answers opened) pending)
-kept_of Authenticate authenticated opened pending = refl
-kept_of SetCred authenticated opened pending = refl
-kept_of AcctMgmt authenticated opened pending = refl
-kept_of OpenSession authenticated opened pending = refl
-kept_of CloseSession authenticated opened pending = refl
-kept_of ChAuthTok authenticated opened pending = refl
+pub kept_of : (func : Func) (authenticated opened : Answers)
+    → kept_answers (cached_of func authenticated opened None) ≡ cached_of func (kept_answers authenticated) (kept_answers opened) None
+kept_of Authenticate authenticated opened = refl
+kept_of func authenticated opened = refl
 
 -- the cached codes that were swapped in before the first pass and out after it
 with_authenticated : (h mid : PlainHandle) (room : PlainRoom) (before cached : Option KeptAnswers) → mid ≡ in_room room (record h { authenticated = before })
@@ -79,18 +75,12 @@ swapped ChAuthTok h mid room a o c d start kept ea eo ec ed e = rw (← ec, ← 
 leaves_authenticated : (func : Func) (cached old : Option KeptAnswers) → LeavesAuthenticated func old (authenticated_with func cached old)
 leaves_authenticated Authenticate cached old = tt
 leaves_authenticated SetCred cached old = tt
-leaves_authenticated AcctMgmt cached old = refl
-leaves_authenticated OpenSession cached old = refl
-leaves_authenticated CloseSession cached old = refl
-leaves_authenticated ChAuthTok cached old = refl
+leaves_authenticated func cached old = refl
 
 leaves_opened : (func : Func) (cached old : Option KeptAnswers) → LeavesOpened func old (opened_with func cached old)
-leaves_opened Authenticate cached old = refl
-leaves_opened SetCred cached old = refl
-leaves_opened AcctMgmt cached old = refl
 leaves_opened OpenSession cached old = tt
 leaves_opened CloseSession cached old = tt
-leaves_opened ChAuthTok cached old = refl
+leaves_opened func cached old = refl
 
 -- a pass that uses cached return codes, if there are any, leaves them if memory runs out
 followed_failed : (cells kept : Answers) → kept ≡ kept_failed (following (kept_answers cells)) cells → kept_answers kept ≡ kept_answers cells
@@ -102,20 +92,14 @@ authenticated_after : (func : Func) (h : Held) (cells kept : Answers) → kept_a
     → authenticated_with func (kept_answers kept) h.authenticated ≡ authenticated_failed func h.authenticated
 authenticated_after Authenticate h cells kept own e = ap kept_answers e
 authenticated_after SetCred h cells kept own e = followed_failed cells kept e ∙ own
-authenticated_after AcctMgmt h cells kept own e = refl
-authenticated_after OpenSession h cells kept own e = refl
-authenticated_after CloseSession h cells kept own e = refl
-authenticated_after ChAuthTok h cells kept own e = refl
+authenticated_after func h cells kept own e = refl
 
 opened_after : (func : Func) (h : Held) (cells kept : Answers) → kept_answers cells ≡ first_kept func h
     → kept ≡ kept_failed (kind_of func (kept_answers cells)) cells
     → opened_with func (kept_answers kept) h.opened ≡ opened_failed func h.opened
-opened_after Authenticate h cells kept own e = refl
-opened_after SetCred h cells kept own e = refl
-opened_after AcctMgmt h cells kept own e = refl
 opened_after OpenSession h cells kept own e = ap kept_answers e
 opened_after CloseSession h cells kept own e = followed_failed cells kept e ∙ own
-opened_after ChAuthTok h cells kept own e = refl
+opened_after func h cells kept own e = refl
 
 -- ---- the first pass alone
 

@@ -39,11 +39,7 @@ room_end func paused r = request_after paused (room_with (items_after func pause
 
 pub room_start : (func : Func) (h : PlainHandle) (items : ItemTexts) → items ≡ items_before func h.pending h.room.transaction.items → room_with items h.room ≡ room_begun func h
 room_start Authenticate h items e = ap (λ (i : ItemTexts). room_with i h.room) e
-room_start SetCred h items e = ap (λ (i : ItemTexts). room_with i h.room) e
-room_start AcctMgmt h items e = ap (λ (i : ItemTexts). room_with i h.room) e
-room_start OpenSession h items e = ap (λ (i : ItemTexts). room_with i h.room) e
-room_start CloseSession h items e = ap (λ (i : ItemTexts). room_with i h.room) e
-room_start ChAuthTok h items e = ap (λ (i : ItemTexts). room_with i h.room) e
+room_start func h items e = ap (λ (i : ItemTexts). room_with i h.room) e
 
 -- ---- a call is what its passes give, and what it does after them
 
@@ -160,12 +156,8 @@ module _ (players : List Player) (number : Code → ℕ → ℕ) (flags : ℕ) w
   aborts (Some p) func aborted begins again e = unless (same_func p.func func) _ _ (is_not (same_func p.func func) e)
 
   pub call_aborted : (func : Func) (h : PlainHandle) (w : PlainWorld) → is_refused_for_flags func flags ≡ false → is_other_pending h.pending func ≡ true → stack_call players number func flags h w ≡ called Abort h w
-  call_aborted Authenticate h w free e = aborts h.pending Authenticate (called Abort h w) _ _ e
-  call_aborted SetCred h w free e = aborts h.pending SetCred (called Abort h w) _ _ e
-  call_aborted AcctMgmt h w free e = aborts h.pending AcctMgmt (called Abort h w) _ _ e
-  call_aborted OpenSession h w free e = aborts h.pending OpenSession (called Abort h w) _ _ e
-  call_aborted CloseSession h w free e = aborts h.pending CloseSession (called Abort h w) _ _ e
   call_aborted ChAuthTok h w free e = unless (has_pass_flag flags) (called SystemErr h w) _ free ∙ aborts h.pending ChAuthTok (called Abort h w) _ _ e
+  call_aborted func h w free e = aborts h.pending func (called Abort h w) _ _ e
 
 -- ---- what is left after a call
 
@@ -226,19 +218,12 @@ trail_left func paused room mid new n = ap (λ (k : PlainHandle). k.room.transac
 
 tokens_end : (func : Func) (room : PlainRoom) → ClearsTokens func (room_end func None room).transaction.items
 tokens_end Authenticate room = (refl, refl)
-tokens_end SetCred room = tt
-tokens_end AcctMgmt room = tt
-tokens_end OpenSession room = tt
-tokens_end CloseSession room = tt
 tokens_end ChAuthTok room = (refl, refl)
+tokens_end func room = tt
 
 failed_room : (func : Func) (room : PlainRoom) → room_end func None room ≡ room_failed func room
 failed_room Authenticate room = refl
-failed_room SetCred room = refl
-failed_room AcctMgmt room = refl
-failed_room OpenSession room = refl
-failed_room CloseSession room = refl
-failed_room ChAuthTok room = refl
+failed_room func room = refl
 
 none_waited : (func : Func) (past : List Code) (result : Result Code NoMemory) → code_waited func (Some past) result ≡ None
 none_waited Authenticate past result = refl
@@ -256,11 +241,7 @@ left_pending func h room later (Some past) a o waited code ended is stays delay 
 leaves_wait : (func : Func) (h : PlainHandle) (room : PlainRoom) (a o : Option KeptAnswers) (pending : Option Pending) (waited : Option Wait) (ended : Option Code) (paused : Option (List Code)) (result : Result Code NoMemory) → ended ≡ code_waited func paused result → IfNone ended (waited ≡ h.waited)
     → LeavesWait func h (record h { room = room; authenticated = a; opened = o; pending = pending; waited = waited })
 leaves_wait Authenticate h room a o pending waited ended paused result is stays = tt
-leaves_wait SetCred h room a o pending waited ended paused result is stays = subst (λ (x : Option Code). IfNone x (waited ≡ h.waited)) is stays
-leaves_wait AcctMgmt h room a o pending waited ended paused result is stays = subst (λ (x : Option Code). IfNone x (waited ≡ h.waited)) is stays
-leaves_wait OpenSession h room a o pending waited ended paused result is stays = subst (λ (x : Option Code). IfNone x (waited ≡ h.waited)) is stays
-leaves_wait CloseSession h room a o pending waited ended paused result is stays = subst (λ (x : Option Code). IfNone x (waited ≡ h.waited)) is stays
-leaves_wait ChAuthTok h room a o pending waited ended paused result is stays = subst (λ (x : Option Code). IfNone x (waited ≡ h.waited)) is stays
+leaves_wait func h room a o pending waited ended paused result is stays = subst (λ (x : Option Code). IfNone x (waited ≡ h.waited)) is stays
 
 begun_service : (pending : Option Pending) (items : ItemTexts) → (items_begun pending items).service ≡ items.service
 begun_service None items = refl
@@ -268,11 +249,8 @@ begun_service (Some p) items = refl
 
 service_begun : (func : Func) (pending : Option Pending) (items : ItemTexts) → (items_before func pending items).service ≡ items.service
 service_begun Authenticate pending items = begun_service pending items
-service_begun SetCred pending items = refl
-service_begun AcctMgmt pending items = refl
-service_begun OpenSession pending items = refl
-service_begun CloseSession pending items = refl
 service_begun ChAuthTok pending items = begun_service pending items
+service_begun func pending items = refl
 
 service_end : (func : Func) (paused : Option (List Code)) (room : PlainRoom) → (room_end func paused room).transaction.items.service ≡ room.transaction.items.service
 service_end Authenticate None room = refl

@@ -18,11 +18,8 @@ false_true e = (cc)
 -- with nothing to resume, the tokens were cleared
 cleared : (func : Func) (items old : ItemTexts) → items ≡ items_before func None old → clears_tokens func ≡ true → AreUnset items
 cleared Authenticate items old is clears = (ap (λ (i : ItemTexts). i.auth_tok) is, ap (λ (i : ItemTexts). i.old_auth_tok) is)
-cleared SetCred items old is clears = absurd (false_true clears)
-cleared AcctMgmt items old is clears = absurd (false_true clears)
-cleared OpenSession items old is clears = absurd (false_true clears)
-cleared CloseSession items old is clears = absurd (false_true clears)
 cleared ChAuthTok items old is clears = (ap (λ (i : ItemTexts). i.auth_tok) is, ap (λ (i : ItemTexts). i.old_auth_tok) is)
+cleared func items old is clears = absurd (false_true clears)
 
 pub begins_unset : (func : Func) (pending : Option PutOff) (paused : Option (List Code)) (items old : ItemTexts)
     → items ≡ items_before func (option_map pending_of pending) old → is_some paused ≡ is_some pending → BeginsUnset func paused items
@@ -35,11 +32,7 @@ waits_unset : (func : Func) (paused : Option (List Code)) (result : Result Code 
 waits_unset Authenticate None (Ok code) items = (refl, refl)
 waits_unset Authenticate None (Err none) items = tt
 waits_unset Authenticate (Some past) result items = tt
-waits_unset SetCred paused result items = tt
-waits_unset AcctMgmt paused result items = tt
-waits_unset OpenSession paused result items = tt
-waits_unset CloseSession paused result items = tt
-waits_unset ChAuthTok paused result items = tt
+waits_unset func paused result items = tt
 
 pub ends_unset : (func : Func) (paused : Option (List Code)) (result : Result Code NoMemory) (ended : Option Code) (items old : ItemTexts)
     → ended ≡ code_waited func paused result → items ≡ items_after func paused old → IfSome ended (λ _. AreUnset items)

@@ -4,20 +4,17 @@ use Rattle.std.specs.Prelude.{◌≡◌, ◌⊎◌, ℕ, Bool, true, false, IsTr
 use Rattle.pam_base.specs.declared.code.Code.{Code}
 use Rattle.pam_base.specs.declared.code.Code.TheVariants as codes
 use Rattle.pam_base.specs.declared.call.Func.{Func}
-use Rattle.pam_base.specs.declared.call.Func.TheVariants.{Authenticate, SetCred, AcctMgmt, OpenSession, CloseSession, ChAuthTok}
+use Rattle.pam_base.specs.declared.call.Func.TheVariants.{ChAuthTok}
 use Rattle.pam_base.specs.declared.fault.NoMemory.{NoMemory}
 use Rattle.frozen_chain.specs.Kept.{Answers}
 use Rattle.dispatch_core.specs.declared.request.PassRequest.{PassRequest}
-use Rattle.dispatch_core.specs.Calls.{answers_held, call_after, following, held, passed_by, went}
+pub use Rattle.dispatch_core.specs.Calls.{authenticated_with, cached_of, kind_of, opened_with, stack_at, stack_type}
+use Rattle.dispatch_core.specs.Calls.{answers_held, call_after, held, passed_by, went}
 use Rattle.dispatch_core.specs.Failing.{StopsAt}
 use Rattle.dispatch_core.specs.Passes.{kept_failed}
 use Rattle.dispatch_core.specs.Pending.{Pending, pending_after}
 use Rattle.dispatch_core.specs.Trail.{ByTrail}
 use Rattle.dispatch_core.specs.control_words.specs.Stack.{Stack}
-use Rattle.dispatch_core.specs.service_load.specs.Stacks.{Stacks}
-use Rattle.dispatch_core.specs.service_load.specs.declared.rule_type.RuleType.{RuleType}
-use Rattle.dispatch_core.specs.service_load.specs.declared.rule_type.RuleType.TheVariants.{Auth, Account, Password, Session}
-use Rattle.dispatch_core.specs.handler_chain.specs.declared.pass_kind.PassKind.{PassKind}
 use Rattle.dispatch_core.specs.handler_chain.specs.declared.pass_kind.PassKind.TheVariants as kinds
 use Rattle.dispatch_core.specs.handler_chain.specs.Route.{KeptAnswers}
 use Rattle.pam_handle.specs.AnyWorld.{LeavesAuthenticated, LeavesOpened, authenticated_failed, opened_failed}
@@ -27,49 +24,7 @@ use Rattle.pam_handle.specs.StackCalls.{asking_by, flags_seen, held_in}
 use Rattle.pam_handle.specs.Stopping.{PassedNothing, StopsIn, passing}
 use Rattle.pam_handle.specs.Trail.{CallsByTrail, as_traced}
 
--- ---- the stack, the cached codes and the kind of a pass
-
--- the type of the stack that a call runs
-abbrev pub stack_type : Func → RuleType
-stack_type Authenticate = Auth
-stack_type SetCred = Auth
-stack_type AcctMgmt = Account
-stack_type OpenSession = Session
-stack_type CloseSession = Session
-stack_type ChAuthTok = Password
-
--- the stack of a type
-abbrev pub stack_at : Stacks → RuleType → Stack
-stack_at stacks Auth = stacks.auth
-stack_at stacks Account = stacks.account
-stack_at stacks Password = stacks.password
-stack_at stacks Session = stacks.session
-
--- the cached codes that belong to a call: those of the last authentication, those of the last opened session, or none
--- of them
-abbrev pub cached_of : {A : Type 0} → Func → A → A → A → A
-cached_of Authenticate authenticated opened others = authenticated
-cached_of SetCred authenticated opened others = authenticated
-cached_of OpenSession authenticated opened others = opened
-cached_of CloseSession authenticated opened others = opened
-cached_of func authenticated opened others = others
-
--- the transaction with other codes in their place
-abbrev pub authenticated_with : {A : Type 0} → Func → A → A → A
-authenticated_with Authenticate cached old = cached
-authenticated_with SetCred cached old = cached
-authenticated_with func cached old = old
-
-abbrev pub opened_with : {A : Type 0} → Func → A → A → A
-opened_with OpenSession cached old = cached
-opened_with CloseSession cached old = cached
-opened_with func cached old = old
-
--- whether the first pass of a call caches its codes, or uses cached ones
-abbrev pub kind_of : Func → Option KeptAnswers → PassKind
-kind_of SetCred cached = following cached
-kind_of CloseSession cached = following cached
-kind_of func cached = kinds.Keep
+-- ---- the passes of a call
 
 -- the first pass of a call with these flags, and the second one of a change of token
 abbrev pub first_request : Func → ℕ → Option KeptAnswers → PassRequest

@@ -3,14 +3,13 @@ use Rattle.std.specs.Prelude.{◌≡◌, ◌⊎◌, ℕ, Bool, true, false, IsTr
 use Rattle.pam_base.specs.declared.code.Code.{Code}
 use Rattle.pam_base.specs.declared.code.Code.TheVariants as codes
 use Rattle.pam_base.specs.declared.call.Func.{Func}
-use Rattle.pam_base.specs.declared.call.Func.TheVariants.{Authenticate, SetCred, AcctMgmt, OpenSession, CloseSession, ChAuthTok}
-use Rattle.dispatch_core.specs.control_words.specs.Stack.{Stack}
+use Rattle.pam_base.specs.declared.call.Func.TheVariants.{Authenticate, ChAuthTok}
 use Rattle.dispatch_core.specs.service_load.specs.Stacks.{Stacks}
-use Rattle.dispatch_core.specs.handler_chain.specs.declared.pass_kind.PassKind.{PassKind}
 use Rattle.dispatch_core.specs.handler_chain.specs.declared.pass_kind.PassKind.TheVariants as kinds
 use Rattle.dispatch_core.specs.handler_chain.specs.Route.{KeptAnswers}
 use Rattle.dispatch_core.specs.AnyWorld.{GoesSoundly}
-use Rattle.dispatch_core.specs.Calls.{Held, answers_held, following}
+pub use Rattle.dispatch_core.specs.Calls.{first_kept, first_stack}
+use Rattle.dispatch_core.specs.Calls.{Held, answers_held, kind_of}
 use Rattle.dispatch_core.specs.Failing.{StopsAt}
 use Rattle.dispatch_core.specs.Pending.{first_in, past_in}
 use Rattle.dispatch_core.specs.pam_room.specs.Module.{Player, notes_of}
@@ -21,27 +20,7 @@ use Rattle.pam_handle.specs.Call.{items_begun, without_its_tokens, without_reque
 use Rattle.pam_handle.specs.Pass.{PassesTo, passed}
 use Rattle.pam_handle.specs.StackCalls.{flags_seen, held_in}
 
--- ---- the first pass of a call: its kind, its cached codes, its stack, and the room in which it begins
-
-abbrev pub first_kind : Func → Held → PassKind
-first_kind SetCred h = following h.authenticated
-first_kind CloseSession h = following h.opened
-first_kind func h = kinds.Keep
-
-abbrev pub first_kept : Func → Held → Option KeptAnswers
-first_kept Authenticate h = h.authenticated
-first_kept SetCred h = h.authenticated
-first_kept OpenSession h = h.opened
-first_kept CloseSession h = h.opened
-first_kept func h = None
-
-abbrev pub first_stack : Func → Stacks → Stack
-first_stack Authenticate stacks = stacks.auth
-first_stack SetCred stacks = stacks.auth
-first_stack AcctMgmt stacks = stacks.account
-first_stack OpenSession stacks = stacks.session
-first_stack CloseSession stacks = stacks.session
-first_stack ChAuthTok stacks = stacks.password
+-- ---- the room in which a call begins
 
 -- a call that clears the tokens clears them if it begins
 abbrev pub with_items_begun : PlainHandle → PlainRoom
@@ -93,7 +72,8 @@ PassedNothing p = (p.end.room ≡ p.start.room) × p.world_is_kept
 abbrev pub StopsFirst : Func → ℕ → List Code → Passing → Type 0
 StopsFirst func flags past p =
     StopsAt p.players func (flags_seen func false flags) (first_stack func p.stacks)
-    (first_kind func p.held) (answers_held (first_kept func p.held)) past p.tells p.start p.end
+    (kind_of func (first_kept func p.held)) (answers_held (first_kept func p.held)) past p.tells
+    p.start p.end
 
 -- in the second pass of a change of token, with the codes of the first
 abbrev pub StopsInUpdate : ℕ → Option KeptAnswers → List Code → Passing → Type 0

@@ -15,9 +15,8 @@ impl Handle {
     pub fn set_conv(&mut self, conv: Box<dyn Conv>) -> Box<dyn Conv>
         ensures old { result ≡ (room_in self.old).conv }
         ensures conv { (room_in self.new).conv ≡ conv }
-        ensures plain { plain_handle ⟦<Room as RoomTold>⟧.plain self.new
-            ≡ with_conversation (conv_holds conv)
-            (plain_handle ⟦<Room as RoomTold>⟧.plain self.old) }
+        ensures plain { let plain = plain_handle ⟦<Room as RoomTold>⟧.plain in
+            plain self.new ≡ with_conversation (conv_holds conv) (plain self.old) }
     {
         mem::replace(&mut self.room.conv, conv)
     }
@@ -27,12 +26,11 @@ impl Handle {
     pub fn offer(&mut self, alloc: Global, text: &[u8]) -> Result<(), NoMemory>
         requires { length text.now ≤ MAX_TEXT }
         ensures tells { Keeps ⟦<Room as RoomTold>⟧.tells (room_in self.old) (room_in self.new) }
-        ensures told { IsTrue (⟦<Room as RoomTold>⟧.tells (room_in self.old)) →
-            TakesOffer result text.now (plain_handle ⟦<Room as RoomTold>⟧.plain self.old).room.conv
-            (plain_handle ⟦<Room as RoomTold>⟧.plain self.new).room.conv }
-        ensures others { plain_handle ⟦<Room as RoomTold>⟧.plain self.new
-            ≡ with_conversation (plain_handle ⟦<Room as RoomTold>⟧.plain self.new).room.conv
-            (plain_handle ⟦<Room as RoomTold>⟧.plain self.old) }
+        ensures told { let plain = plain_handle ⟦<Room as RoomTold>⟧.plain in
+            IsTrue (⟦<Room as RoomTold>⟧.tells (room_in self.old)) →
+            TakesOffer result text.now (plain self.old).room.conv (plain self.new).room.conv }
+        ensures others { let plain = plain_handle ⟦<Room as RoomTold>⟧.plain in
+            plain self.new ≡ with_conversation (plain self.new).room.conv (plain self.old) }
         ensures faults { conv_faults (in_box (room_in self.new).conv)
             ≡ conv_faults (in_box (room_in self.old).conv) }
         ensures deferrals { conv_deferrals (in_box (room_in self.new).conv)

@@ -10,8 +10,8 @@ impl Handle {
     /// stack call that ended counts; more than 60 seconds count as 60 seconds.
     pub fn fail_delay(&mut self, micros: u32)
         ensures tells { Keeps ⟦<Room as RoomTold>⟧.tells (room_in self.old) (room_in self.new) }
-        ensures request { plain_handle ⟦<Room as RoomTold>⟧.plain self.new
-            ≡ with_request micros (plain_handle ⟦<Room as RoomTold>⟧.plain self.old) }
+        ensures request { let plain = plain_handle ⟦<Room as RoomTold>⟧.plain in
+            plain self.new ≡ with_request micros (plain self.old) }
     {
         self.room.transaction.delay.request(micros);
     }
@@ -20,8 +20,8 @@ impl Handle {
     /// It is off at the start.
     pub fn set_delay(&mut self, on: bool)
         ensures tells { Keeps ⟦<Room as RoomTold>⟧.tells (room_in self.old) (room_in self.new) }
-        ensures on { plain_handle ⟦<Room as RoomTold>⟧.plain self.new
-            ≡ with_delay_function on (plain_handle ⟦<Room as RoomTold>⟧.plain self.old) }
+        ensures on { let plain = plain_handle ⟦<Room as RoomTold>⟧.plain in
+            plain self.new ≡ with_delay_function on (plain self.old) }
     {
         self.delay_on = on;
     }

@@ -29,15 +29,14 @@ fn wait(
 )
     requires { longest ≤ LONGEST_REQUEST }
     ensures tells { Keeps ⟦<World as WorldTold>⟧.tells world.old world.new }
-    ensures told { (number : Code → ℕ → ℕ) →
-        ⟦<DelayFn as DelayTold>⟧.delay_is gear.now.delay number →
+    ensures told { let plain = ⟦<World as WorldTold>⟧.plain in
+        (number : Code → ℕ → ℕ) → ⟦<DelayFn as DelayTold>⟧.delay_is gear.now.delay number →
         IsTrue (⟦<World as WorldTold>⟧.tells world.old) →
-        (let asked = asked_delay longest (⟦<World as WorldTold>⟧.plain world.old).clock.word in
+        (let asked = asked_delay longest (plain world.old).clock.word in
         (waited.new ≡ waited_by ended.entry.code asked
         (wait_of delay_on number ended.entry.code asked) waited.old)
-        × (⟦<World as WorldTold>⟧.plain world.new
-        ≡ rested_by (wait_of delay_on number ended.entry.code asked)
-        (random_taken_for longest (⟦<World as WorldTold>⟧.plain world.old)))) }
+        × (plain world.new ≡ rested_by (wait_of delay_on number ended.entry.code asked)
+        (random_taken_for longest (plain world.old)))) }
     ensures sound { WaitsFor ended.entry.code delay_on waited.old waited.new
         (nap_tells (in_box world.old.nap)) (nap_holds (in_box world.old.nap))
         (nap_holds (in_box world.new.nap)) }
@@ -65,12 +64,11 @@ pub(crate) fn sleep_after(
     requires longest { longest ≤ LONGEST_REQUEST }
     requires unset { IfSome code (λ _. AreUnset items.now) }
     ensures tells { Keeps ⟦<World as WorldTold>⟧.tells world.old world.new }
-    ensures told { (number : Code → ℕ → ℕ) →
-        ⟦<DelayFn as DelayTold>⟧.delay_is gear.now.delay number →
+    ensures told { let plain = ⟦<World as WorldTold>⟧.plain in
+        (number : Code → ℕ → ℕ) → ⟦<DelayFn as DelayTold>⟧.delay_is gear.now.delay number →
         IsTrue (⟦<World as WorldTold>⟧.tells world.old) →
-        WaitsAfter number code longest delay_on waited.old
-        (⟦<World as WorldTold>⟧.plain world.old) waited.new
-        (⟦<World as WorldTold>⟧.plain world.new) }
+        WaitsAfter number code longest delay_on waited.old (plain world.old) waited.new
+        (plain world.new) }
     ensures sound { WaitsOnlyAtEnd code delay_on waited.old waited.new
         (nap_tells (in_box world.old.nap)) (nap_holds (in_box world.old.nap))
         (nap_holds (in_box world.new.nap)) }
@@ -95,9 +93,9 @@ fn asked_of(longest: u32, world: &mut World) -> u32
     ensures tells { Keeps ⟦<World as WorldTold>⟧.tells world.old world.new }
     ensures told { IsTrue (⟦<World as WorldTold>⟧.tells world.old) →
         result ≡ asked_delay longest (⟦<World as WorldTold>⟧.plain world.old).clock.word }
-    ensures random_taken { IsTrue (⟦<World as WorldTold>⟧.tells world.old) →
-        ⟦<World as WorldTold>⟧.plain world.new
-        ≡ random_taken_for longest (⟦<World as WorldTold>⟧.plain world.old) }
+    ensures random_taken { let plain = ⟦<World as WorldTold>⟧.plain in
+        IsTrue (⟦<World as WorldTold>⟧.tells world.old) →
+        plain world.new ≡ random_taken_for longest (plain world.old) }
     ensures bound { result ≤ LONGEST_ASKED }
     ensures nap { world.new.nap ≡ world.old.nap }
     ensures process { world.new.process ≡ world.old.process }
@@ -127,9 +125,9 @@ fn wait_by(gear: &Gear, delay_on: bool, code: Code, asked: u32) -> Option<u32>
 
 fn rest_for(world: &mut World, wait: u32)
     ensures tells { Keeps ⟦<World as WorldTold>⟧.tells world.old world.new }
-    ensures told { IsTrue (⟦<World as WorldTold>⟧.tells world.old) →
-        ⟦<World as WorldTold>⟧.plain world.new
-        ≡ rested_by (Some wait) (⟦<World as WorldTold>⟧.plain world.old) }
+    ensures told { let plain = ⟦<World as WorldTold>⟧.plain in
+        IsTrue (⟦<World as WorldTold>⟧.tells world.old) →
+        plain world.new ≡ rested_by (Some wait) (plain world.old) }
     ensures slept { IsTrue (nap_tells (in_box world.old.nap)) → nap_holds (in_box world.new.nap)
         ≡ nap_after (Some wait) (nap_holds (in_box world.old.nap)) }
     ensures process { world.new.process ≡ world.old.process }

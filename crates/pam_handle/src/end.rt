@@ -19,10 +19,9 @@ impl Handle {
         requires { IsReady (⟦<Calls as CallTold>⟧.seen gear.now self world.old) }
         ensures conv { result ≡ (room_in self).conv }
         ensures tells { Keeps ⟦<World as WorldTold>⟧.tells world.old world.new }
-        ensures world { ⟦<World as WorldTold>⟧.plain world.new
-            ≡ world_after_end (notes_of (⟦<Gear as GearTold>⟧.players gear.now)) status
-            (plain_handle ⟦<Room as RoomTold>⟧.plain self)
-            (⟦<World as WorldTold>⟧.plain world.old) }
+        ensures world { let plain = ⟦<World as WorldTold>⟧.plain in
+            plain world.new ≡ world_after_end (notes_of (⟦<Gear as GearTold>⟧.players gear.now))
+            status (plain_handle ⟦<Room as RoomTold>⟧.plain self) (plain world.old) }
         ensures others { world.new ≡ record world.old {
           process = record world.old.process {
             ledger =

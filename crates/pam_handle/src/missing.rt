@@ -18,9 +18,9 @@ impl Handle {
     /// name is listed once for each line that names it; a line that is silent about its module (a
     /// `-` before its type, `pam.conf(5)`) adds none.
     pub fn missing(&self, alloc: Global) -> Result<Texts, NoMemory>
-        ensures { IfOk result (λ names. names
-            ≡ missing_from (plain_handle ⟦<Room as RoomTold>⟧.plain self.now).names
-            (plain_handle ⟦<Room as RoomTold>⟧.plain self.now).stacks) }
+        ensures { let plain = plain_handle ⟦<Room as RoomTold>⟧.plain in
+            IfOk result (λ names. names
+            ≡ missing_from (plain self.now).names (plain self.now).stacks) }
     {
         let mut names = Texts::new(alloc);
         for rule_type in &ALL_TYPES {

@@ -41,9 +41,9 @@ impl Handle {
     pub(crate) fn keep_pending(&mut self, func: Func, paused: Paused, first: Kept)
         requires { (plain_handle ⟦<Room as RoomTold>⟧.plain self.old).pending ≡ None }
         ensures tells { Keeps ⟦<Room as RoomTold>⟧.tells (room_in self.old) (room_in self.new) }
-        ensures plain { plain_handle ⟦<Room as RoomTold>⟧.plain self.new
-            ≡ record (plain_handle ⟦<Room as RoomTold>⟧.plain self.old) {
-              room = request_after paused (plain_handle ⟦<Room as RoomTold>⟧.plain self.old).room;
+        ensures plain { let plain = plain_handle ⟦<Room as RoomTold>⟧.plain in
+            plain self.new ≡ record (plain self.old) {
+              room = request_after paused (plain self.old).room;
               pending = pending_after func (kept_answers first) paused;
             } }
     {

@@ -59,13 +59,13 @@ impl Handle {
             let s = started number service.now (option_copied user.entry) (conv_holds conv)
             (names_of (⟦<Gear as GearTold>⟧.players gear.now)) (plain world.old) in
             StartsAs ⟦<Room as RoomTold>⟧.plain s result (plain world.new)) }
-        ensures calls { IsTrue (vault_tells (in_box world.old.vault)) →
-            OnlyCalls (⟦<World as WorldTold>⟧.plain world.old).vault
-            (⟦<World as WorldTold>⟧.plain world.new).vault }
-        ensures fresh { IfOk result (λ handle. plain_handle ⟦<Room as RoomTold>⟧.plain handle
+        ensures calls { let plain = ⟦<World as WorldTold>⟧.plain in
+            IsTrue (vault_tells (in_box world.old.vault)) →
+            OnlyCalls (plain world.old).vault (plain world.new).vault }
+        ensures fresh { let plain = plain_handle ⟦<Room as RoomTold>⟧.plain in
+            IfOk result (λ handle. plain handle
             ≡ new_handle number service.now (option_copied user.entry) (conv_holds conv)
-            (names_of (⟦<Gear as GearTold>⟧.players gear.now))
-            (plain_handle ⟦<Room as RoomTold>⟧.plain handle).stacks) }
+            (names_of (⟦<Gear as GearTold>⟧.players gear.now)) (plain handle).stacks) }
         ensures ready { IfOk result (λ handle.
             IsReady (⟦<Calls as CallTold>⟧.seen gear.now handle world.new)) }
         ensures others { world.new ≡ record world.old { vault = world.new.vault } }
@@ -94,12 +94,12 @@ fn prepare(
 ) -> Result<(Items, Chains), Refuse<LoadFault>>
     requires { length (⟦<Gear as GearTold>⟧.players gear.now) < 2 ^ 32 }
     ensures tells { Keeps ⟦<World as WorldTold>⟧.tells world.old world.new }
-    ensures told { IsTrue (vault_tells (in_box world.old.vault)) →
-        Prepares result (⟦<World as WorldTold>⟧.plain world.old)
-        (⟦<World as WorldTold>⟧.plain world.new).vault service.now }
-    ensures calls { IsTrue (vault_tells (in_box world.old.vault)) →
-        OnlyCalls (⟦<World as WorldTold>⟧.plain world.old).vault
-        (⟦<World as WorldTold>⟧.plain world.new).vault }
+    ensures told { let plain = ⟦<World as WorldTold>⟧.plain in
+        IsTrue (vault_tells (in_box world.old.vault)) →
+        Prepares result (plain world.old) (plain world.new).vault service.now }
+    ensures calls { let plain = ⟦<World as WorldTold>⟧.plain in
+        IsTrue (vault_tells (in_box world.old.vault)) →
+        OnlyCalls (plain world.old).vault (plain world.new).vault }
     ensures items { IfOk result (λ parts. parts.0
         ≡ first_texts service.now (option_copied user.entry)) }
     ensures names { IfOk result (λ parts. parts.1.by_type.auth.names

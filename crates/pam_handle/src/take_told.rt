@@ -28,8 +28,8 @@ impl Handle {
         ensures trail { result.trail.visits ≡ (plain_handle
             ⟦<Room as RoomTold>⟧.plain self.old).room.transaction.trail }
         ensures wait { result.wait ≡ (plain_handle ⟦<Room as RoomTold>⟧.plain self.old).waited }
-        ensures emptied { plain_handle ⟦<Room as RoomTold>⟧.plain self.new
-            ≡ all_told (plain_handle ⟦<Room as RoomTold>⟧.plain self.old) }
+        ensures emptied { let plain = plain_handle ⟦<Room as RoomTold>⟧.plain in
+            plain self.new ≡ all_told (plain self.old) }
     {
         let transaction = &mut self.room.transaction;
         let said = mem::replace(&mut transaction.said, Messages::new(alloc));

@@ -2,8 +2,8 @@
 use Rattle.std.proofs.Common.{◌≡◌, ℕ, Bool, true, false, if◌then◌else◌, not, IfOk, ◌++◌, Option, Some, None, option_map, Result, Ok, Err, refl, ap, sym, ◌∙◌, subst}
 use Rattle.pam_base.specs.declared.code.Code.{Code}
 use Rattle.pam_base.specs.declared.code.Code.TheVariants as codes
+use Rattle.pam_base.specs.declared.call.AppCall.{AppCall}
 use Rattle.pam_base.specs.declared.call.Func.{Func}
-use Rattle.pam_base.specs.declared.call.Func.TheVariants as funcs
 use Rattle.pam_handle.specs.dispatch_core.specs.Calls.{goes}
 use Rattle.pam_handle.specs.dispatch_core.specs.Pending.{Pending, is_other_pending}
 use Rattle.pam_handle.specs.AnyWorld.{LeavesPending}
@@ -15,11 +15,11 @@ use Rattle.pam_library.specs.declared.outcome.Answer.{Answer}
 use Rattle.pam_library.specs.declared.outcome.Answer.TheVariants as answers
 use Rattle.pam_library.specs.declared.outcome.Outcome.{Outcome}
 use Rattle.pam_library.specs.AnyWorld.{stack_refusal}
-use Rattle.pam_library.specs.InPlace.{stack_app_call}
 use Rattle.pam_library.specs.Outcome.{PlainOutcome, plain_outcome}
 use Rattle.pam_library.specs.Slots.{PlainSlot, closed, opened}
 use Rattle.pam_library.specs.SlotStep.{other_pending}
-use Rattle.pam_library.specs.Traced.{IsTraced, TracesIn, TracesOpen, stack_of}
+use Rattle.pam_library.specs.StackOf.{stack_of}
+use Rattle.pam_library.specs.Traced.{IsTraced, TracesIn, TracesOpen}
 
 -- ---- a call that isn't refused
 
@@ -37,19 +37,15 @@ pending_free true p func e = absurd (cc)
 pending_free false None func e = refl
 pending_free false (Some p) func e = other_free _ p.func e
 
-traces_as : (func : Func) (flags : ℕ) (h k : PlainHandle) (o : PlainOutcome) → (◌≡◌ {A = Option Answer} (stack_refusal h.pending func flags) None → IsTraced func h k o)
-    → TracesIn (stack_app_call func flags) (opened h) (opened k) o
-traces_as funcs.Authenticate flags h k o t = t
-traces_as funcs.SetCred flags h k o t = t
-traces_as funcs.AcctMgmt flags h k o t = t
-traces_as funcs.OpenSession flags h k o t = t
-traces_as funcs.CloseSession flags h k o t = t
-traces_as funcs.ChAuthTok flags h k o t = t
+module _ (call : AppCall) (func : Func) (flags : ℕ) (is : stack_of call ≡ Some (func, flags)) where
+  traces_as : (h k : PlainHandle) (o : PlainOutcome) → (◌≡◌ {A = Option Answer} (stack_refusal h.pending func flags) None → IsTraced func h k o)
+      → TracesIn call (opened h) (opened k) o
+  traces_as h k o t = subst (λ (s : Option (Func × ℕ)). TracesOpen s h (opened k) o) (sym is) t
 
--- a refused call
-pub refused_untraced : (func : Func) (flags : ℕ) (h k : PlainHandle) (o : PlainOutcome) (refused : Answer) → ◌≡◌ {A = Option Answer} (stack_refusal h.pending func flags) (Some refused)
-    → TracesIn (stack_app_call func flags) (opened h) (opened k) o
-refused_untraced func flags h k o refused is = traces_as func flags h k o (λ none. let e : ◌≡◌ {A = Option Answer} (Some refused) None = sym is ∙ none in absurd (cc))
+  -- a refused call
+  pub refused_untraced : (h k : PlainHandle) (o : PlainOutcome) (refused : Answer) → ◌≡◌ {A = Option Answer} (stack_refusal h.pending func flags) (Some refused)
+      → TracesIn call (opened h) (opened k) o
+  refused_untraced h k o refused some = traces_as h k o (λ none. let e : ◌≡◌ {A = Option Answer} (Some refused) None = sym some ∙ none in absurd (cc))
 
 leaves_told : (func : Func) (code : Code) (h next : PlainHandle) (pending : Option Pending) → LeavesPending func code h next pending → LeavesPending func code (all_told h) (all_told next) pending
 leaves_told func code h next None left = left
@@ -71,13 +67,14 @@ module _ (func : Func) (flags : ℕ) (h next : PlainHandle) (o : PlainOutcome) (
   }
 
   -- a call that was run
-  pub ran_traced : (after : PlainHandle) → h ≡ all_told h → after ≡ all_told next → o.trail ≡ next.room.transaction.trail → o.answer ≡ answers.Code code
+  pub ran_traced : (call : AppCall) → stack_of call ≡ Some (func, flags) → (after : PlainHandle) → h ≡ all_told h → after ≡ all_told next → o.trail ≡ next.room.transaction.trail
+      → o.answer ≡ answers.Code code
       → (is_refused_for_flags func flags ≡ false → is_other_pending h.pending func ≡ false → LeavesPending func code h next next.pending)
       → (is_refused_for_flags func flags ≡ false → is_other_pending h.pending func ≡ false
       → CallsByTrail (λ s. goes as_traced h.stacks func (held_in h) s) h.room.transaction.trail next.room.transaction.trail code (held_in next))
-      → TracesIn (stack_app_call func flags) (opened h) (opened after) o
-  ran_traced after told emptied trail answer left by =
-      traces_as func flags h after o
+      → TracesIn call (opened h) (opened after) o
+  ran_traced call is after told emptied trail answer left by =
+      traces_as call func flags is h after o
       (λ none.
       let free = flags_free (is_refused_for_flags func flags) (other_pending h.pending func) none in
       let own = pending_free (is_refused_for_flags func flags) h.pending func none in

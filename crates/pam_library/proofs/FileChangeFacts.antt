@@ -47,8 +47,9 @@ use Rattle.pam_handle.specs.Start.{started, started_by}
 use Rattle.pam_handle.specs.Stopping.{first_stack, room_begun}
 use Rattle.pam_library.specs.declared.outcome.Answer.{Answer}
 use Rattle.pam_library.specs.declared.outcome.Answer.TheVariants as answers
-use Rattle.pam_library.specs.Plays.{AskedLine, IsLineOf, LineLeads, LineRun, LinesLead, RunOn, RunsBy, RunsLines, RunsNothing, StackCall, IsRuleAt, StepAsks, asked_along, asked_by, module_of_path, player_numbered, run_in, stack_call_of, visit_of, visits_of}
-use Rattle.pam_library.specs.SlotStep.{SlotStepped, answered, closed_step, filed_in, is_refused_for_flags, open_step, opened_by, other_pending, slot_step, stack_step, told_by, unless_pending}
+use Rattle.pam_library.specs.Plays.{AskedLine, IsLineOf, LineLeads, LineRun, LinesLead, RunOn, RunsBy, RunsLines, RunsNothing, IsRuleAt, StepAsks, asked_along, asked_by, module_of_path, player_numbered, run_in, visit_of, visits_of}
+use Rattle.pam_library.specs.StackOf.{stack_of}
+use Rattle.pam_library.specs.SlotStep.{SlotStepped, answered, closed_step, filed_in, is_refused_for_flags, open_step_by, opened_by, other_pending, slot_step, stack_step, told_by, unless_pending}
 use Rattle.pam_library.specs.Slots.{PlainSlot, closed, opened, slot_at}
 use Rattle.pam_library.specs.Step.{stepped, stepped_at}
 
@@ -115,7 +116,7 @@ all_and_last P (y ∷ ys) x a p = (a.0, all_and_last P ys x a.1 p)
 
 -- ---- a call of modules
 
-module _ (players : List Player) (call : StackCall) (stacks : Stacks) (first : State) where
+module _ (players : List Player) (call : Func × ℕ) (stacks : Stacks) (first : State) where
   -- these lines were run from the first state to this one, and all of them are recorded
   pub record Comes (s : State) : Type 0 where
     pub lines : List LineRun
@@ -123,25 +124,25 @@ module _ (players : List Player) (call : StackCall) (stacks : Stacks) (first : S
     pub recorded : map (λ (l : LineRun). l.visit) lines ≡ s.room.transaction.trail
     pub ran : RunOn players lines first s
 
-  asks : (second : Bool) (rule : Rule) (at : ℕ) (s : State) → IsRuleAt rule at (first_stack call.func stacks) 1 → Comes s
-      → Comes (answers_by players call.func (flags_seen call.func second call.flags) rule at s).state
+  asks : (second : Bool) (rule : Rule) (at : ℕ) (s : State) → IsRuleAt rule at (first_stack call.0 stacks) 1 → Comes s
+      → Comes (answers_by players call.0 (flags_seen call.0 second call.1) rule at s).state
   asks second rule at s stands k =
-      let flags = flags_seen call.func second call.flags in
-      let answer = (answers_by players call.func flags rule at s).answer in
-      let l : LineRun = record { func = call.func; flags = flags; rule = rule; visit = visit_of at rule.path answer } in
+      let flags = flags_seen call.0 second call.1 in
+      let answer = (answers_by players call.0 flags rule at s).answer in
+      let l : LineRun = record { func = call.0; flags = flags; rule = rule; visit = visit_of at rule.path answer } in
       record {
         lines = k.lines ++ l ∷ [];
         each = all_and_last (IsLineOf call stacks) k.lines l k.each (record { func_is = refl; second = second; flags_are = refl; stands = stands });
         recorded = map_push (λ (m : LineRun). m.visit) k.lines l ∙ ap (λ (t : List Visit). t ++ l.visit ∷ []) k.recorded
-            ∙ sym (trail_after players (module_of (names_of players) rule) at rule.path (call_of call.func flags rule) s);
+            ∙ sym (trail_after players (module_of (names_of players) rule) at rule.path (call_of call.0 flags rule) s);
         ran = run_last players k.lines l first s k.ran refl;
       }
 
   pub pass_comes : (second : Bool) (kind : PassKind) (kept : Option KeptAnswers) (past : List Code) (s : State) → Comes s
-      → Comes (passed players call.func (flags_seen call.func second call.flags) kind kept (first_stack call.func stacks) past s).state
+      → Comes (passed players call.0 (flags_seen call.0 second call.1) kind kept (first_stack call.0 stacks) past s).state
   pass_comes second kind kept past s k =
-      let whole = first_stack call.func stacks in
-      let answering = answers_by players call.func (flags_seen call.func second call.flags) in
+      let whole = first_stack call.0 stacks in
+      let answering = answers_by players call.0 (flags_seen call.0 second call.1) in
       walk_keeps (KeptWithin Comes) whole kind (serving kind (answers_held kept) answering)
       (λ rule at p stands l. by_past Comes whole kind (answers_held kept) answering (asks second) rule at p.past p.visits p.state stands l)
       0 whole 1 first_opinion first_opinion (pass_state past [] s) (λ rule place stands. stands) k
@@ -199,8 +200,8 @@ abbrev taken_up : Option Pending → PlainHandle → PlainRoom
 taken_up pending h = record h.room { transaction = record h.room.transaction { items = items_begun pending h.room.transaction.items } }
 
 module _ (players : List Player) (number : Code → ℕ → ℕ) where
-  abbrev call_in : Func → ℕ → StackCall
-  call_in func flags = record { func = func; flags = flags }
+  abbrev call_in : Func → ℕ → Func × ℕ
+  call_in func flags = (func, flags)
 
   authentication_ends : (flags : ℕ) (past : List Code) (h : PlainHandle) (w : PlainWorld) (first : State) → Comes players (call_in funcs.Authenticate flags) h.stacks first (state_of h.room w)
       → Ends players (call_in funcs.Authenticate flags) h.stacks first (authentication players number flags past h w)
@@ -239,11 +240,11 @@ module _ (players : List Player) (number : Code → ℕ → ℕ) where
 
   module _ (h : PlainHandle) (w : PlainWorld) (empty : h.room.transaction.trail ≡ []) where
     -- no line was run yet
-    start_in : (call : StackCall) (r : PlainRoom) → r.transaction.trail ≡ [] → Comes players call h.stacks (state_of r w) (state_of r w)
+    start_in : (call : Func × ℕ) (r : PlainRoom) → r.transaction.trail ≡ [] → Comes players call h.stacks (state_of r w) (state_of r w)
     start_in call r none_yet = record { lines = []; each = tt; recorded = sym none_yet; ran = refl }
 
     -- a call that is refused at once
-    at_once : (call : StackCall) (code : Code) (r : PlainRoom) → r.transaction.trail ≡ [] → Ends players call h.stacks (state_of r w) (called code h w)
+    at_once : (call : Func × ℕ) (code : Code) (r : PlainRoom) → r.transaction.trail ≡ [] → Ends players call h.stacks (state_of r w) (called code h w)
     at_once call code r none_yet = record { state = state_of r w; comes = start_in call r none_yet; files = refl; trail = empty ∙ sym none_yet }
 
     authenticate_ends : (flags : ℕ) (pending : Option Pending)
@@ -310,17 +311,17 @@ module _ (players : List Player) (number : Code → ℕ → ℕ) where
     -- ---- a step on an open transaction
 
     -- what its modules got, and what it ran
-    abbrev pub Runs : StackCall → SlotStepped → Type 0
+    abbrev pub Runs : Func × ℕ → SlotStepped → Type 0
     Runs call s = (asked : List AskedLine) × RunsLines players h w call s.outcome.trail asked s.world.vault.files
 
-    runs_nothing : (call : StackCall) (slot : PlainSlot) (answer : Answer) → Runs call (answered slot w answer)
+    runs_nothing : (call : Func × ℕ) (slot : PlainSlot) (answer : Answer) → Runs call (answered slot w answer)
     runs_nothing call slot answer = (
       [],
       record {
         lines = [];
         each = tt;
         recorded = refl;
-        last = state_of (room_begun call.func h) w;
+        last = state_of (room_begun call.0 h) w;
         ran = refl;
         asked_are = refl;
         left = refl;
@@ -342,11 +343,11 @@ module _ (players : List Player) (number : Code → ℕ → ℕ) where
           },
         )
 
-    runs_either : (call : StackCall) (b : Bool) (x y : SlotStepped) → Runs call x → Runs call y → Runs call (cond b x y)
+    runs_either : (call : Func × ℕ) (b : Bool) (x y : SlotStepped) → Runs call x → Runs call y → Runs call (cond b x y)
     runs_either call true x y k l = k
     runs_either call false x y k l = l
 
-    runs_unless : (call : StackCall) (other : Option Func) (slot : PlainSlot) (s : SlotStepped) → Runs call s → Runs call (unless_pending other slot w s)
+    runs_unless : (call : Func × ℕ) (other : Option Func) (slot : PlainSlot) (s : SlotStepped) → Runs call s → Runs call (unless_pending other slot w s)
     runs_unless call None slot s k = k
     runs_unless call (Some func) slot s k = runs_nothing call slot (answers.Pending func)
 
@@ -359,7 +360,7 @@ module _ (players : List Player) (number : Code → ℕ → ℕ) where
 
   -- ---- any step
 
-  abbrev pub RunsSlot : PlainWorld → Option PlainSlot → Option StackCall → SlotStepped → Type 0
+  abbrev pub RunsSlot : PlainWorld → Option PlainSlot → Option (Func × ℕ) → SlotStepped → Type 0
   RunsSlot w slot call s = (asked : List AskedLine) × RunsBy players w slot call s.outcome.trail asked s.world.vault.files
 
   -- neither the trace nor the files have changed
@@ -373,27 +374,17 @@ module _ (players : List Player) (number : Code → ℕ → ℕ) where
   quiet_either w true x y k l = k
   quiet_either w false x y k l = l
 
-  quiet_open : (h : PlainHandle) (w : PlainWorld) (call : AppCall) → IsQuiet w (open_step players number (all_told h) w call)
-      → (asked : List AskedLine) × RunsNothing w (open_step players number (all_told h) w call).outcome.trail asked (open_step players number (all_told h) w call).world.vault.files
-  quiet_open h w call q = quiet w (open_step players number (all_told h) w call) q
+  quiet_open : (stack : Option (Func × ℕ)) (h : PlainHandle) (w : PlainWorld) (call : AppCall) → IsQuiet w (open_step_by players number stack (all_told h) w call)
+      → (asked : List AskedLine) × RunsNothing w (open_step_by players number stack (all_told h) w call).outcome.trail asked (open_step_by players number stack (all_told h) w call).world.vault.files
+  quiet_open stack h w call q = quiet w (open_step_by players number stack (all_told h) w call) q
 
-  open_runs : (h : PlainHandle) (w : PlainWorld) (call : AppCall) → RunsSlot w (Some (opened h)) (stack_call_of call) (open_step players number (all_told h) w call)
-  open_runs h w (calls.Start service user) = quiet_open h w (calls.Start service user) (refl, refl)
-  open_runs h w (calls.End status) = quiet_open h w (calls.End status) (refl, refl)
-  open_runs h w (calls.Authenticate flags) = stack_step_runs (all_told h) w refl funcs.Authenticate flags
-  open_runs h w (calls.SetCred flags) = stack_step_runs (all_told h) w refl funcs.SetCred flags
-  open_runs h w (calls.AcctMgmt flags) = stack_step_runs (all_told h) w refl funcs.AcctMgmt flags
-  open_runs h w (calls.OpenSession flags) = stack_step_runs (all_told h) w refl funcs.OpenSession flags
-  open_runs h w (calls.CloseSession flags) = stack_step_runs (all_told h) w refl funcs.CloseSession flags
-  open_runs h w (calls.ChAuthTok flags) = stack_step_runs (all_told h) w refl funcs.ChAuthTok flags
-  open_runs h w (calls.SetItem item value) = quiet_open h w (calls.SetItem item value) (quiet_either w (is_refused_item ApplicationSets item) _ _ (refl, refl) (refl, refl))
-  open_runs h w (calls.GetItem item) = quiet_open h w (calls.GetItem item) (quiet_either w (is_refused_item ApplicationGets item) _ _ (refl, refl) (refl, refl))
-  open_runs h w (calls.PutEnv text) = quiet_open h w (calls.PutEnv text) (quiet_either w (is_refused_text text h.room.transaction.env) _ _ (refl, refl) (refl, refl))
-  open_runs h w (calls.GetEnv name) = quiet_open h w (calls.GetEnv name) (refl, refl)
-  open_runs h w calls.EnvList = quiet_open h w calls.EnvList (refl, refl)
-  open_runs h w (calls.FailDelay micros) = quiet_open h w (calls.FailDelay micros) (refl, refl)
-  open_runs h w (calls.DelayFn on) = quiet_open h w (calls.DelayFn on) (refl, refl)
-  open_runs h w (calls.Reply text) = quiet_open h w (calls.Reply text) (refl, refl)
+  open_runs : (stack : Option (Func × ℕ)) (h : PlainHandle) (w : PlainWorld) (call : AppCall) → RunsSlot w (Some (opened h)) stack (open_step_by players number stack (all_told h) w call)
+  open_runs (Some stack) h w call = stack_step_runs (all_told h) w refl stack.0 stack.1
+  open_runs None h w (calls.End status) = quiet_open None h w (calls.End status) (refl, refl)
+  open_runs None h w (calls.SetItem item value) = quiet_open None h w (calls.SetItem item value) (quiet_either w (is_refused_item ApplicationSets item) _ _ (refl, refl) (refl, refl))
+  open_runs None h w (calls.GetItem item) = quiet_open None h w (calls.GetItem item) (quiet_either w (is_refused_item ApplicationGets item) _ _ (refl, refl) (refl, refl))
+  open_runs None h w (calls.PutEnv text) = quiet_open None h w (calls.PutEnv text) (quiet_either w (is_refused_text text h.room.transaction.env) _ _ (refl, refl) (refl, refl))
+  open_runs None h w call = quiet_open None h w call (refl, refl)
 
   load_files : (made : Stacks → PlainHandle) (r : Result Counts Stop) (stacks : Stacks) (w : PlainWorld) → (started_by made r stacks w).world.vault.files ≡ w.vault.files
   load_files made (Ok counts) stacks w = refl
@@ -411,13 +402,13 @@ module _ (players : List Player) (number : Code → ℕ → ℕ) where
   closed_quiet place conv w (calls.Reply text) = (refl, refl)
   closed_quiet place conv w call = (refl, refl)
 
-  slot_runs : (place : ℕ) (slot : PlainSlot) (w : PlainWorld) (call : AppCall) → RunsSlot w (Some slot) (stack_call_of call) (slot_step players number place slot w call)
+  slot_runs : (place : ℕ) (slot : PlainSlot) (w : PlainWorld) (call : AppCall) → RunsSlot w (Some slot) (stack_of call) (slot_step players number place slot w call)
   slot_runs place (closed conv) w call = quiet w (closed_step players number place conv w call) (closed_quiet place conv w call)
-  slot_runs place (opened h) w call = open_runs h w call
+  slot_runs place (opened h) w call = open_runs (stack_of call) h w call
 
   at_runs : (slots : List PlainSlot) (w : PlainWorld) (place : ℕ) (call : AppCall) (o : Option PlainSlot)
       → let s = stepped_at players number slots w place call o in
-      (asked : List AskedLine) × RunsBy players w o (stack_call_of call) s.outcome.trail asked s.world.vault.files
+      (asked : List AskedLine) × RunsBy players w o (stack_of call) s.outcome.trail asked s.world.vault.files
   at_runs slots w place call None = ([], record { recorded = refl; asked_are = refl; left = refl })
   at_runs slots w place call (Some slot) = slot_runs place slot w call
 
@@ -467,14 +458,14 @@ module _ (players : List Player) where
   leads_nothing : (w : PlainWorld) (trail : List Visit) (asked : List AskedLine) (last : List File) → RunsNothing w trail asked last → LinesLead players w.vault.files asked last
   leads_nothing w trail asked last r = subst (λ (a : List AskedLine). LinesLead players w.vault.files a last) (sym r.asked_are) r.left
 
-  leads_lines : (h : PlainHandle) (w : PlainWorld) (call : StackCall) (trail : List Visit) (asked : List AskedLine) (last : List File)
+  leads_lines : (h : PlainHandle) (w : PlainWorld) (call : Func × ℕ) (trail : List Visit) (asked : List AskedLine) (last : List File)
       → RunsLines players h w call trail asked last → LinesLead players w.vault.files asked last
   leads_lines h w call trail asked last r =
       subst (λ (f : List File). LinesLead players w.vault.files asked f) (sym r.left)
       (subst (λ (a : List AskedLine). LinesLead players w.vault.files a r.last.world.vault.files) (sym r.asked_are)
-      (run_leads r.lines (state_of (room_begun call.func h) w) r.last r.ran))
+      (run_leads r.lines (state_of (room_begun call.0 h) w) r.last r.ran))
 
-  leads_by : (w : PlainWorld) (slot : Option PlainSlot) (call : Option StackCall) (trail : List Visit) (asked : List AskedLine) (last : List File)
+  leads_by : (w : PlainWorld) (slot : Option PlainSlot) (call : Option (Func × ℕ)) (trail : List Visit) (asked : List AskedLine) (last : List File)
       → RunsBy players w slot call trail asked last → LinesLead players w.vault.files asked last
   leads_by w (Some (opened h)) (Some call) trail asked last r = leads_lines (all_told h) w call trail asked last r
   leads_by w (Some (opened h)) None trail asked last r = leads_nothing w trail asked last r
@@ -483,7 +474,7 @@ module _ (players : List Player) where
 
   pub step_leads : (number : Code → ℕ → ℕ) (slots : List PlainSlot) (w : PlainWorld) (step : Step) (asked : List AskedLine) → StepAsks players number slots w step asked
       → LinesLead players w.vault.files asked (stepped players number slots w step).world.vault.files
-  step_leads number slots w step asked a = leads_by w (slot_at slots step.number) (stack_call_of step.call) _ asked _ a
+  step_leads number slots w step asked a = leads_by w (slot_at slots step.number) (stack_of step.call) _ asked _ a
 
   -- the lines are those that are recorded
   along_visits : (ls : List LineRun) (s : State) → visits_of (asked_along players ls s) ≡ map (λ (l : LineRun). l.visit) ls
@@ -493,14 +484,14 @@ module _ (players : List Player) where
   visits_nothing : (w : PlainWorld) (trail : List Visit) (asked : List AskedLine) (last : List File) → RunsNothing w trail asked last → visits_of asked ≡ trail
   visits_nothing w trail asked last r = ap visits_of r.asked_are ∙ sym r.recorded
 
-  visits_by : (w : PlainWorld) (slot : Option PlainSlot) (call : Option StackCall) (trail : List Visit) (asked : List AskedLine) (last : List File)
+  visits_by : (w : PlainWorld) (slot : Option PlainSlot) (call : Option (Func × ℕ)) (trail : List Visit) (asked : List AskedLine) (last : List File)
       → RunsBy players w slot call trail asked last → visits_of asked ≡ trail
   visits_by w (Some (opened h)) (Some call) trail asked last r =
-      ap visits_of r.asked_are ∙ along_visits r.lines (state_of (room_begun call.func (all_told h)) w) ∙ r.recorded
+      ap visits_of r.asked_are ∙ along_visits r.lines (state_of (room_begun call.0 (all_told h)) w) ∙ r.recorded
   visits_by w (Some (opened h)) None trail asked last r = visits_nothing w trail asked last r
   visits_by w (Some (closed conv)) call trail asked last r = visits_nothing w trail asked last r
   visits_by w None call trail asked last r = visits_nothing w trail asked last r
 
   pub step_visits : (number : Code → ℕ → ℕ) (slots : List PlainSlot) (w : PlainWorld) (step : Step) (asked : List AskedLine) → StepAsks players number slots w step asked
       → visits_of asked ≡ (stepped players number slots w step).outcome.trail
-  step_visits number slots w step asked a = visits_by w (slot_at slots step.number) (stack_call_of step.call) _ asked _ a
+  step_visits number slots w step asked a = visits_by w (slot_at slots step.number) (stack_of step.call) _ asked _ a

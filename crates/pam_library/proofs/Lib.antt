@@ -1,3 +1,4 @@
+pub mod SeenSlot
 pub mod SlotNumberFacts
 pub mod SlotContentFacts
 pub mod ModuleNameFacts

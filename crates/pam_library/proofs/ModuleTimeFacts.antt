@@ -1,6 +1,7 @@
 -- At what time the modules of the lines are asked that a step runs.
 use Rattle.std.proofs.Common.{◌≡◌, ℕ, zero, suc, List, [], ◌∷◌, Option, Some, None, slice_get, refl, sym, ◌∙◌, subst}
 use Rattle.pam_base.specs.declared.code.Code.{Code}
+use Rattle.pam_base.specs.declared.call.Func.{Func}
 use Rattle.pam_base.specs.declared.call.Step.{Step}
 use Rattle.pam_handle.specs.dispatch_core.specs.Lines.{call_of, names_of}
 use Rattle.pam_handle.specs.handler_chain.specs.FlatLines.{module_of}
@@ -13,7 +14,8 @@ use Rattle.pam_handle.specs.pam_room.specs.State.{PlainWorld, State, scene_in, s
 use Rattle.pam_handle.specs.pam_room.specs.declared.visits.Visit.{Visit}
 use Rattle.pam_handle.specs.Items.{all_told}
 use Rattle.pam_handle.specs.Stopping.{room_begun}
-use Rattle.pam_library.specs.Plays.{AreAskedAt, AskedLine, LineRun, RunsBy, RunsNothing, StackCall, StepAsks, asked_along, run_in, stack_call_of}
+use Rattle.pam_library.specs.Plays.{AreAskedAt, AskedLine, LineRun, RunsBy, RunsNothing, StepAsks, asked_along, run_in}
+use Rattle.pam_library.specs.StackOf.{stack_of}
 use Rattle.pam_library.specs.Slots.{PlainSlot, closed, opened, slot_at}
 
 -- reading random words leaves the time
@@ -42,14 +44,14 @@ module _ (players : List Player) where
   nothing_at : (w : PlainWorld) (trail : List Visit) (asked : List AskedLine) (last : List File) → RunsNothing w trail asked last → AreAskedAt (time_of w.clock) asked
   nothing_at w trail asked last r = subst (λ (a : List AskedLine). AreAskedAt (time_of w.clock) a) (sym r.asked_are) tt
 
-  by_at : (w : PlainWorld) (slot : Option PlainSlot) (call : Option StackCall) (trail : List Visit) (asked : List AskedLine) (last : List File)
+  by_at : (w : PlainWorld) (slot : Option PlainSlot) (call : Option (Func × ℕ)) (trail : List Visit) (asked : List AskedLine) (last : List File)
       → RunsBy players w slot call trail asked last → AreAskedAt (time_of w.clock) asked
   by_at w (Some (opened h)) (Some call) trail asked last r =
-      subst (λ (a : List AskedLine). AreAskedAt (time_of w.clock) a) (sym r.asked_are) (along_at (time_of w.clock) r.lines (state_of (room_begun call.func (all_told h)) w) refl)
+      subst (λ (a : List AskedLine). AreAskedAt (time_of w.clock) a) (sym r.asked_are) (along_at (time_of w.clock) r.lines (state_of (room_begun call.0 (all_told h)) w) refl)
   by_at w (Some (opened h)) None trail asked last r = nothing_at w trail asked last r
   by_at w (Some (closed conv)) call trail asked last r = nothing_at w trail asked last r
   by_at w None call trail asked last r = nothing_at w trail asked last r
 
   pub step_at : (number : Code → ℕ → ℕ) (slots : List PlainSlot) (w : PlainWorld) (step : Step) (asked : List AskedLine) → StepAsks players number slots w step asked
       → AreAskedAt (time_of w.clock) asked
-  step_at number slots w step asked a = by_at w (slot_at slots step.number) (stack_call_of step.call) _ asked _ a
+  step_at number slots w step asked a = by_at w (slot_at slots step.number) (stack_of step.call) _ asked _ a

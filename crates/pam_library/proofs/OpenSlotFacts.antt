@@ -1,5 +1,5 @@
 -- The first open slot, and its end.
-use Rattle.std.proofs.Common.{◌≢◌, ◌++◌, slice_set, ◌≡◌, ◌↔◌, ℕ, zero, suc, ◌+◌, ◌-◌, ◌<◌, ◌≤◌, true, false, if◌then◌else◌, is_ok, List, [], ◌∷◌, length, map, drop, get_or, slice_get, Option, Some, None, IsNone, is_some, option_map, Result, refl, sym, ap, ◌∙◌, subst, arith, add-one}
+use Rattle.std.proofs.Common.{◌≢◌, ◌++◌, slice_set, ◌≡◌, ◌↔◌, ℕ, zero, suc, ◌+◌, ◌-◌, ◌<◌, ◌≤◌, true, false, List, [], ◌∷◌, length, map, drop, get_or, slice_get, Option, Some, None, IsNone, is_some, option_map, refl, sym, ap, ◌∙◌, subst, arith, add-one}
 use Rattle.std.specs.List.{SwappedAt}
 use Rattle.std.proofs.lemmas.List.{drop_all, drop_more, length-map}
 use Rattle.std.proofs.lemmas.Option.{slice_get-map, slice_get_read, slice_get_within, some_pair_parts}

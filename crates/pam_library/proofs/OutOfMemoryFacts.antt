@@ -1,11 +1,8 @@
 -- The line at which a stack call ran out of memory: what holds if some objects are modelled holds if all are.
-use Rattle.std.proofs.Common.{◌≡◌, ◌⊎◌, inl, inr, ℕ, Bool, IsTrue, List, [], Option, Some, None, Result, Ok, Err, OnErr}
+use Rattle.std.proofs.Common.{◌≡◌, ◌⊎◌, inl, inr, ℕ, Bool, IsTrue, List, [], Option, Some, None}
 use Rattle.pam_base.specs.declared.code.Code.{Code}
-use Rattle.pam_base.specs.declared.call.AppCall.{AppCall}
-use Rattle.pam_base.specs.declared.call.AppCall.TheVariants as calls
 use Rattle.pam_base.specs.declared.call.Func.{Func}
 use Rattle.pam_base.specs.declared.call.Func.TheVariants as funcs
-use Rattle.pam_base.specs.declared.fault.NoMemory.{NoMemory}
 use Rattle.pam_handle.specs.control_words.specs.Stack.{Stack}
 use Rattle.pam_handle.specs.handler_chain.specs.declared.pass_kind.PassKind.{PassKind}
 use Rattle.pam_handle.specs.handler_chain.specs.Route.{KeptAnswers}
@@ -18,9 +15,7 @@ use Rattle.pam_handle.specs.Around.{Around, all_tell}
 use Rattle.pam_handle.specs.Items.{all_told}
 use Rattle.pam_handle.specs.Stopping.{PassedNothing, Passing, Stops, StopsFirst, StopsIn, StopsInChange, StopsInUpdate, StopsLater, passing, room_begun}
 use Rattle.pam_library.specs.Slots.{PlainSlot, closed, opened}
-use Rattle.pam_library.specs.declared.outcome.Outcome.{Outcome}
-use Rattle.pam_library.specs.AnyWorld.{StackStops, StopsBy, StopsOn, around_of}
-use Rattle.pam_library.proofs.Within.{failed_by}
+use Rattle.pam_library.specs.AnyWorld.{StackStops, StopsBy, around_of}
 
 at_when : (players : List Player) (tells all : Bool) → (IsTrue all → IsTrue tells)
     → (func : Func) (flags : ℕ) (stack : Stack) (kind : PassKind) (kept : KeptAnswers) (past : List Code) (start end : State)
@@ -76,11 +71,7 @@ module _ (p : Passing) (all : Bool) (K : Type 0) (known : IsTrue all → IsTrue 
 
   in_when : (func : Func) (flags : ℕ) (first : Option KeptAnswers) (past : List Code) → StopsIn func flags first past p → StopsIn func flags first past known_as
   in_when funcs.ChAuthTok flags first past s = change_when flags first past s
-  in_when funcs.Authenticate flags first past s = once_when funcs.Authenticate flags past s
-  in_when funcs.SetCred flags first past s = once_when funcs.SetCred flags past s
-  in_when funcs.AcctMgmt flags first past s = once_when funcs.AcctMgmt flags past s
-  in_when funcs.OpenSession flags first past s = once_when funcs.OpenSession flags past s
-  in_when funcs.CloseSession flags first past s = once_when funcs.CloseSession flags past s
+  in_when func flags first past s = once_when func flags past s
 
 -- by what is modelled alone
 pub stops_plain : (func : Func) (flags : ℕ) (a : Around) → (a.world_is_kept → a.new.world ≡ a.old.world) → Stops func flags a
@@ -110,24 +101,6 @@ module _ (players : List Player) (tells all : Bool) (known : IsTrue all → IsTr
   stack_when func flags (opened old) (closed conv) w v s = s
   stack_when func flags (opened old) (opened new) w v s = call_when func flags (all_told old) new w v s
 
-  pub stops_when : (call : AppCall) (result : Result Outcome NoMemory) (old new : PlainSlot) (w v : PlainWorld)
-      → StopsBy players tells call result old new w v → StopsBy players all call result old new w v
-  stops_when (calls.Authenticate flags) result old new w v s = failed_by result _ _ (stack_when funcs.Authenticate flags old new w v) s
-  stops_when (calls.SetCred flags) result old new w v s = failed_by result _ _ (stack_when funcs.SetCred flags old new w v) s
-  stops_when (calls.AcctMgmt flags) result old new w v s = failed_by result _ _ (stack_when funcs.AcctMgmt flags old new w v) s
-  stops_when (calls.OpenSession flags) result old new w v s = failed_by result _ _ (stack_when funcs.OpenSession flags old new w v) s
-  stops_when (calls.CloseSession flags) result old new w v s = failed_by result _ _ (stack_when funcs.CloseSession flags old new w v) s
-  stops_when (calls.ChAuthTok flags) result old new w v s = failed_by result _ _ (stack_when funcs.ChAuthTok flags old new w v) s
-  stops_when call result old new w v s = s
-
--- the same, by the result
-pub stops_on : (result : Result Outcome NoMemory) (players : List Player) (tells : Bool) (call : AppCall) (old new : PlainSlot) (w v : PlainWorld)
-    → StopsBy players tells call result old new w v → OnErr result (StopsOn players tells call old new w v)
-stops_on (Ok o) players tells call old new w v s = tt
-stops_on (Err e) players tells (calls.Authenticate flags) old new w v s = s
-stops_on (Err e) players tells (calls.SetCred flags) old new w v s = s
-stops_on (Err e) players tells (calls.AcctMgmt flags) old new w v s = s
-stops_on (Err e) players tells (calls.OpenSession flags) old new w v s = s
-stops_on (Err e) players tells (calls.CloseSession flags) old new w v s = s
-stops_on (Err e) players tells (calls.ChAuthTok flags) old new w v s = s
-stops_on (Err e) players tells call old new w v s = tt
+  pub stops_when : (stack : Option (Func × ℕ)) (old new : PlainSlot) (w v : PlainWorld) → StopsBy players tells stack old new w v → StopsBy players all stack old new w v
+  stops_when (Some stack) old new w v s = stack_when stack.0 stack.1 old new w v s
+  stops_when None old new w v s = s

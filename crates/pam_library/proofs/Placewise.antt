@@ -4,7 +4,6 @@ use Rattle.std.proofs.lemmas.List.{append-nil}
 use Rattle.pam_base.specs.declared.code.Code.{Code}
 use Rattle.pam_base.specs.declared.code.Code.TheVariants as codes
 use Rattle.pam_base.specs.declared.call.Func.{Func}
-use Rattle.pam_base.specs.declared.call.Func.TheVariants as funcs
 use Rattle.pam_base.specs.declared.call.AppCall.{AppCall}
 use Rattle.pam_base.specs.declared.call.AppCall.TheVariants as calls
 use Rattle.conv_port.specs.Conv.{ConvState}
@@ -34,7 +33,8 @@ use Rattle.pam_library.specs.declared.outcome.Answer.TheVariants as answers
 use Rattle.pam_library.specs.Alike.{Cleaned, IsRecordedAt, datum_without_id, receipts_on, room_without_ids, shown_to, slot_without_ids, told_in}
 use Rattle.pam_library.specs.Outcome.{answers_only}
 use Rattle.pam_library.specs.Slots.{PlainSlot, closed, opened, is_open}
-use Rattle.pam_library.specs.SlotStep.{SlotStepped, answered, closed_step, ended, filed_in, is_refused_for_flags, offered, open_step, opened_by, other_pending, slot_step, stack_step, succeeded, told_by, unless_pending}
+use Rattle.pam_library.specs.StackOf.{stack_of}
+use Rattle.pam_library.specs.SlotStep.{SlotStepped, answered, closed_step, ended, filed_in, is_refused_for_flags, offered, open_step, open_step_by, opened_by, other_pending, slot_step, stack_step, succeeded, told_by, unless_pending}
 use Rattle.pam_library.proofs.SameFilesLoadFacts.{CountsTwins, LookTwins, StopTwins, loaded_twins, quiet_with_calls}
 use Rattle.pam_library.proofs.RecordedDataFacts.{cleanings, cleanings_without_ids, filed_of_births, filed_own, no_cleanings_of_another, receipts_filed, turned_recorded, turned_without_ids}
 use Rattle.pam_library.proofs.Twins.{Kept, KeptIn, RecordedIn, Touches, Twins, touched}
@@ -213,35 +213,34 @@ module _ (n number : ℕ) (first second : PlainWorld) where
         ] in
         subst (λ (e : List Variable). PlaceTwins (put_as text env x v) (put_as text e (in_room r x) w)) (λ i. (t.room i).transaction.env) main
 
-    pub open_twins : (call : AppCall) → PlaceTwins (open_step players delay x v call) (open_step players delay (in_room r x) w call)
-    open_twins (calls.Start service user) = opened_twins x r v w answers.AlreadyOpen answers.AlreadyOpen refl t
-    open_twins (calls.End status) = ended_twins (notes_of players) status x r v w t
-    open_twins (calls.Authenticate flags) = stack_twins funcs.Authenticate flags
-    open_twins (calls.SetCred flags) = stack_twins funcs.SetCred flags
-    open_twins (calls.AcctMgmt flags) = stack_twins funcs.AcctMgmt flags
-    open_twins (calls.OpenSession flags) = stack_twins funcs.OpenSession flags
-    open_twins (calls.CloseSession flags) = stack_twins funcs.CloseSession flags
-    open_twins (calls.ChAuthTok flags) = stack_twins funcs.ChAuthTok flags
-    open_twins (calls.SetItem item value) = elim (is_refused_item ApplicationSets item) as (λ (b : Bool). PlaceTwins
+    open_twins_by : (stack : Option (Func × ℕ)) (call : AppCall) → PlaceTwins (open_step_by players delay stack x v call) (open_step_by players delay stack (in_room r x) w call)
+    open_twins_by (Some stack) call = stack_twins stack.0 stack.1
+    open_twins_by None (calls.Start service user) = opened_twins x r v w answers.AlreadyOpen answers.AlreadyOpen refl t
+    open_twins_by None (calls.End status) = ended_twins (notes_of players) status x r v w t
+    open_twins_by None (calls.SetItem item value) = elim (is_refused_item ApplicationSets item) as (λ (b : Bool). PlaceTwins
         (if b then answered (opened x) v (answers.Code codes.BadItem) else succeeded (opened (with_items (with_text x.room.transaction.items item value) x)) v)
         (if b then answered (opened (in_room r x)) w (answers.Code codes.BadItem) else succeeded (opened (with_items (with_text r.transaction.items item value) (in_room r x))) w)) [
           | true ↦ opened_twins x r v w (answers.Code codes.BadItem) (answers.Code codes.BadItem) refl t
           | false ↦ changed_room (λ (s : PlainRoom). record s { transaction = record s.transaction { items = with_text s.transaction.items item value } }) (record { same = λ s. refl; datums = λ s. refl; handle = λ s. refl }) x r v w (answers.Code codes.Success) t
         ]
-    open_twins (calls.GetItem item) = elim (is_refused_item ApplicationGets item) as (λ (b : Bool). PlaceTwins
+    open_twins_by None (calls.GetItem item) = elim (is_refused_item ApplicationGets item) as (λ (b : Bool). PlaceTwins
         (if b then answered (opened x) v (answers.Code codes.BadItem) else answered (opened x) v (answers.Value (text_of x.room.transaction.items item)))
         (if b then answered (opened (in_room r x)) w (answers.Code codes.BadItem) else answered (opened (in_room r x)) w (answers.Value (text_of r.transaction.items item)))) [
           | true ↦ opened_twins x r v w (answers.Code codes.BadItem) (answers.Code codes.BadItem) refl t
           | false ↦ opened_twins x r v w (answers.Value (text_of x.room.transaction.items item)) (answers.Value (text_of r.transaction.items item)) (λ i. answers.Value (text_of (t.room i).transaction.items item)) t
         ]
-    open_twins (calls.PutEnv text) = put_twins text
-    open_twins (calls.GetEnv name) = opened_twins x r v w (answers.Value (value_of name x.room.transaction.env)) (answers.Value (value_of name r.transaction.env)) (λ i. answers.Value (value_of name (t.room i).transaction.env)) t
-    open_twins calls.EnvList = opened_twins x r v w (answers.List (map variable_text x.room.transaction.env)) (answers.List (map variable_text r.transaction.env)) (λ i. answers.List (map variable_text (t.room i).transaction.env)) t
-    open_twins (calls.FailDelay micros) =
+    open_twins_by None (calls.PutEnv text) = put_twins text
+    open_twins_by None (calls.GetEnv name) = opened_twins x r v w (answers.Value (value_of name x.room.transaction.env)) (answers.Value (value_of name r.transaction.env)) (λ i. answers.Value (value_of name (t.room i).transaction.env)) t
+    open_twins_by None calls.EnvList = opened_twins x r v w (answers.List (map variable_text x.room.transaction.env)) (answers.List (map variable_text r.transaction.env)) (λ i. answers.List (map variable_text (t.room i).transaction.env)) t
+    open_twins_by None (calls.FailDelay micros) =
         changed_room (λ (s : PlainRoom). record s { transaction = record s.transaction { delay = max (counted_request micros) s.transaction.delay } }) (record { same = λ s. refl; datums = λ s. refl; handle = λ s. refl }) x r v w (answers.Code codes.Success) t
-    open_twins (calls.DelayFn on) = opened_twins (with_delay_function on x) r v w (answers.Code codes.Success) (answers.Code codes.Success) refl t
-    open_twins (calls.Reply text) =
+    open_twins_by None (calls.DelayFn on) = opened_twins (with_delay_function on x) r v w (answers.Code codes.Success) (answers.Code codes.Success) refl t
+    open_twins_by None (calls.Reply text) =
         changed_room (λ (s : PlainRoom). record s { conv = offered text s.conv }) (record { same = λ s. refl; datums = λ s. refl; handle = λ s. refl }) x r v w answers.Nothing t
+    open_twins_by None call = opened_twins x r v w answers.Nothing answers.Nothing refl t
+
+    pub open_twins : (call : AppCall) → PlaceTwins (open_step players delay x v call) (open_step players delay (in_room r x) w call)
+    open_twins call = open_twins_by (stack_of call) call
 
   -- ---- a start
 
@@ -365,20 +364,15 @@ module _ (players : List Player) (delay : Code → ℕ → ℕ) where
       let s : SlotStepped = told_by (filed_in w) (answers.Code c.code) c in
       either_from (is_refused_for_flags func flags) w (answered (opened h) w (answers.Code codes.SystemErr)) (unless_pending (other_pending h.pending func) (opened h) w s) refl (unless_from (other_pending h.pending func) h w s refl)
 
-  open_from : (h : PlainHandle) (w : PlainWorld) (call : AppCall) → (open_step players delay h w call).outcome.filed_from ≡ filed_in w
-  open_from h w (calls.Authenticate flags) = stack_from funcs.Authenticate flags h w
-  open_from h w (calls.SetCred flags) = stack_from funcs.SetCred flags h w
-  open_from h w (calls.AcctMgmt flags) = stack_from funcs.AcctMgmt flags h w
-  open_from h w (calls.OpenSession flags) = stack_from funcs.OpenSession flags h w
-  open_from h w (calls.CloseSession flags) = stack_from funcs.CloseSession flags h w
-  open_from h w (calls.ChAuthTok flags) = stack_from funcs.ChAuthTok flags h w
-  open_from h w (calls.SetItem item value) =
+  open_from : (stack : Option (Func × ℕ)) (h : PlainHandle) (w : PlainWorld) (call : AppCall) → (open_step_by players delay stack h w call).outcome.filed_from ≡ filed_in w
+  open_from (Some stack) h w call = stack_from stack.0 stack.1 h w
+  open_from None h w (calls.SetItem item value) =
       either_from (is_refused_item ApplicationSets item) w (answered (opened h) w (answers.Code codes.BadItem)) (succeeded (opened (with_items (with_text h.room.transaction.items item value) h)) w) refl refl
-  open_from h w (calls.GetItem item) =
+  open_from None h w (calls.GetItem item) =
       either_from (is_refused_item ApplicationGets item) w (answered (opened h) w (answers.Code codes.BadItem)) (answered (opened h) w (answers.Value (text_of h.room.transaction.items item))) refl refl
-  open_from h w (calls.PutEnv text) =
+  open_from None h w (calls.PutEnv text) =
       either_from (is_refused_text text h.room.transaction.env) w (answered (opened h) w (answers.Code codes.BadItem)) (succeeded (opened (with_environment (after_put text h.room.transaction.env) h)) w) refl refl
-  open_from h w call = refl
+  open_from None h w call = refl
 
   closed_from : (place : ℕ) (conv : ConvState) (w : PlainWorld) (call : AppCall) → (closed_step players delay place conv w call).outcome.filed_from ≡ filed_in w
   closed_from place conv w (calls.Start service user) =
@@ -388,4 +382,4 @@ module _ (players : List Player) (delay : Code → ℕ → ℕ) where
   pub filed_from_is : (place : ℕ) (slot : PlainSlot) (w : PlainWorld) (call : AppCall)
       → (slot_step players delay place slot w call).outcome.filed_from ≡ filed_in w
   filed_from_is place (closed conv) w call = closed_from place conv w call
-  filed_from_is place (opened h) w call = open_from (all_told h) w call
+  filed_from_is place (opened h) w call = open_from (stack_of call) (all_told h) w call

@@ -7,6 +7,7 @@ use Rattle.std.proofs.lemmas.Option.{slice_get-map, slice_get_past, slice_get_re
 use Rattle.pam_base.specs.declared.code.Code.{Code}
 use Rattle.pam_base.specs.declared.call.AppCall.{AppCall}
 use Rattle.pam_base.specs.declared.call.AppCall.TheVariants as calls
+use Rattle.pam_base.specs.declared.call.Func.{Func}
 use Rattle.pam_base.specs.declared.call.Step.{Step}
 use Rattle.pam_base.specs.declared.fault.NoMemory.{NoMemory}
 use Rattle.data_cleanup.specs.DataList.{PlainDataList}
@@ -25,13 +26,15 @@ use Rattle.pam_library.specs.Slots.{PlainSlot, closed, opened, slot_at, with_slo
 use Rattle.pam_library.specs.SlotStep.{SlotStepsAs, filed_in, slot_step}
 use Rattle.pam_library.specs.Step.{Stepped, StepsAs, stepped, stepped_at}
 use Rattle.pam_library.specs.Sound.{IsAtPlace, IsSound}
-use Rattle.pam_library.specs.AnyWorld.{AnswersBy, Fails, FailsAt, SpendsAt, StopsAt, end_at, refusal, stays_inside, takes_no_memory}
+use Rattle.pam_library.specs.AnyWorld.{AnswersBy, Fails, FailsAt, FailsBy, SpendsAt, StopsAt, StopsOn, end_at, refusal, stays_inside, takes_no_memory}
 use Rattle.pam_library.specs.InPlace.{CalledInSlot, IsReadyAt}
 use Rattle.pam_library.specs.Traced.{TracesAt}
-use Rattle.pam_library.proofs.OutOfMemoryFacts.{stops_on, stops_when}
+use Rattle.pam_library.specs.StackOf.{stack_of}
+use Rattle.pam_library.proofs.OutOfMemoryFacts.{stops_when}
 use Rattle.pam_library.proofs.SlotNumberFacts.{slot_at-with_slot_other, slot_at-with_slot_same, slot_at-within}
 use Rattle.pam_library.proofs.StackCallFacts.{IsOnly}
 use Rattle.pam_library.proofs.Within.{failed_by}
+use Rattle.pam_library.proofs.SeenSlot.{slot_seen}
 
 -- ---- an element that is taken out and put back
 
@@ -222,12 +225,13 @@ MovesLaw = (note : Notes) (names : List (List ℕ)) (modules : ℕ) (slots : Lis
     SpendsAt note modules (Some old) call (data_in number (Some old)) before (data_in number (Some new)) after → AreNumbered 0 after.births →
     Moves note 17 (end_at (Some old) number call) before (lists_of slots) after (lists_of (with_slot slots number new))
 
-fails_when : (tells all : Bool) (call : AppCall) (old new : PlainSlot) → (IsTrue all → IsTrue tells) → Fails tells call old new → Fails all call old new
-fails_when tells all (calls.Reply text) old new more f = record { rest = f.rest; told = λ e. f.told (more e) }
-fails_when tells all call old new more f = f
+fails_when : (tells all : Bool) (stack : Option (Func × ℕ)) (call : AppCall) (old new : PlainSlot) → (IsTrue all → IsTrue tells) → FailsBy tells stack call old new → FailsBy all stack call old new
+fails_when tells all (Some stack) call old new more f = f
+fails_when tells all None (calls.Reply text) old new more f = record { rest = f.rest; told = λ e. f.told (more e) }
+fails_when tells all None call old new more f = f
 
-module _ (players : List Player) (gives : (Code → ℕ → ℕ) → Type 0) (tells world_tells : Bool) (number : ℕ) (call : AppCall) (slots next : List PlainSlot) (old new : PlainSlot) (w v : PlainWorld) (result : Result Outcome NoMemory)
-    (is : IsPut slots next number old new) (goes : CalledInSlot players gives tells world_tells number call old w result new v) where
+module _ (players : List Player) (gives : (Code → ℕ → ℕ) → Type 0) (tells world_tells : Bool) (faults : ℕ) (number : ℕ) (call : AppCall) (slots next : List PlainSlot) (old new : PlainSlot) (w v : PlainWorld) (result : Result Outcome NoMemory)
+    (is : IsPut slots next number old new) (goes : CalledInSlot number call (slot_seen players gives tells world_tells faults old w) result new v) where
   pub others_stay : (other : ℕ) → (other ≡ number → ⊥) → slot_at next other ≡ slot_at slots other
   others_stay other differs = ap (λ (s : List PlainSlot). slot_at s other) is.next_is ∙ slot_at-with_slot_other slots number other new differs
 
@@ -269,10 +273,10 @@ module _ (players : List Player) (gives : (Code → ℕ → ℕ) → Type 0) (te
   fails_after all more =
       subst (λ (s : Option PlainSlot). OnErr result (FailsAt all call s (slot_at next number))) (sym is.there)
       (subst (λ (s : Option PlainSlot). OnErr result (FailsAt all call (Some old) s)) (sym new_there)
-      (failed_by result (Fails tells call old new) (FailsAt all call (Some old) (Some new)) (fails_when tells all call old new more) goes.fails))
+      (failed_by result (Fails tells call old new) (FailsAt all call (Some old) (Some new)) (fails_when tells all (stack_of call) call old new more) goes.fails))
 
   pub stops_after : (all : Bool) → (IsTrue all → IsTrue (tells && world_tells)) → OnErr result (StopsAt players all call (slot_at slots number) (slot_at next number) w v)
   stops_after all known =
       subst (λ (s : Option PlainSlot). OnErr result (StopsAt players all call s (slot_at next number) w v)) (sym is.there)
       (subst (λ (s : Option PlainSlot). OnErr result (StopsAt players all call (Some old) s w v)) (sym new_there)
-      (stops_on result players all call old new w v (stops_when players (tells && world_tells) all known call result old new w v goes.stops)))
+      (failed_by result (StopsOn players (tells && world_tells) call old new w v) (StopsOn players all call old new w v) (stops_when players (tells && world_tells) all known (stack_of call) old new w v) goes.stops))

@@ -23,18 +23,19 @@ use Rattle.pam_library.specs.SlotStep.{filed_in, opened_by}
 use Rattle.pam_library.specs.Sound.{IsAtPlace}
 use Rattle.pam_library.specs.AnyWorld.{is_refused}
 use Rattle.pam_library.specs.InPlace.{CalledInSlot, IsOpened, IsRefused, OpensPlace}
+use Rattle.pam_library.proofs.SeenSlot.{slot_seen}
 
 refused_is : (answer : Answer) (fault : LoadFault) → answer ≡ answers.Refused fault → IsTrue (is_refused answer)
 refused_is answer fault is = subst (λ (a : Answer). IsTrue (is_refused a)) (sym is) refl
 
-module _ (players : List Player) (gives : (Code → ℕ → ℕ) → Type 0) (tells world_tells : Bool) (number : ℕ) where
+module _ (players : List Player) (gives : (Code → ℕ → ℕ) → Type 0) (tells world_tells : Bool) (faults : ℕ) (number : ℕ) where
   -- the same start, of a service and a user written in another form
   pub start_of : (service given : List ℕ) (user known : Option (List ℕ)) (old : PlainSlot) (w : PlainWorld) (result : Result Outcome NoMemory) (new : PlainSlot) (v : PlainWorld)
-      → given ≡ service → known ≡ user → CalledInSlot players gives tells world_tells number (calls.Start given known) old w result new v
-      → CalledInSlot players gives tells world_tells number (calls.Start service user) old w result new v
+      → given ≡ service → known ≡ user → CalledInSlot number (calls.Start given known) (slot_seen players gives tells world_tells faults old w) result new v
+      → CalledInSlot number (calls.Start service user) (slot_seen players gives tells world_tells faults old w) result new v
   start_of service given user known old w result new v same also goes =
-      subst (λ (u : Option (List ℕ)). CalledInSlot players gives tells world_tells number (calls.Start service u) old w result new v) also
-      (subst (λ (s : List ℕ). CalledInSlot players gives tells world_tells number (calls.Start s known) old w result new v) same goes)
+      subst (λ (u : Option (List ℕ)). CalledInSlot number (calls.Start service u) (slot_seen players gives tells world_tells faults old w) result new v) also
+      (subst (λ (s : List ℕ). CalledInSlot number (calls.Start s known) (slot_seen players gives tells world_tells faults old w) result new v) same goes)
 
   module _ (service : List ℕ) (user : Option (List ℕ)) (conv : ConvState) (w v : PlainWorld) (process : v.process ≡ w.process) where
     abbrev of_start : Started
@@ -55,7 +56,7 @@ module _ (players : List Player) (gives : (Code → ℕ → ℕ) → Type 0) (te
           ∙ ap (λ (a : Result PlainHandle LoadFault). (opened_by (names_of players) conv (filed_in w) of_start.world a).outcome) (sym s.handle_is)
 
       opens_at : (result : Result Outcome NoMemory) (slot : PlainSlot) → IsOpened (filed_in w) h result slot
-          → CalledInSlot players gives tells world_tells number (calls.Start service user) (closed conv) w result slot v
+          → CalledInSlot number (calls.Start service user) (slot_seen players gives tells world_tells faults (closed conv) w) result slot v
       opens_at (Ok o) slot is = record {
         told = λ number_of given all.
             let s : Opens of_start h v = opens all in
@@ -97,12 +98,12 @@ module _ (players : List Player) (gives : (Code → ℕ → ℕ) → Type 0) (te
           }
 
       pub start_opens : (result : Result Outcome NoMemory) (slot : PlainSlot) (n : ℕ) → n ≡ filed_in w → IsOpened n h result slot
-          → CalledInSlot players gives tells world_tells number (calls.Start service user) (closed conv) w result slot v
+          → CalledInSlot number (calls.Start service user) (slot_seen players gives tells world_tells faults (closed conv) w) result slot v
       start_opens result slot n same is = opens_at result slot (subst (λ (k : ℕ). IsOpened k h result slot) same is)
 
     refuses_at : (why : Refuse LoadFault) (result : Result Outcome NoMemory) (slot : PlainSlot) → (IsTrue (tells && world_tells) → Refuses of_start why v)
         → IsRefused (filed_in w) why result → slot ≡ closed conv
-        → CalledInSlot players gives tells world_tells number (calls.Start service user) (closed conv) w result slot v
+        → CalledInSlot number (calls.Start service user) (slot_seen players gives tells world_tells faults (closed conv) w) result slot v
     refuses_at (refusals.Named fault) (Ok o) slot refuses is same = record {
       told = λ number_of given all.
           let s = refuses all in
@@ -143,5 +144,5 @@ module _ (players : List Player) (gives : (Code → ℕ → ℕ) → Type 0) (te
     pub start_refuses : (why : Refuse LoadFault) (result : Result Outcome NoMemory) (slot : PlainSlot) (n : ℕ) → n ≡ filed_in w
         → (IsTrue (tells && world_tells) → Refuses of_start why v)
         → IsRefused n why result → slot ≡ closed conv
-        → CalledInSlot players gives tells world_tells number (calls.Start service user) (closed conv) w result slot v
+        → CalledInSlot number (calls.Start service user) (slot_seen players gives tells world_tells faults (closed conv) w) result slot v
     start_refuses why result slot n same refuses is at = refuses_at why result slot refuses (subst (λ (k : ℕ). IsRefused k why result) same is) at

@@ -18,10 +18,11 @@ use Rattle.pam_library.specs.declared.outcome.Outcome.{Outcome}
 use Rattle.pam_library.specs.Outcome.{PlainOutcome, plain_outcome}
 use Rattle.pam_library.specs.Slots.{PlainSlot, opened}
 use Rattle.pam_library.specs.SlotStep.{SlotStepped, SlotStepsAs, filed_in, open_step, slot_step}
-use Rattle.pam_library.specs.AnyWorld.{AnswersBy, CanAnswer, Fails, SpendsAt, StopsBy, is_free, refusal}
+use Rattle.pam_library.specs.AnyWorld.{AnswersBy, CanAnswer, Fails, SpendsAt, StopsOn, is_free, refusal}
 use Rattle.pam_library.specs.InPlace.{CalledInSlot, StaysInside}
 use Rattle.pam_library.specs.Traced.{TracesIn}
 use Rattle.pam_library.proofs.SlotChangeFacts.{NothingGrows}
+use Rattle.pam_library.proofs.SeenSlot.{slot_seen}
 
 -- the calls that concern only the transaction itself
 abbrev pub is_inside : AppCall → Bool
@@ -54,15 +55,15 @@ fails_same tells (calls.FailDelay micros) h next e same = ap opened same
 fails_same tells (calls.DelayFn on) h next e same = ap opened same
 fails_same tells call h next e same = absurd (cc)
 
-stops_nowhere : (players : List Player) (tells : Bool) (call : AppCall) (result : Result Outcome NoMemory) (old new : PlainSlot) (w v : PlainWorld) → is_inside call ≡ true → StopsBy players tells call result old new w v
-stops_nowhere players tells (calls.SetItem item value) result old new w v e = tt
-stops_nowhere players tells (calls.GetItem item) result old new w v e = tt
-stops_nowhere players tells (calls.PutEnv text) result old new w v e = tt
-stops_nowhere players tells (calls.GetEnv name) result old new w v e = tt
-stops_nowhere players tells calls.EnvList result old new w v e = tt
-stops_nowhere players tells (calls.FailDelay micros) result old new w v e = tt
-stops_nowhere players tells (calls.DelayFn on) result old new w v e = tt
-stops_nowhere players tells call result old new w v e = absurd (cc)
+stops_nowhere : (players : List Player) (tells : Bool) (call : AppCall) (old new : PlainSlot) (w v : PlainWorld) → is_inside call ≡ true → StopsOn players tells call old new w v
+stops_nowhere players tells (calls.SetItem item value) old new w v e = tt
+stops_nowhere players tells (calls.GetItem item) old new w v e = tt
+stops_nowhere players tells (calls.PutEnv text) old new w v e = tt
+stops_nowhere players tells (calls.GetEnv name) old new w v e = tt
+stops_nowhere players tells calls.EnvList old new w v e = tt
+stops_nowhere players tells (calls.FailDelay micros) old new w v e = tt
+stops_nowhere players tells (calls.DelayFn on) old new w v e = tt
+stops_nowhere players tells call old new w v e = absurd (cc)
 
 untraced : (call : AppCall) (h : PlainHandle) (new : PlainSlot) (o : PlainOutcome) → is_inside call ≡ true → TracesIn call (opened h) new o
 untraced (calls.SetItem item value) h new o e = tt
@@ -121,11 +122,11 @@ pub second_of : (a b : Bool) → IsTrue (a && b) → IsTrue b
 second_of true b e = e
 second_of false b e = absurd (cc)
 
-module _ (players : List Player) (gives : (Code → ℕ → ℕ) → Type 0) (tells world_tells : Bool) (h : PlainHandle) (w : PlainWorld) where
+module _ (players : List Player) (gives : (Code → ℕ → ℕ) → Type 0) (tells world_tells : Bool) (faults : ℕ) (h : PlainHandle) (w : PlainWorld) where
   pub inside_goes : (call : AppCall) (n : ℕ) (result : Result Outcome NoMemory) (next : PlainHandle) → is_inside call ≡ true → NothingGrows
       → h ≡ all_told h → h.names ≡ names_of players → h.room.transaction.datums.gone ≡ [] → n ≡ filed_in w
       → StaysInside call n h result next
-      → CalledInSlot players gives tells world_tells h.room.transaction.handle call (opened h) w result (opened next) w
+      → CalledInSlot h.room.transaction.handle call (slot_seen players gives tells world_tells faults (opened h) w) result (opened next) w
   inside_goes call n result next inside grows told names gone filed goes =
       let steps : (number_of : Code → ℕ → ℕ) → IfOk result (λ o. SlotStepsAs (slot_step players number_of h.room.transaction.handle (opened h) w call) (plain_outcome o) (opened next) w) =
       λ number_of. steps_by result (open_step players number_of h w call) (open_step players number_of (all_told h) w call) (opened next) w
@@ -138,7 +139,7 @@ module _ (players : List Player) (gives : (Code → ℕ → ℕ) → Type 0) (te
         filed_from = filed_by result n (filed_in w) filed goes.filed_from;
         succeeds = λ e. goes.succeeds (memory_by (refusal (Some (opened h)) call) (is_free call) (no_refusal call h inside) e);
         fails = failed_by result (next ≡ h) (Fails tells call (opened h) (opened next)) (λ (same : next ≡ h). fails_same tells call h next inside (same ∙ told)) goes.fails;
-        stops = stops_nowhere players (tells && world_tells) call result (opened h) (opened next) w w inside;
+        stops = failed_by result (next ≡ h) (StopsOn players (tells && world_tells) call (opened h) (opened next) w w) (λ (same : next ≡ h). stops_nowhere players (tells && world_tells) call (opened h) (opened next) w w inside) goes.fails;
         placed = record { handle = goes.handle; started_with = goes.names ∙ names };
         spends = spends_same (notes_of players) (length players) call h h.room.transaction.datums next.room.transaction.datums w.process.ledger w.process.ledger inside
             (subst (λ (l : PlainDataList). Grows (notes_of players) (length players) h.room.transaction.datums w.process.ledger l w.process.ledger) (sym goes.datums)

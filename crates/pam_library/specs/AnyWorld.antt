@@ -1,10 +1,8 @@
 -- What holds after a step with real objects, and out of memory too (this project's own).
-use Rattle.std.specs.Prelude.{◌≡◌, ℕ, ◌⊎◌, not, Bool, true, false, if◌then◌else◌, Option, Some, None, is_some, IsTrue, Result, OnErr, List, [], ◌∷◌, reverse}
+use Rattle.std.specs.Prelude.{◌≡◌, ℕ, ◌⊎◌, not, Bool, true, false, if◌then◌else◌, Option, Some, None, is_some, IsTrue, List, [], ◌∷◌, reverse}
 use Rattle.std.specs.Option.{option_map}
 use Rattle.pam_base.specs.declared.code.Code.TheVariants as codes
-use Rattle.pam_base.specs.declared.fault.NoMemory.{NoMemory}
 use Rattle.pam_base.specs.declared.call.Func.{Func}
-use Rattle.pam_base.specs.declared.call.Func.TheVariants as funcs
 use Rattle.pam_base.specs.declared.call.AppCall.{AppCall}
 use Rattle.pam_base.specs.declared.call.AppCall.TheVariants as calls
 use Rattle.pam_handle.specs.item_store.specs.Access.{is_refused as is_refused_item}
@@ -26,10 +24,10 @@ use Rattle.pam_handle.specs.Handle.{PlainHandle}
 use Rattle.pam_handle.specs.Stopping.{Stops}
 use Rattle.pam_handle.specs.pam_room.specs.Module.{Player}
 use Rattle.pam_handle.specs.pam_room.specs.State.{PlainWorld}
-use Rattle.pam_library.specs.declared.outcome.Outcome.{Outcome}
 use Rattle.pam_library.specs.declared.outcome.Answer.{Answer}
 use Rattle.pam_library.specs.declared.outcome.Answer.TheVariants as answers
 use Rattle.pam_library.specs.Slots.{PlainSlot, closed, opened}
+use Rattle.pam_library.specs.StackOf.{stack_of}
 use Rattle.pam_library.specs.SlotStep.{is_refused_for_flags, other_pending}
 
 -- ---- what is returned because of number, slot and pending call, in this order
@@ -39,15 +37,13 @@ stack_refusal pending func flags =
     if is_refused_for_flags func flags then Some (answers.Code codes.SystemErr)
     else option_map answers.Pending (other_pending pending func)
 
+abbrev pub open_refusal_by : Option Pending → Option (Func × ℕ) → AppCall → Option Answer
+open_refusal_by pending (Some stack) call = stack_refusal pending stack.0 stack.1
+open_refusal_by pending None (calls.Start service user) = Some answers.AlreadyOpen
+open_refusal_by pending None call = None
+
 abbrev pub open_refusal : Option Pending → AppCall → Option Answer
-open_refusal pending (calls.Start service user) = Some answers.AlreadyOpen
-open_refusal pending (calls.Authenticate flags) = stack_refusal pending funcs.Authenticate flags
-open_refusal pending (calls.SetCred flags) = stack_refusal pending funcs.SetCred flags
-open_refusal pending (calls.AcctMgmt flags) = stack_refusal pending funcs.AcctMgmt flags
-open_refusal pending (calls.OpenSession flags) = stack_refusal pending funcs.OpenSession flags
-open_refusal pending (calls.CloseSession flags) = stack_refusal pending funcs.CloseSession flags
-open_refusal pending (calls.ChAuthTok flags) = stack_refusal pending funcs.ChAuthTok flags
-open_refusal pending call = None
+open_refusal pending call = open_refusal_by pending (stack_of call) call
 
 abbrev pub closed_refusal : AppCall → Option Answer
 closed_refusal (calls.Start service user) = None
@@ -61,26 +57,26 @@ refusal (Some (opened h)) call = open_refusal h.pending call
 
 -- ---- which steps use something outside: files, modules or a conversation
 
+abbrev pub starts_or_replies : AppCall → Bool
+starts_or_replies (calls.Start service user) = true
+starts_or_replies (calls.Reply text) = true
+starts_or_replies call = false
+
 abbrev pub needs_outside : AppCall → Bool
-needs_outside (calls.Start service user) = true
-needs_outside (calls.Authenticate flags) = true
-needs_outside (calls.SetCred flags) = true
-needs_outside (calls.AcctMgmt flags) = true
-needs_outside (calls.OpenSession flags) = true
-needs_outside (calls.CloseSession flags) = true
-needs_outside (calls.ChAuthTok flags) = true
-needs_outside (calls.Reply text) = true
-needs_outside call = false
+needs_outside call = if is_some (stack_of call) then true else starts_or_replies call
 
 -- A step stays inside if its call does, or if it is refused.
 abbrev pub stays_inside : Option PlainSlot → AppCall → Bool
 stays_inside slot call = if is_some (refusal slot call) then true else not (needs_outside call)
 
 -- the calls that use the world
+abbrev pub starts_or_ends : AppCall → Bool
+starts_or_ends (calls.Start service user) = true
+starts_or_ends (calls.End status) = true
+starts_or_ends call = false
+
 abbrev pub touches_world : AppCall → Bool
-touches_world (calls.End status) = true
-touches_world (calls.Reply text) = false
-touches_world call = needs_outside call
+touches_world call = if is_some (stack_of call) then true else starts_or_ends call
 
 -- a step leaves the world as it was if its call doesn't use it, or if it is refused
 abbrev pub leaves_world : Option PlainSlot → AppCall → Bool
@@ -111,21 +107,25 @@ abbrev pub GetsItem : Bool → Answer → Type 0
 GetsItem true answer = answer ≡ answers.Code codes.BadItem
 GetsItem false answer = IsTrue (is_value answer)
 
-abbrev pub CanAnswer : AppCall → Answer → Type 0
-CanAnswer (calls.Start service user) answer = (answer ≡ answers.Code codes.Success)
+abbrev pub CanAnswerBy : Option (Func × ℕ) → AppCall → Answer → Type 0
+CanAnswerBy None (calls.Start service user) answer = (answer ≡ answers.Code codes.Success)
     ⊎ IsTrue (is_refused answer)
-CanAnswer (calls.End status) answer = answer ≡ answers.Code codes.Success
-CanAnswer (calls.SetItem item value) answer =
+CanAnswerBy None (calls.End status) answer = answer ≡ answers.Code codes.Success
+CanAnswerBy None (calls.SetItem item value) answer =
     answer ≡ succeeds_or_bad_item (is_refused_item ApplicationSets item)
-CanAnswer (calls.GetItem item) answer = GetsItem (is_refused_item ApplicationGets item) answer
-CanAnswer (calls.PutEnv text) answer = (answer ≡ answers.Code codes.Success)
+CanAnswerBy None (calls.GetItem item) answer =
+    GetsItem (is_refused_item ApplicationGets item) answer
+CanAnswerBy None (calls.PutEnv text) answer = (answer ≡ answers.Code codes.Success)
     ⊎ (answer ≡ answers.Code codes.BadItem)
-CanAnswer (calls.GetEnv name) answer = IsTrue (is_value answer)
-CanAnswer calls.EnvList answer = IsTrue (is_list answer)
-CanAnswer (calls.FailDelay micros) answer = answer ≡ answers.Code codes.Success
-CanAnswer (calls.DelayFn on) answer = answer ≡ answers.Code codes.Success
-CanAnswer (calls.Reply text) answer = answer ≡ answers.Nothing
-CanAnswer call answer = IsTrue (is_code answer)
+CanAnswerBy None (calls.GetEnv name) answer = IsTrue (is_value answer)
+CanAnswerBy None calls.EnvList answer = IsTrue (is_list answer)
+CanAnswerBy None (calls.FailDelay micros) answer = answer ≡ answers.Code codes.Success
+CanAnswerBy None (calls.DelayFn on) answer = answer ≡ answers.Code codes.Success
+CanAnswerBy None (calls.Reply text) answer = answer ≡ answers.Nothing
+CanAnswerBy stack call answer = IsTrue (is_code answer)
+
+abbrev pub CanAnswer : AppCall → Answer → Type 0
+CanAnswer call answer = CanAnswerBy (stack_of call) call answer
 
 -- the result of a step, with real objects too: if number, slot or pending call refuse it, what they
 -- say; else one of those that its call can have
@@ -183,15 +183,13 @@ pub record ReplyFails (tells : Bool) (old new : PlainSlot) : Type 0 where
 
 -- A step ran out of memory. A start leaves its slot closed with its conversation; any other call except a stack call or
 -- a reply leaves everything as it was.
+abbrev pub FailsBy : Bool → Option (Func × ℕ) → AppCall → PlainSlot → PlainSlot → Type 0
+FailsBy tells (Some stack) call old new = StackFails stack.0 old new
+FailsBy tells None (calls.Reply text) old new = ReplyFails tells old new
+FailsBy tells None call old new = new ≡ told_slot old
+
 abbrev pub Fails : Bool → AppCall → PlainSlot → PlainSlot → Type 0
-Fails tells (calls.Authenticate flags) old new = StackFails funcs.Authenticate old new
-Fails tells (calls.SetCred flags) old new = StackFails funcs.SetCred old new
-Fails tells (calls.AcctMgmt flags) old new = StackFails funcs.AcctMgmt old new
-Fails tells (calls.OpenSession flags) old new = StackFails funcs.OpenSession old new
-Fails tells (calls.CloseSession flags) old new = StackFails funcs.CloseSession old new
-Fails tells (calls.ChAuthTok flags) old new = StackFails funcs.ChAuthTok old new
-Fails tells (calls.Reply text) old new = ReplyFails tells old new
-Fails tells call old new = new ≡ told_slot old
+Fails tells call old new = FailsBy tells (stack_of call) call old new
 
 -- a transaction and a world by what they hold, if it is known only whether all objects are modelled; what the delay
 -- function returns doesn't matter
@@ -223,44 +221,21 @@ StackStops func flags players tells (opened old) (opened new) w v =
     Stops func flags (around_of players tells (all_told old) new w v)
 StackStops func flags players tells old new w v = ⊥
 
--- the same for a step by its result, for the private functions that make it
-abbrev pub StopsBy : List Player → Bool → AppCall → Result Outcome NoMemory → PlainSlot
-    → PlainSlot → PlainWorld → PlainWorld → Type 0
-StopsBy players tells (calls.Authenticate flags) result old new w v =
-    OnErr result (StackStops funcs.Authenticate flags players tells old new w v)
-StopsBy players tells (calls.SetCred flags) result old new w v =
-    OnErr result (StackStops funcs.SetCred flags players tells old new w v)
-StopsBy players tells (calls.AcctMgmt flags) result old new w v =
-    OnErr result (StackStops funcs.AcctMgmt flags players tells old new w v)
-StopsBy players tells (calls.OpenSession flags) result old new w v =
-    OnErr result (StackStops funcs.OpenSession flags players tells old new w v)
-StopsBy players tells (calls.CloseSession flags) result old new w v =
-    OnErr result (StackStops funcs.CloseSession flags players tells old new w v)
-StopsBy players tells (calls.ChAuthTok flags) result old new w v =
-    OnErr result (StackStops funcs.ChAuthTok flags players tells old new w v)
-StopsBy players tells call result old new w v = Unit {0}
-
 -- the same for the slot with a number, which must exist
 abbrev pub FailsAt : Bool → AppCall → Option PlainSlot → Option PlainSlot → Type 0
 FailsAt tells call (Some old) (Some new) = Fails tells call old new
 FailsAt tells call old new = ⊥
 
 -- what a stack call had done by the time its step ran out of memory
+abbrev pub StopsBy : List Player → Bool → Option (Func × ℕ) → PlainSlot → PlainSlot → PlainWorld
+    → PlainWorld → Type 0
+StopsBy players tells (Some stack) old new w v =
+    StackStops stack.0 stack.1 players tells old new w v
+StopsBy players tells None old new w v = Unit {0}
+
 abbrev pub StopsOn : List Player → Bool → AppCall → PlainSlot → PlainSlot → PlainWorld → PlainWorld
     → Type 0
-StopsOn players tells (calls.Authenticate flags) old new w v =
-    StackStops funcs.Authenticate flags players tells old new w v
-StopsOn players tells (calls.SetCred flags) old new w v =
-    StackStops funcs.SetCred flags players tells old new w v
-StopsOn players tells (calls.AcctMgmt flags) old new w v =
-    StackStops funcs.AcctMgmt flags players tells old new w v
-StopsOn players tells (calls.OpenSession flags) old new w v =
-    StackStops funcs.OpenSession flags players tells old new w v
-StopsOn players tells (calls.CloseSession flags) old new w v =
-    StackStops funcs.CloseSession flags players tells old new w v
-StopsOn players tells (calls.ChAuthTok flags) old new w v =
-    StackStops funcs.ChAuthTok flags players tells old new w v
-StopsOn players tells call old new w v = Unit {0}
+StopsOn players tells call old new w v = StopsBy players tells (stack_of call) old new w v
 
 abbrev pub StopsAt : List Player → Bool → AppCall → Option PlainSlot → Option PlainSlot → PlainWorld
     → PlainWorld → Type 0

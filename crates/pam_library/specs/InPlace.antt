@@ -5,8 +5,6 @@ use Rattle.pam_base.specs.declared.code.Code.TheVariants as codes
 use Rattle.pam_base.specs.declared.fault.BadItem.{BadItem}
 use Rattle.pam_base.specs.declared.fault.Refuse.{Refuse}
 use Rattle.pam_base.specs.declared.fault.Refuse.TheVariants as refusals
-use Rattle.pam_base.specs.declared.call.Func.{Func}
-use Rattle.pam_base.specs.declared.call.Func.TheVariants as funcs
 use Rattle.pam_base.specs.declared.call.AppCall.{AppCall}
 use Rattle.pam_base.specs.declared.call.AppCall.TheVariants as calls
 use Rattle.pam_base.specs.declared.fault.NoMemory.{NoMemory}
@@ -27,36 +25,12 @@ use Rattle.conv_port.specs.Conv.{ConvState}
 use Rattle.pam_library.specs.SlotStep.{SlotStepsAs, filed_in, offered, open_step, slot_step}
 use Rattle.pam_library.specs.Sound.{IsAtPlace}
 use Rattle.pam_library.specs.Traced.{TracesIn}
-use Rattle.pam_library.specs.AnyWorld.{AnswersBy, CanAnswer, CountsRefusal, Fails, HidesNoFault, SpendsAt, StopsBy, is_free, leaves_world, refusal, stays_inside, takes_no_memory}
+use Rattle.pam_library.specs.AnyWorld.{AnswersBy, CanAnswer, CountsRefusal, Fails, HidesNoFault, SpendsAt, StopsOn, is_free, leaves_world, refusal, stays_inside, takes_no_memory}
 
 -- a slot that may be called: an open transaction has its number, and its module data wait for their cleanup
 abbrev pub IsReadyAt : ℕ → PlainSlot → PlainProcess → Type 0
 IsReadyAt modules (closed conv) process = Unit {0}
 IsReadyAt modules (opened h) process = IsReady modules h.room.transaction process
-
--- a call in the slot of a number, with real objects and with modelled ones
-pub record CalledInSlot (players : List Player) (gives : (Code → ℕ → ℕ) → Type 0)
-    (tells world_tells : Bool) (number : ℕ) (call : AppCall)
-    (old : PlainSlot) (before : PlainWorld) (result : Result Outcome NoMemory) (new : PlainSlot)
-    (after : PlainWorld) : Type 0 where
-  pub told : (number_of : Code → ℕ → ℕ) → gives number_of → IsTrue (tells && world_tells) →
-      IfOk result (λ o. SlotStepsAs (slot_step players number_of number old before call)
-      (plain_outcome o) new after)
-  pub alone : (number_of : Code → ℕ → ℕ) → stays_inside (Some old) call ≡ true →
-      IfOk result (λ o. SlotStepsAs (slot_step players number_of number old before call)
-      (plain_outcome o) new after)
-  pub answers : IfOk result (λ o. AnswersBy (refusal (Some old) call) call o.answer)
-  pub traces : IfOk result (λ o. TracesIn call old new (plain_outcome o))
-  pub filed_from : IfOk result (λ o. o.filed_from ≡ length before.process.ledger.filed)
-  pub succeeds : takes_no_memory (Some old) call ≡ true → IsOk result
-  pub fails : OnErr result (Fails tells call old new)
-  pub stops : StopsBy players (tells && world_tells) call result old new before after
-  pub placed : IsAtPlace (names_of players) number new
-  pub spends : SpendsAt (notes_of players) (length players) (Some old) call
-      (data_in number (Some old)) before.process.ledger (data_in number (Some new))
-      after.process.ledger
-  pub root : after.process.root ≡ before.process.root
-  pub caller : after.process.caller ≡ before.process.caller
 
 -- what a step in one slot works with: the modules and the delay function, the slot and the world, whether the slot's
 -- conversation is modelled, and the objects of the world, and the file store's count of failed accesses
@@ -68,6 +42,10 @@ pub record SlotSeen : Type 1 where
   pub tells : Bool
   pub world_tells : Bool
   pub faults : ℕ
+
+-- all objects are modelled
+abbrev pub all_tell : SlotSeen → Bool
+all_tell s = s.tells && s.world_tells
 
 -- the slot of a number may be called
 pub record MayStep (number : ℕ) (s : SlotSeen) : Type 0 where
@@ -89,14 +67,36 @@ IsToldAll h = h ≡ all_told h
 abbrev pub HasNoData : PlainHandle → Type 0
 HasNoData h = h.room.transaction.datums.live ≡ []
 
+-- A call in the slot of a number, with real objects and with modelled ones: its result, and the slot and the world after
+-- it.
+pub record CalledInSlot (number : ℕ) (call : AppCall) (old : SlotSeen)
+    (result : Result Outcome NoMemory) (new : PlainSlot) (after : PlainWorld) : Type 0 where
+  pub told : (number_of : Code → ℕ → ℕ) → old.gives number_of → IsTrue (all_tell old) →
+      IfOk result (λ o. SlotStepsAs (slot_step old.players number_of number old.slot old.world call)
+      (plain_outcome o) new after)
+  pub alone : (number_of : Code → ℕ → ℕ) → stays_inside (Some old.slot) call ≡ true →
+      IfOk result (λ o. SlotStepsAs (slot_step old.players number_of number old.slot old.world call)
+      (plain_outcome o) new after)
+  pub answers : IfOk result (λ o. AnswersBy (refusal (Some old.slot) call) call o.answer)
+  pub traces : IfOk result (λ o. TracesIn call old.slot new (plain_outcome o))
+  pub filed_from : IfOk result (λ o. o.filed_from ≡ filed_in old.world)
+  pub succeeds : takes_no_memory (Some old.slot) call ≡ true → IsOk result
+  pub fails : OnErr result (Fails old.tells call old.slot new)
+  pub stops : OnErr result (StopsOn old.players (all_tell old) call old.slot new old.world after)
+  pub placed : IsAtPlace (names_of old.players) number new
+  pub spends : SpendsAt (notes_of old.players) (length old.players) (Some old.slot) call
+      (data_in number (Some old.slot)) old.world.process.ledger (data_in number (Some new))
+      after.process.ledger
+  pub root : after.process.root ≡ old.world.process.root
+  pub caller : after.process.caller ≡ old.world.process.caller
+
 -- A call in the slot of a number, with the world before and after it: its result, and what it leaves of the world.
 pub record CallsPlace {World : Type 0} (number : ℕ) (call : AppCall) (old : SlotSeen)
     (before : World) (result : Result Outcome NoMemory) (new : SlotSeen) (after : World)
     : Type 0 where
   pub still_tells : new.tells ≡ old.tells
   pub world_tells : new.world_tells ≡ old.world_tells
-  pub goes : CalledInSlot old.players old.gives old.tells old.world_tells number call old.slot
-      old.world result new.slot new.world
+  pub goes : CalledInSlot number call old result new.slot new.world
   pub world : leaves_world (Some old.slot) call ≡ true → after ≡ before
 
 -- the number of the transaction in a slot
@@ -148,25 +148,6 @@ IsCoded filed (Err (refusals.Named item)) (Ok o) = SaysOnly filed (answers.Code 
 IsCoded filed (Err (refusals.Named item)) (Err e) = ⊥
 IsCoded filed (Err refusals.NoMemory) (Ok o) = ⊥
 IsCoded filed (Err refusals.NoMemory) (Err e) = Unit {0}
-
--- the application's call of a stack function
-abbrev pub stack_app_call : Func → ℕ → AppCall
-stack_app_call funcs.Authenticate flags = calls.Authenticate flags
-stack_app_call funcs.SetCred flags = calls.SetCred flags
-stack_app_call funcs.AcctMgmt flags = calls.AcctMgmt flags
-stack_app_call funcs.OpenSession flags = calls.OpenSession flags
-stack_app_call funcs.CloseSession flags = calls.CloseSession flags
-stack_app_call funcs.ChAuthTok flags = calls.ChAuthTok flags
-
--- whether it is one
-abbrev pub runs_stack : AppCall → Bool
-runs_stack (calls.Authenticate flags) = true
-runs_stack (calls.SetCred flags) = true
-runs_stack (calls.AcctMgmt flags) = true
-runs_stack (calls.OpenSession flags) = true
-runs_stack (calls.CloseSession flags) = true
-runs_stack (calls.ChAuthTok flags) = true
-runs_stack call = false
 
 -- a reply was offered to a conversation, or memory ran out, and then it holds what it held before
 abbrev pub IsOffered : Result Outcome NoMemory → List ℕ → ConvState → ConvState → Type 0

@@ -6,6 +6,7 @@ pub use Rattle.pam_handle
 pub use Rattle.pam_handle.specs.pam_room
 pub mod Outcome
 pub mod Slots
+pub mod StackOf
 pub mod SlotStep
 pub mod Step
 pub mod Closing

@@ -4,10 +4,7 @@ use Rattle.std.specs.Prelude.{◌≡◌, ◌⊎◌, ℕ, ◌+◌, Bool, List, []
 use Rattle.std.specs.List.{AllByRecursion}
 use Rattle.pam_base.specs.declared.code.Code.{Code}
 use Rattle.pam_base.specs.declared.code.Code.TheVariants.{ModuleUnknown}
-use Rattle.pam_base.specs.declared.call.AppCall.{AppCall}
-use Rattle.pam_base.specs.declared.call.AppCall.TheVariants as calls
 use Rattle.pam_base.specs.declared.call.Func.{Func}
-use Rattle.pam_base.specs.declared.call.Func.TheVariants as funcs
 use Rattle.pam_base.specs.declared.call.Step.{Step}
 use Rattle.pam_handle.specs.control_words.specs.Module.{name_of_module}
 use Rattle.pam_handle.specs.control_words.specs.Stack.{Stack, none, line, sub, lines_in}
@@ -28,6 +25,7 @@ use Rattle.pam_handle.specs.Items.{all_told}
 use Rattle.pam_handle.specs.StackCalls.{flags_seen}
 use Rattle.pam_handle.specs.Stopping.{first_stack, room_begun}
 use Rattle.pam_library.specs.Slots.{PlainSlot, opened, slot_at}
+use Rattle.pam_library.specs.StackOf.{stack_of}
 use Rattle.pam_library.specs.Step.{stepped}
 
 -- the module with this number, if there is one
@@ -41,13 +39,13 @@ module_of_path players path =
     player_numbered players (number_of_name (name_of_module path) 0 (names_of players))
 
 -- what a module was called with, and what it saw
-pub record Asked : Type 0 where
+pub record ModuleGets : Type 0 where
   pub call : PlainCall
   pub room : SeenRoom
   pub held : List NamedData
   pub sight : Sight
 
-abbrev pub played : Player → Asked → Played
+abbrev pub played : Player → ModuleGets → Played
 played p a = p.plays a.call a.room a.held a.sight
 
 -- what the line returns
@@ -69,7 +67,7 @@ visit_of place path answer = record { place = place; path = path; answer = answe
 -- a line that was run, and what its module got, if it exists
 pub record AskedLine : Type 0 where
   pub visit : Visit
-  pub asked : Asked
+  pub asked : ModuleGets
 
 -- the lines themselves, as they are recorded
 abbrev pub visits_of : List AskedLine → List Visit
@@ -87,7 +85,7 @@ module _ (players : List Player) where
       × RunOn ls (run_in l s).state t
 
   -- what the module with this number gets in a state
-  abbrev pub asked_by : Option ℕ → LineRun → State → Asked
+  abbrev pub asked_by : Option ℕ → LineRun → State → ModuleGets
   asked_by number l s = record {
     call = call_of l.func l.flags l.rule;
     room = seen_of (at_work (unwrap_or number 0) s).room;
@@ -113,41 +111,24 @@ IsRuleAt rule place (line r rest) at = ((rule ≡ r) × (place ≡ at))
 IsRuleAt rule place (sub inner rest) at = IsRuleAt rule place inner at
     ⊎ IsRuleAt rule place rest (at + lines_in inner)
 
--- a stack call and its flags
-pub record StackCall : Type 0 where
-  pub func : Func
-  pub flags : ℕ
-
--- the stack call that a call is, if it is one
-abbrev pub stack_call_of : AppCall → Option StackCall
-stack_call_of (calls.Authenticate flags) =
-    Some (record { func = funcs.Authenticate; flags = flags })
-stack_call_of (calls.SetCred flags) = Some (record { func = funcs.SetCred; flags = flags })
-stack_call_of (calls.AcctMgmt flags) = Some (record { func = funcs.AcctMgmt; flags = flags })
-stack_call_of (calls.OpenSession flags) = Some (record { func = funcs.OpenSession; flags = flags })
-stack_call_of (calls.CloseSession flags) =
-    Some (record { func = funcs.CloseSession; flags = flags })
-stack_call_of (calls.ChAuthTok flags) = Some (record { func = funcs.ChAuthTok; flags = flags })
-stack_call_of call = None
-
--- A line belongs to the stack of a call, and was run with the flags of one of its passes.
-pub record IsLineOf (call : StackCall) (stacks : Stacks) (l : LineRun) : Type 0 where
-  pub func_is : l.func ≡ call.func
+-- A line belongs to the stack of a call, by its function and flags, and was run with the flags of one of its passes.
+pub record IsLineOf (call : Func × ℕ) (stacks : Stacks) (l : LineRun) : Type 0 where
+  pub func_is : l.func ≡ call.0
   pub second : Bool
-  pub flags_are : l.flags ≡ flags_seen call.func second call.flags
-  pub stands : IsRuleAt l.rule l.visit.place (first_stack call.func stacks) 1
+  pub flags_are : l.flags ≡ flags_seen call.0 second call.1
+  pub stands : IsRuleAt l.rule l.visit.place (first_stack call.0 stacks) 1
 
 -- A stack call in a transaction ran these lines, one after another, beginning in the state in which
 -- it found the transaction and the world; the files after the call are those that the last line
 -- left.
-pub record RunsLines (players : List Player) (h : PlainHandle) (w : PlainWorld) (call : StackCall)
+pub record RunsLines (players : List Player) (h : PlainHandle) (w : PlainWorld) (call : Func × ℕ)
     (trail : List Visit) (asked : List AskedLine) (after : List File) : Type 0 where
   pub lines : List LineRun
   pub each : AllByRecursion (IsLineOf call h.stacks) lines
   pub recorded : map (λ (l : LineRun). l.visit) lines ≡ trail
   pub last : State
-  pub ran : RunOn players lines (state_of (room_begun call.func h) w) last
-  pub asked_are : asked ≡ asked_along players lines (state_of (room_begun call.func h) w)
+  pub ran : RunOn players lines (state_of (room_begun call.0 h) w) last
+  pub asked_are : asked ≡ asked_along players lines (state_of (room_begun call.0 h) w)
   pub left : after ≡ last.world.vault.files
 
 -- nothing was run, and the files are as before
@@ -158,7 +139,7 @@ pub record RunsNothing (w : PlainWorld) (trail : List Visit) (asked : List Asked
   pub left : after ≡ w.vault.files
 
 -- by the slot and, for a stack call, by its flags
-abbrev pub RunsBy : List Player → PlainWorld → Option PlainSlot → Option StackCall → List Visit
+abbrev pub RunsBy : List Player → PlainWorld → Option PlainSlot → Option (Func × ℕ) → List Visit
     → List AskedLine → List File → Type 0
 RunsBy players w (Some (opened h)) (Some call) trail asked after =
     RunsLines players (all_told h) w call trail asked after
@@ -169,7 +150,7 @@ abbrev pub StepAsks : List Player → (Code → ℕ → ℕ) → List PlainSlot 
     → List AskedLine → Type 0
 StepAsks players number_of slots w step asked =
     let t = stepped players number_of slots w step in
-    RunsBy players w (slot_at slots step.number) (stack_call_of step.call) t.outcome.trail asked
+    RunsBy players w (slot_at slots step.number) (stack_of step.call) t.outcome.trail asked
     t.world.vault.files
 
 -- ---- time

@@ -1,10 +1,9 @@
 -- One call in one slot (the calls of the Application Developers' Guide; that a call may be incomplete, the delay
 -- function and the replies are this project's own).
-use Rattle.std.specs.Prelude.{◌≡◌, ℕ, Bool, if◌then◌else◌, List, [], ◌∷◌, ◌++◌, map, length, Option, Some, None, Result, Ok, Err}
+use Rattle.std.specs.Prelude.{◌≡◌, ℕ, if◌then◌else◌, List, [], ◌∷◌, ◌++◌, map, length, Option, Some, None, Result, Ok, Err}
 use Rattle.pam_base.specs.declared.code.Code.{Code}
 use Rattle.pam_base.specs.declared.code.Code.TheVariants as codes
 use Rattle.pam_base.specs.declared.call.Func.{Func}
-use Rattle.pam_base.specs.declared.call.Func.TheVariants as funcs
 use Rattle.pam_base.specs.declared.call.AppCall.{AppCall}
 use Rattle.pam_base.specs.declared.call.AppCall.TheVariants as calls
 use Rattle.data_cleanup.specs.Cleanup.{Notes}
@@ -29,6 +28,7 @@ use Rattle.pam_library.specs.declared.outcome.Answer.{Answer}
 use Rattle.pam_library.specs.declared.outcome.Answer.TheVariants as answers
 use Rattle.pam_library.specs.Outcome.{PlainOutcome, answers_only}
 use Rattle.pam_library.specs.Slots.{PlainSlot, closed, opened}
+use Rattle.pam_library.specs.StackOf.{stack_of}
 
 -- a slot, the world and what the step reported and returned
 pub record SlotStepped : Type 0 where
@@ -119,35 +119,35 @@ module _ (players : List Player) (number : Code → ℕ → ℕ) where
 
   -- ---- the calls on an open transaction without anything to report
 
-  abbrev pub open_step : PlainHandle → PlainWorld → AppCall → SlotStepped
-  open_step h w (calls.Start service user) = answered (opened h) w answers.AlreadyOpen
-  open_step h w (calls.End status) = ended (notes_of players) status h w
-  open_step h w (calls.Authenticate flags) = stack_step funcs.Authenticate flags h w
-  open_step h w (calls.SetCred flags) = stack_step funcs.SetCred flags h w
-  open_step h w (calls.AcctMgmt flags) = stack_step funcs.AcctMgmt flags h w
-  open_step h w (calls.OpenSession flags) = stack_step funcs.OpenSession flags h w
-  open_step h w (calls.CloseSession flags) = stack_step funcs.CloseSession flags h w
-  open_step h w (calls.ChAuthTok flags) = stack_step funcs.ChAuthTok flags h w
-  open_step h w (calls.SetItem item value) =
+  abbrev pub open_step_by : Option (Func × ℕ) → PlainHandle → PlainWorld → AppCall → SlotStepped
+  open_step_by (Some stack) h w call = stack_step stack.0 stack.1 h w
+  open_step_by None h w (calls.Start service user) = answered (opened h) w answers.AlreadyOpen
+  open_step_by None h w (calls.End status) = ended (notes_of players) status h w
+  open_step_by None h w (calls.SetItem item value) =
       if is_refused_item ApplicationSets item
       then answered (opened h) w (answers.Code codes.BadItem)
       else succeeded (opened (with_items (with_text h.room.transaction.items item value) h)) w
-  open_step h w (calls.GetItem item) =
+  open_step_by None h w (calls.GetItem item) =
       if is_refused_item ApplicationGets item
       then answered (opened h) w (answers.Code codes.BadItem)
       else answered (opened h) w (answers.Value (text_of h.room.transaction.items item))
-  open_step h w (calls.PutEnv text) =
+  open_step_by None h w (calls.PutEnv text) =
       if is_refused_text text h.room.transaction.env
       then answered (opened h) w (answers.Code codes.BadItem)
       else succeeded (opened (with_environment (after_put text h.room.transaction.env) h)) w
-  open_step h w (calls.GetEnv name) =
+  open_step_by None h w (calls.GetEnv name) =
       answered (opened h) w (answers.Value (value_of name h.room.transaction.env))
-  open_step h w calls.EnvList =
+  open_step_by None h w calls.EnvList =
       answered (opened h) w (answers.List (map variable_text h.room.transaction.env))
-  open_step h w (calls.FailDelay micros) = succeeded (opened (with_request micros h)) w
-  open_step h w (calls.DelayFn on) = succeeded (opened (with_delay_function on h)) w
-  open_step h w (calls.Reply text) =
+  open_step_by None h w (calls.FailDelay micros) = succeeded (opened (with_request micros h)) w
+  open_step_by None h w (calls.DelayFn on) = succeeded (opened (with_delay_function on h)) w
+  open_step_by None h w (calls.Reply text) =
       answered (opened (with_conversation (offered text h.room.conv) h)) w answers.Nothing
+  -- (a stack call is none of these)
+  open_step_by None h w call = answered (opened h) w answers.Nothing
+
+  abbrev pub open_step : PlainHandle → PlainWorld → AppCall → SlotStepped
+  open_step h w call = open_step_by (stack_of call) h w call
 
   -- ---- the calls in a closed slot
 

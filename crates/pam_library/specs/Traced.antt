@@ -1,10 +1,8 @@
 -- A stack call by the lines that its outcome lists, with real objects too (this project's own).
-use Rattle.std.specs.Prelude.{◌≡◌, ℕ, List, [], Option, Some, None}
+use Rattle.std.specs.Prelude.{◌≡◌, ℕ, [], Option, Some, None}
 use Rattle.pam_base.specs.declared.code.Code.{Code}
 use Rattle.pam_base.specs.declared.call.Func.{Func}
-use Rattle.pam_base.specs.declared.call.Func.TheVariants as funcs
 use Rattle.pam_base.specs.declared.call.AppCall.{AppCall}
-use Rattle.pam_base.specs.declared.call.AppCall.TheVariants as calls
 use Rattle.pam_handle.specs.dispatch_core.specs.Calls.{goes}
 use Rattle.pam_handle.specs.AnyWorld.{LeavesPending}
 use Rattle.pam_handle.specs.Handle.{PlainHandle}
@@ -15,16 +13,7 @@ use Rattle.pam_library.specs.declared.outcome.Answer.TheVariants as answers
 use Rattle.pam_library.specs.AnyWorld.{stack_refusal}
 use Rattle.pam_library.specs.Outcome.{PlainOutcome}
 use Rattle.pam_library.specs.Slots.{PlainSlot, closed, opened}
-
--- the function and the flags of a call that runs a stack
-abbrev pub stack_of : AppCall → Option (Func × ℕ)
-stack_of (calls.Authenticate flags) = Some (funcs.Authenticate, flags)
-stack_of (calls.SetCred flags) = Some (funcs.SetCred, flags)
-stack_of (calls.AcctMgmt flags) = Some (funcs.AcctMgmt, flags)
-stack_of (calls.OpenSession flags) = Some (funcs.OpenSession, flags)
-stack_of (calls.CloseSession flags) = Some (funcs.CloseSession, flags)
-stack_of (calls.ChAuthTok flags) = Some (funcs.ChAuthTok, flags)
-stack_of call = None
+use Rattle.pam_library.specs.StackOf.{stack_of}
 
 -- The code of a stack call, and what is held after it, are those to which the lines lead that its outcome lists: the
 -- passes run these lines and no others, if each returns what is listed.

@@ -94,16 +94,16 @@ impl Library {
     pub fn put_conv(&mut self, number: u32, conv: Box<dyn Conv>) -> Box<dyn Conv>
         requires first { 1 ≤ number }
         requires last { number ≤ 16 }
-        ensures slots { (slot : PlainSlot) → slot_at
-            (⟦<Library as LibraryTold>⟧.slots self.old) number ≡ Some slot →
-            ⟦<Library as LibraryTold>⟧.slots self.new
-            ≡ with_slot (⟦<Library as LibraryTold>⟧.slots self.old) number
-            (with_conv (conv_holds conv) slot) }
+        ensures slots { let slots = ⟦<Library as LibraryTold>⟧.slots in
+            (slot : PlainSlot) → slot_at (slots self.old) number ≡ Some slot →
+            slots self.new
+            ≡ with_slot (slots self.old) number (with_conv (conv_holds conv) slot) }
         ensures old { (slot : PlainSlot) → slot_at
             (⟦<Library as LibraryTold>⟧.slots self.old) number ≡ Some slot →
             conv_holds result ≡ conv_of slot }
-        ensures tells { IsTrue (⟦<Library as LibraryTold>⟧.tells self.old && conv_tells conv) →
-            IsTrue (⟦<Library as LibraryTold>⟧.tells self.new && conv_tells result) }
+        ensures tells { let tells = ⟦<Library as LibraryTold>⟧.tells in
+            IsTrue (tells self.old && conv_tells conv) →
+            IsTrue (tells self.new && conv_tells result) }
         ensures gear { gear_in self.new ≡ gear_in self.old }
     {
         match &mut self.slots[number as usize - 1] {

@@ -23,14 +23,13 @@ pub(crate) fn offer_open(
         ≡ answers_only filed_from Answer.Nothing) }
     ensures answer { IfOk result (λ outcome. outcome.answer ≡ Answer.Nothing) }
     ensures filed_from { IfOk result (λ outcome. outcome.filed_from ≡ filed_from) }
-    ensures tells { ⟦<Room as RoomTold>⟧.tells (room_in handle.new)
-        ≡ ⟦<Room as RoomTold>⟧.tells (room_in handle.old) }
-    ensures told { IsTrue (⟦<Room as RoomTold>⟧.tells (room_in handle.old)) →
-        IsOffered result text.now (plain_handle ⟦<Room as RoomTold>⟧.plain handle.old).room.conv
-        (plain_handle ⟦<Room as RoomTold>⟧.plain handle.new).room.conv }
-    ensures others { plain_handle ⟦<Room as RoomTold>⟧.plain handle.new
-        ≡ with_conversation (plain_handle ⟦<Room as RoomTold>⟧.plain handle.new).room.conv
-        (plain_handle ⟦<Room as RoomTold>⟧.plain handle.old) }
+    ensures tells { let tells = ⟦<Room as RoomTold>⟧.tells in
+        tells (room_in handle.new) ≡ tells (room_in handle.old) }
+    ensures told { let plain = plain_handle ⟦<Room as RoomTold>⟧.plain in
+        IsTrue (⟦<Room as RoomTold>⟧.tells (room_in handle.old)) →
+        IsOffered result text.now (plain handle.old).room.conv (plain handle.new).room.conv }
+    ensures others { let plain = plain_handle ⟦<Room as RoomTold>⟧.plain in
+        plain handle.new ≡ with_conversation (plain handle.new).room.conv (plain handle.old) }
 {
     handle.offer(alloc, text.bytes())?;
     Ok(Outcome::only(alloc, filed_from, Answer::Nothing))

@@ -1,7 +1,7 @@
-ghost use Rattle.std.specs.Prelude.{◌≡◌, false, IfNone, IfSome};
+ghost use Rattle.std.specs.Prelude.{◌≡◌};
 ghost use Rattle.pam_handle.specs.Plain.{plain_handle};
 ghost use Rattle.pam_library.specs.AnyWorld.{stack_refusal};
-ghost use Rattle.pam_library.specs.InPlace.{runs_stack, stack_app_call};
+ghost use Rattle.pam_library.specs.StackOf.{stack_of};
 
 use crate::outcome::Answer;
 use pam_base::{AppCall, Code, Func};
@@ -10,8 +10,7 @@ use pam_handle::{Handle, has_pass_flag};
 
 /// The function and the flags of a call that runs a stack; None for any other call.
 pub(crate) fn stack_call_in(call: &AppCall) -> Option<(Func, u32)>
-    ensures stack { IfSome result (λ asked. call.now ≡ stack_app_call asked.0 asked.1) }
-    ensures other { IfNone result (runs_stack call.now ≡ false) }
+    ensures { result ≡ stack_of call.now }
 {
     match call {
         AppCall::Authenticate { flags } => Some((Func::Authenticate, *flags)),

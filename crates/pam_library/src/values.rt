@@ -34,11 +34,11 @@ pub(crate) fn set_item(
     value: &Option<Text>,
 ) -> Result<Outcome, NoMemory>
     requires { IsToldAll (plain_handle ⟦<Room as RoomTold>⟧.plain handle.old) }
-    ensures goes { StaysInside (AppCall.SetItem item value.now) filed_from
-        (plain_handle ⟦<Room as RoomTold>⟧.plain handle.old) result
-        (plain_handle ⟦<Room as RoomTold>⟧.plain handle.new) }
-    ensures tells { ⟦<Room as RoomTold>⟧.tells (room_in handle.new)
-        ≡ ⟦<Room as RoomTold>⟧.tells (room_in handle.old) }
+    ensures goes { let plain = plain_handle ⟦<Room as RoomTold>⟧.plain in
+        StaysInside (AppCall.SetItem item value.now) filed_from (plain handle.old) result
+        (plain handle.new) }
+    ensures tells { let tells = ⟦<Room as RoomTold>⟧.tells in
+        tells (room_in handle.new) ≡ tells (room_in handle.old) }
 {
     coded(alloc, filed_from, handle.set_item(item, bytes_of(value)))
 }
@@ -50,9 +50,9 @@ pub(crate) fn get_item(
     item: ItemName,
 ) -> Result<Outcome, NoMemory>
     requires { IsToldAll (plain_handle ⟦<Room as RoomTold>⟧.plain handle.now) }
-    ensures { StaysInside (AppCall.GetItem item) filed_from
-        (plain_handle ⟦<Room as RoomTold>⟧.plain handle.now) result
-        (plain_handle ⟦<Room as RoomTold>⟧.plain handle.now) }
+    ensures { let plain = plain_handle ⟦<Room as RoomTold>⟧.plain in
+        StaysInside (AppCall.GetItem item) filed_from (plain handle.now) result
+        (plain handle.now) }
 {
     match handle.get_item(item) {
         Ok(value) => {
@@ -70,11 +70,11 @@ pub(crate) fn put_env(
     text: &Text,
 ) -> Result<Outcome, NoMemory>
     requires { IsToldAll (plain_handle ⟦<Room as RoomTold>⟧.plain handle.old) }
-    ensures goes { StaysInside (AppCall.PutEnv text.now) filed_from
-        (plain_handle ⟦<Room as RoomTold>⟧.plain handle.old) result
-        (plain_handle ⟦<Room as RoomTold>⟧.plain handle.new) }
-    ensures tells { ⟦<Room as RoomTold>⟧.tells (room_in handle.new)
-        ≡ ⟦<Room as RoomTold>⟧.tells (room_in handle.old) }
+    ensures goes { let plain = plain_handle ⟦<Room as RoomTold>⟧.plain in
+        StaysInside (AppCall.PutEnv text.now) filed_from (plain handle.old) result
+        (plain handle.new) }
+    ensures tells { let tells = ⟦<Room as RoomTold>⟧.tells in
+        tells (room_in handle.new) ≡ tells (room_in handle.old) }
 {
     coded(alloc, filed_from, handle.putenv(text.bytes()))
 }
@@ -86,9 +86,9 @@ pub(crate) fn get_env(
     name: &Text,
 ) -> Result<Outcome, NoMemory>
     requires { IsToldAll (plain_handle ⟦<Room as RoomTold>⟧.plain handle.now) }
-    ensures { StaysInside (AppCall.GetEnv name.now) filed_from
-        (plain_handle ⟦<Room as RoomTold>⟧.plain handle.now) result
-        (plain_handle ⟦<Room as RoomTold>⟧.plain handle.now) }
+    ensures { let plain = plain_handle ⟦<Room as RoomTold>⟧.plain in
+        StaysInside (AppCall.GetEnv name.now) filed_from (plain handle.now) result
+        (plain handle.now) }
 {
     let text = copy_of(alloc, handle.getenv(name.bytes()))?;
     Ok(Outcome::only(alloc, filed_from, Answer::Value(text)))
@@ -96,9 +96,8 @@ pub(crate) fn get_env(
 
 pub(crate) fn list_env(alloc: Global, handle: &Handle, filed_from: u64) -> Result<Outcome, NoMemory>
     requires { IsToldAll (plain_handle ⟦<Room as RoomTold>⟧.plain handle.now) }
-    ensures { StaysInside AppCall.EnvList filed_from
-        (plain_handle ⟦<Room as RoomTold>⟧.plain handle.now) result
-        (plain_handle ⟦<Room as RoomTold>⟧.plain handle.now) }
+    ensures { let plain = plain_handle ⟦<Room as RoomTold>⟧.plain in
+        StaysInside AppCall.EnvList filed_from (plain handle.now) result (plain handle.now) }
 {
     let texts = handle.getenvlist(alloc)?;
     Ok(Outcome::only(alloc, filed_from, Answer::List(texts)))

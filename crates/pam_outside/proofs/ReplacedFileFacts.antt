@@ -25,11 +25,11 @@ module _ (path bytes : List ℕ) where
       let first : is_it f ≡ false = before 0 (omega arith) in
       rw first (ap (λ (x : List File). f ∷ x) (over fs n (omega arith) here (λ k le. before (suc k) (omega arith))))
 
-  past_end : (files : List File) → ((k : ℕ) → k < length files → is_it (get_or files k it) ≡ false) → file_put path bytes files ≡ files ++ it ∷ []
-  past_end [] none = refl
-  past_end (f ∷ fs) none =
+  put_at_end : (files : List File) → ((k : ℕ) → k < length files → is_it (get_or files k it) ≡ false) → file_put path bytes files ≡ files ++ it ∷ []
+  put_at_end [] none = refl
+  put_at_end (f ∷ fs) none =
       let first : is_it f ≡ false = none 0 (omega arith) in
-      rw first (ap (λ (x : List File). f ∷ x) (past_end fs (λ k lt. none (suc k) (omega arith))))
+      rw first (ap (λ (x : List File). f ∷ x) (put_at_end fs (λ k lt. none (suc k) (omega arith))))
 
   not_some : (b : Bool) (i : ℕ) → cond b (Some i) None ≡ None → b ≡ false
   not_some true i e = absurd cc
@@ -44,7 +44,7 @@ module _ (path bytes : List ℕ) where
   pub put_after : (files : List File) → position is_it files ≡ None → file_put path bytes files ≡ files ++ it ∷ []
   put_after files e =
       let past = ltb-false (position_or_len is_it files) (length files) (not_some _ _ e) in
-      past_end files (λ k lt. fails_before_first is_it files k it (omega (arith, past)))
+      put_at_end files (λ k lt. fails_before_first is_it files k it (omega (arith, past)))
 
 -- ---- what is found after a file was set
 

@@ -1,5 +1,6 @@
 ghost use Rattle.std.specs.Prelude.{◌≡◌, ◌<◌, ◌≤◌, ◌-◌, [], length, ◌++◌, IfOk, OnErr, OnOk, IsErr, ◌↔◌, IsTrue, ◌||◌, Ok, nat_lt};
 ghost use Rattle.pam_outside.specs.Counts.{next_count, fails_next, Rose};
+ghost use Rattle.pam_outside.specs.Memory.{sink_state};
 ghost use Rattle.pam_outside.specs.Streams.{Writes};
 
 use crate::calls::Calls;
@@ -66,7 +67,7 @@ impl Sink for MemSink {
 
     ghost sink_tells = { λ s. true };
 
-    ghost sink_holds = { λ s. record { written = s.written; calls = s.calls } };
+    ghost sink_holds = { sink_state };
 
     ghost sink_faults = { λ s. s.faults };
 
@@ -75,21 +76,11 @@ impl Sink for MemSink {
     fn write(&mut self, piece: &[u8]) -> Result<usize, Failed>
         requires { 0 < length piece.now }
         ensures bound { IfOk result (λ n. n ≤ length piece.now) }
-        ensures tells { ⟦<MemSink as Sink>⟧.sink_tells self.new ≡
-            ⟦<MemSink as Sink>⟧.sink_tells self.old }
-        ensures told { IsTrue (⟦<MemSink as Sink>⟧.sink_tells self.old) →
-            Writes result piece.now (⟦<MemSink as Sink>⟧.sink_holds self.old)
-            (⟦<MemSink as Sink>⟧.sink_holds self.new) }
-        ensures faults { ⟦<MemSink as Sink>⟧.sink_faults self.old ≤
-            ⟦<MemSink as Sink>⟧.sink_faults self.new }
-        ensures failed { OnErr result
-            (Rose (⟦<MemSink as Sink>⟧.sink_faults self.old)
-            (⟦<MemSink as Sink>⟧.sink_faults self.new)) }
-        ensures nothing { result ≡ Ok 0 →
-            Rose (⟦<MemSink as Sink>⟧.sink_faults self.old)
-            (⟦<MemSink as Sink>⟧.sink_faults self.new) }
-        ensures no_fault { IfOk result (λ n. 0 < n →
-            ⟦<MemSink as Sink>⟧.sink_faults self.new ≡ ⟦<MemSink as Sink>⟧.sink_faults self.old) }
+        ensures told { Writes result piece.now (sink_state self.old) (sink_state self.new) }
+        ensures faults { self.old.faults ≤ self.new.faults }
+        ensures failed { OnErr result (Rose self.old.faults self.new.faults) }
+        ensures nothing { result ≡ Ok 0 → Rose self.old.faults self.new.faults }
+        ensures no_fault { IfOk result (λ n. 0 < n → self.new.faults ≡ self.old.faults) }
         ensures fails_exactly { IsErr result ↔ IsTrue
             (fails_next self.old.calls self.old.fails || nat_lt self.old.room (length piece.now)) }
         ensures amount { IfOk result (λ n. n ≡ length piece.now) }

@@ -1,5 +1,6 @@
 ghost use Rattle.std.specs.Prelude.{◌≡◌, ◌<◌, ◌≤◌, IsTrue, length, min, take, drop, ◌++◌, IfOk, OnOk, OnErr, IsErr, ◌↔◌};
 ghost use Rattle.pam_outside.specs.Counts.{next_count, next_at_end, fails_next, Rose};
+ghost use Rattle.pam_outside.specs.Memory.{source_state};
 ghost use Rattle.pam_outside.specs.Streams.{Reads};
 
 use crate::calls::Calls;
@@ -69,11 +70,7 @@ impl Source for MemSource {
 
     ghost source_tells = { λ s. true };
 
-    ghost source_holds = { λ s. record {
-      left = s.left;
-      calls = s.calls;
-      reads_at_end = s.reads_at_end;
-    } };
+    ghost source_holds = { source_state };
 
     ghost source_faults = { λ s. s.faults };
 
@@ -82,19 +79,10 @@ impl Source for MemSource {
     fn read(&mut self, into: &mut [u8]) -> Result<usize, Failed>
         requires { 0 < length into.old }
         ensures bound { IfOk result (λ n. n ≤ length into.new) }
-        ensures tells { ⟦<MemSource as Source>⟧.source_tells self.new ≡
-            ⟦<MemSource as Source>⟧.source_tells self.old }
-        ensures told { IsTrue (⟦<MemSource as Source>⟧.source_tells self.old) →
-            Reads result into.new (⟦<MemSource as Source>⟧.source_holds self.old)
-            (⟦<MemSource as Source>⟧.source_holds self.new) }
-        ensures faults { ⟦<MemSource as Source>⟧.source_faults self.old ≤
-            ⟦<MemSource as Source>⟧.source_faults self.new }
-        ensures failed { OnErr result
-            (Rose (⟦<MemSource as Source>⟧.source_faults self.old)
-            (⟦<MemSource as Source>⟧.source_faults self.new)) }
-        ensures no_fault { OnOk result
-            (⟦<MemSource as Source>⟧.source_faults self.new ≡
-            ⟦<MemSource as Source>⟧.source_faults self.old) }
+        ensures told { Reads result into.new (source_state self.old) (source_state self.new) }
+        ensures faults { self.old.faults ≤ self.new.faults }
+        ensures failed { OnErr result (Rose self.old.faults self.new.faults) }
+        ensures no_fault { OnOk result (self.new.faults ≡ self.old.faults) }
         ensures fails_exactly { IsErr result ↔ IsTrue (fails_next self.old.calls self.old.fails) }
         ensures amount { IfOk result (λ n. n ≡ min (length into.old) (length self.old.left)) }
         ensures buffer { IfOk result (λ n. into.new ≡ take n self.old.left ++ drop n into.old) }

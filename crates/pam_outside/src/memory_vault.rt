@@ -174,7 +174,7 @@ impl Vault for MemVault {
         if bytes.len() > limit as usize {
             return Err(VaultFault::TooLong);
         }
-        Text::from_bytes(alloc, bytes).map_err(|_| VaultFault::NoMemory)
+        Ok(Text::from_bytes(alloc, bytes)?)
     }
 
     /// Allocates nothing.
@@ -191,10 +191,8 @@ impl Vault for MemVault {
             self.calls.count_fault();
             return Err(ReplaceFault::Failed);
         }
-        match self.put(alloc, path, bytes) {
-            Ok(()) => Ok(()),
-            Err(NoMemory) => Err(ReplaceFault::NoMemory),
-        }
+        self.put(alloc, path, bytes)?;
+        Ok(())
     }
 
     /// No other process has these files: the lock is only noted.
@@ -203,10 +201,8 @@ impl Vault for MemVault {
             self.calls.count_fault();
             return Err(ReplaceFault::Failed);
         }
-        match self.note_lock(alloc, path, kind) {
-            Ok(()) => Ok(Held::in_memory()),
-            Err(NoMemory) => Err(ReplaceFault::NoMemory),
-        }
+        self.note_lock(alloc, path, kind)?;
+        Ok(Held::in_memory())
     }
 
     fn let_go(&mut self, held: Held) {

@@ -3,7 +3,7 @@ ghost use Rattle.pam_outside.specs.Counts.{Rose};
 ghost use Rattle.pam_outside.specs.Files.{VaultState, ReadsFile, TellsDirectory, Replaces, TakesLock, counted, file_at, unlocked};
 
 use crate::held::{Held, LockKind};
-use pam_base::Text;
+use pam_base::{NoMemory, Text};
 use std::alloc::Global;
 
 /// The most bytes that a file may be replaced by. Nothing reads a longer file.
@@ -21,12 +21,36 @@ pub enum VaultFault {
     Failed,
 }
 
+impl From<NoMemory> for VaultFault {
+    ghost use Rattle.std.specs.Prelude.{◌≡◌};
+    ghost use Rattle.pam_outside.specs.declared.vault.VaultFault.{VaultFault};
+    ghost use Rattle.pam_outside.specs.declared.vault.VaultFault.TheVariants as faults;
+
+    ghost from_gives = { λ _ e. e ≡ faults.NoMemory };
+
+    fn from(_: NoMemory) -> Self {
+        VaultFault::NoMemory
+    }
+}
+
 /// Why a file couldn't be replaced or locked, or a directory couldn't be looked up.
 #[derive(Clone, Copy, Debug, PartialEq, Eq)]
 pub enum ReplaceFault {
     NoMemory,
     /// The outside failed.
     Failed,
+}
+
+impl From<NoMemory> for ReplaceFault {
+    ghost use Rattle.std.specs.Prelude.{◌≡◌};
+    ghost use Rattle.pam_outside.specs.declared.vault.ReplaceFault.{ReplaceFault};
+    ghost use Rattle.pam_outside.specs.declared.vault.ReplaceFault.TheVariants as faults;
+
+    ghost from_gives = { λ _ e. e ≡ faults.NoMemory };
+
+    fn from(_: NoMemory) -> Self {
+        ReplaceFault::NoMemory
+    }
 }
 
 /// Files by their paths, as in a directory.

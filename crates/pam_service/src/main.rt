@@ -10,11 +10,10 @@ mod asked;
 
 ghost use Rattle.std.specs.Prelude.{◌≡◌, [], false, true, IfOk, length};
 ghost use Rattle.cmd_login.specs.cmd_run.specs.pam_handle.specs.Plain.{in_box};
-ghost use Rattle.cmd_all.specs.ByCommand.{object_of, setup_of};
+ghost use Rattle.cmd_all.specs.ByCommand.{object_of};
 ghost use Rattle.cmd_all.specs.Command.{command_of};
-ghost use Rattle.shipped_modules.specs.Shipped.{shipped_players};
 ghost use Rattle.who_calls.specs.Request.{service_request};
-ghost use Rattle.frame_service.specs.Service.{IsOfFrames, StatusOf, served_wait};
+ghost use Rattle.frame_service.specs.Service.{IsOfFrames, StatusOf};
 ghost use Rattle.frame_service.specs.Serving.{ServesFrames};
 ghost use Rattle.pam_service.specs.Service.{asked_command, caller_in};
 
@@ -127,8 +126,7 @@ fn serve_caller<S: Source, K: Sink>(
         StatusOf (asked_command (service_request said.now words.now)) status) }
     ensures served { IfOk result (λ status. ServesFrames
         (asked_command (service_request said.now words.now)) status
-        (setup_of shipped_players (⟦<Conversations as ConversationsTold>⟧.slots talks)
-        (λ number. number ≡ served_wait) (⟦<Conversations as ConversationsTold>⟧.tells talks))
+        (⟦<Conversations as ConversationsTold>⟧.setup talks)
         (⟦<Outside as OutsideTold>⟧.around world.old world.new)
         (object_of S.source_tells S.source_holds S.source_faults script.old script.new)
         (object_of K.sink_tells K.sink_holds K.sink_faults out.old out.new)) }

@@ -11,12 +11,11 @@ mod asked;
 
 ghost use Rattle.std.specs.Prelude.{◌≡◌, [], false, true, IfOk, codes, length};
 ghost use Rattle.cmd_login.specs.cmd_run.specs.pam_handle.specs.Plain.{in_box};
-ghost use Rattle.cmd_all.specs.ByCommand.{object_of, setup_of};
+ghost use Rattle.cmd_all.specs.ByCommand.{object_of};
 ghost use Rattle.cmd_all.specs.Command.{command_of};
-ghost use Rattle.shipped_modules.specs.Shipped.{shipped_players};
 ghost use Rattle.who_calls.specs.Request.{real_user};
 ghost use Rattle.who_calls.specs.Status.{ids_in};
-ghost use Rattle.frame_service.specs.Service.{IsOfFrames, StatusOf, served_wait};
+ghost use Rattle.frame_service.specs.Service.{IsOfFrames, StatusOf};
 ghost use Rattle.frame_service.specs.Serving.{ServesFrames};
 ghost use Rattle.pam_service_user.specs.Own.{own_command, own_name};
 ghost use Rattle.own_files.specs.Own.{files_for};
@@ -145,8 +144,7 @@ fn serve_user<S: Source, K: Sink>(
     requires no_receipts { world.old.process.ledger.filed ≡ [] }
     ensures status { IfOk result (λ status. StatusOf (own_command words.now) status) }
     ensures served { IfOk result (λ status. ServesFrames (own_command words.now) status
-        (setup_of shipped_players (⟦<Conversations as ConversationsTold>⟧.slots talks)
-        (λ number. number ≡ served_wait) (⟦<Conversations as ConversationsTold>⟧.tells talks))
+        (⟦<Conversations as ConversationsTold>⟧.setup talks)
         (⟦<Outside as OutsideTold>⟧.around world.old world.new)
         (object_of S.source_tells S.source_holds S.source_faults script.old script.new)
         (object_of K.sink_tells K.sink_holds K.sink_faults out.old out.new)) }

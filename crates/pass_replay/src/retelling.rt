@@ -1,7 +1,7 @@
 ghost use Rattle.std.specs.Prelude.{◌≡◌, ◌≤◌, ◌-◌, IfOk, List, None, Option, drop, false, length};
 ghost use Rattle.control_words.specs.Stack.{lines_in, stack_of};
 ghost use Rattle.dispatch_core.specs.Calls as calls;
-ghost use Rattle.dispatch_core.specs.Calls.{change, check, following, goes, held_past, one_pass, passes, update, went};
+ghost use Rattle.dispatch_core.specs.Calls.{change, check, first_kept, first_stack, following, goes, held_past, kind_of, one_pass, passes, update, went};
 ghost use Rattle.dispatch_core.specs.Pending.{first_in, past_in, pending_after};
 ghost use Rattle.dispatch_core.specs.service_load.specs.Load.{AreBounded};
 ghost use Rattle.handler_chain.specs.Retell.{Telling, telling};
@@ -10,7 +10,7 @@ ghost use Rattle.pass_replay.specs.Held.{held_of, pending_of};
 ghost use Rattle.pass_replay.specs.Kept.{kept_answers};
 ghost use Rattle.pass_replay.specs.Replay.{as_told};
 ghost use Rattle.pass_replay.specs.Passed.{passed_of};
-ghost use Rattle.pass_replay.specs.Retold.{cached_for, held_after, kind_of, stack_for, stacks_in, went_of};
+ghost use Rattle.pass_replay.specs.Retold.{held_after, stacks_in, went_of};
 ghost use Rattle.pass_replay.specs.Told.{lines_before, telling_from, visits_in};
 
 use crate::answers::Answers;
@@ -129,7 +129,7 @@ fn pending_after(
 // The stack that a call runs.
 fn stack_for(func: Func, trees: &Trees) -> &Nodes
     requires bounded { AreBounded trees.now }
-    ensures stack { stack_of result.now.vec.items ≡ stack_for func (stacks_in trees.now) }
+    ensures stack { stack_of result.now.vec.items ≡ first_stack func (stacks_in trees.now) }
     ensures few { lines_in (stack_of result.now.vec.items) ≤ 4096 }
 {
     match func {
@@ -143,7 +143,7 @@ fn stack_for(func: Func, trees: &Trees) -> &Nodes
 // Takes out what is cached for a call: authenticate and setcred share it, and so do open_session
 // and close_session.
 fn take_cached(func: Func, held: &mut Held) -> Option<Answers>
-    ensures taken { kept_answers result ≡ cached_for func (held_of held.old) }
+    ensures taken { kept_answers result ≡ first_kept func (held_of held.old) }
     ensures rest { (p : calls.Passed Telling) →
         held_past func None p (held_of held.new) ≡ held_past func None p (held_of held.old) }
 {
@@ -165,7 +165,7 @@ fn first_pass(
     ensures { IfOk result (λ passed. passed_of source.now.told.now passed
         ≡ passes as_told (stacks_in source.now.trees.now) func false
         (kind_of func (kept_answers cached)) (kept_answers cached)
-        (stack_for func (stacks_in source.now.trees.now)) past.now
+        (first_stack func (stacks_in source.now.trees.now)) past.now
         (telling (visits_in source.now.told.now))) }
 {
     let nodes = stack_for(func, source.trees);

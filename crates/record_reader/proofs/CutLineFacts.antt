@@ -1,12 +1,12 @@
 -- Lines are cut and refused as the conditions on a stream require.
-use Rattle.std.proofs.Common.{◌≡◌, ℕ, ◌+◌, ◌≤◌, ◌<◌, ◌⊎◌, inl, inr, Bool, true, false, ◌||◌, leb, ltb, eqb, List, [], ◌∷◌, ◌++◌, length, take, drop, Option, Some, None, Result, Ok, refl, sym, ap, ◌∙◌, append_assoc, arith}
+use Rattle.std.proofs.Common.{◌≡◌, ℕ, ◌+◌, ◌≤◌, ◌<◌, inl, inr, Bool, true, false, ◌||◌, leb, ltb, List, [], ◌∷◌, ◌++◌, length, take, drop, Some, refl, ap, ◌∙◌, append_assoc, arith}
 use Rattle.std.proofs.lemmas.Bool.{le-ltb, lt-ltb, le-leb, lt-leb}
 use Rattle.std.proofs.lemmas.List.{nil_from_length}
 use Rattle.pam_base.specs.Bytes.{has_byte, IsFirstPlace}
 use Rattle.pam_base.specs.Lines.{cut}
 use Rattle.record_reader.specs.Cutting.{Cuts, Keeps}
 use Rattle.record_reader.specs.FirstItem.{IsItem}
-use Rattle.record_reader.specs.Looked.{IsOver, looked, last_looked}
+use Rattle.record_reader.specs.Looked.{IsOver, looked}
 use Rattle.record_reader.specs.LineRun.{LineStep, step_at}
 use Rattle.record_reader.specs.LineTurns.{IsLimit}
 use Rattle.record_reader.proofs.SeenLineFacts.{looked-line, looked-last, looked-partial, looked-none, one_part}

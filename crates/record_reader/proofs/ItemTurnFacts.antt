@@ -1,5 +1,5 @@
 -- One item: finding it and applying it is one turn.
-use Rattle.std.proofs.Common.{◌≡◌, ℕ, ◌+◌, ◌≤◌, ◌<◌, ◌⊎◌, inl, inr, Bool, true, false, List, [], ◌∷◌, ◌++◌, length, take, drop, Option, Some, None, Result, Ok, Err, refl, sym, ap, subst, ◌∙◌, arith}
+use Rattle.std.proofs.Common.{◌≡◌, ℕ, ◌+◌, ◌≤◌, ◌⊎◌, inl, inr, Bool, true, false, List, [], ◌∷◌, ◌++◌, length, take, drop, Option, Some, None, Result, Ok, Err, refl, sym, ap, subst, ◌∙◌, arith}
 use Rattle.std.proofs.lemmas.List.{append-nil}
 use Rattle.std.specs.Prelude.{OnOk}
 use Rattle.pam_base.specs.declared.fault.Failed.{Failed}
@@ -9,12 +9,12 @@ use Rattle.record_reader.specs.declared.ending.Ending.TheVariants.{Done, ReadFau
 use Rattle.record_reader.specs.declared.ending.Stop.{Stop}
 use Rattle.record_reader.specs.declared.ending.Stop.TheVariants.{NoMemory, WriteFault}
 use Rattle.record_reader.specs.Cutting.{Cuts, Keeps}
-use Rattle.record_reader.specs.Run.{Looks, Refuses, ItemStep, Run, come_to, after, run_items, run_of}
+use Rattle.record_reader.specs.Run.{Looks, Refuses, ItemFails, ItemStep, Run, come_to, after, run_items, run_of}
 use Rattle.record_reader.specs.Taking.{Finds, IsFound, IsLast, LastGot}
-use Rattle.record_reader.specs.Turns.{StopsAt, ServesItem, EndsBy, Tells, LastRead, Turns, after_item, after_rest, items_after, held_after}
+use Rattle.record_reader.specs.Turns.{StopsAt, ServesItem, EndsBy, Tells, LastRead, Turns, place, after_item, after_rest, items_after, held_after}
 use Rattle.record_reader.proofs.ItemSequenceFacts.{items-one}
 
-module _ {State Kind : Type 0} (looked : Looks) (refuses : Refuses) (step : ItemStep State Kind) (Fails : State → List ℕ → State → Type 0) where
+module _ {State Kind : Type 0} (looked : Looks) (refuses : Refuses) (step : ItemStep State Kind) (Fails : ItemFails State) where
   -- there is nothing to process
   run-none : (n : ℕ) (c : State) (bytes : List ℕ) (ended : Bool) → looked n bytes ended ≡ [] → run_of looked step n c bytes ended ≡ come_to [] c n None
   unfolding run_of run_items
@@ -34,7 +34,7 @@ module _ {State Kind : Type 0} (looked : Looks) (refuses : Refuses) (step : Item
   -- ---- nothing was found
 
   pub fault_turn : (n : ℕ) (before held : List ℕ) (e : Failed) (c : State) (x y : SourceState) (p : SinkState) → IsFound looked (Err e) n held
-      → Finds looked refuses (Err e) n before held x y → Turns looked step Fails (Ok (Some ReadFault)) n n c c before held x y p p
+      → Finds looked refuses (Err e) n before held x y → Turns looked step Fails (Ok (Some ReadFault)) (place n c before x p) (place n c held y p)
   fault_turn n before held e c x y p found f = record {
     got = f.got;
     text = [];
@@ -52,7 +52,7 @@ module _ {State Kind : Type 0} (looked : Looks) (refuses : Refuses) (step : Item
   }
 
   pub end_turn : Cuts looked → (n : ℕ) (before held : List ℕ) (c : State) (x y : SourceState) (p : SinkState) → IsFound looked (Ok End) n held
-      → Finds looked refuses (Ok End) n before held x y → Turns looked step Fails (Ok (Some Done)) n n c c before held x y p p
+      → Finds looked refuses (Ok End) n before held x y → Turns looked step Fails (Ok (Some Done)) (place n c before x p) (place n c held y p)
   end_turn cuts n before held c x y p none f =
       let r : run_of looked step n c held true ≡ come_to [] c n None = run-none n c held true (ap (λ (h : List ℕ). looked n h true) none ∙ cuts.none n true) in
       record {
@@ -146,7 +146,7 @@ module _ {State Kind : Type 0} (looked : Looks) (refuses : Refuses) (step : Item
     calls_after (Err stop) a b h = tt
 
     pub item_turn : (o : Result (Option Kind) Stop) → ServesItem step Fails o n (take item_size held) c d p q
-        → Turns looked step Fails (after_item o) n (items_after o n) c d before (held_after o size held) x y p q
+        → Turns looked step Fails (after_item o) (place n c before x p) (place (items_after o n) d (held_after o size held) y q)
     item_turn o s = record {
       got = f.got;
       text = s.text;
@@ -246,7 +246,7 @@ module _ {State Kind : Type 0} (looked : Looks) (refuses : Refuses) (step : Item
     rest_calls (Err stop) a b h = tt
 
     pub rest_turn : (o : Result (Option Kind) Stop) → ServesItem step Fails o n held c d p q
-        → Turns looked step Fails (after_rest o) n (items_after o n) c d before held x y p q
+        → Turns looked step Fails (after_rest o) (place n c before x p) (place (items_after o n) d held y q)
     rest_turn o s = record {
       got = f.got;
       text = s.text;

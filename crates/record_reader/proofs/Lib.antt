@@ -1,6 +1,5 @@
 pub mod Taken
 pub mod ItemSequenceFacts
-pub mod AppliedItemFacts
 pub mod ItemTurnFacts
 pub mod TurnSequenceFacts
 pub mod Wholly

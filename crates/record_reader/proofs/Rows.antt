@@ -9,7 +9,7 @@ use Rattle.record_reader.specs.Run.{come_to, run_items, run_of as run_of_items}
 use Rattle.record_reader.specs.LineRun.{LineStep, Run, step_at, run_of}
 
 echo : LineStep ℕ
-echo count line = if bytes_eq line (codes "x") then Err BadWord else Ok (count + 1, line ++ codes "\n")
+echo n count line = if bytes_eq line (codes "x") then Err BadWord else Ok (count + 1, line ++ codes "\n")
 
 ran : List ℕ → Bool → Run ℕ
 ran bytes ended = run_of echo 0 0 bytes ended

@@ -16,5 +16,5 @@ module _ {State : Type 0} (step : LineStep State) where
   unfolding step_at
   accepted-fits n c line x e =
       let first = chosen (leb 65536 n) TooManyLines _ x e in
-      let second = chosen (ltb 513 (length line)) LineTooLong (step c line) x (rw first at e) in
+      let second = chosen (ltb 513 (length line)) LineTooLong (step n c line) x (rw first at e) in
       both_false _ _ first second

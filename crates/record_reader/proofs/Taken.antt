@@ -1,12 +1,11 @@
 -- The search for an item: the bytes read so far.
-use Rattle.std.proofs.Common.{◌≡◌, ℕ, ◌+◌, ◌≤◌, ◌<◌, ◌⊎◌, inl, inr, Bool, true, false, cond, eqb, List, [], ◌∷◌, ◌++◌, length, Result, Ok, refl, sym, ap, ◌∙◌, arith}
-use Rattle.std.proofs.lemmas.Bool.{eqb-true, eqb-false}
+use Rattle.std.proofs.Common.{◌≡◌, ℕ, ◌+◌, ◌≤◌, ◌⊎◌, inl, Bool, true, false, cond, eqb, List, [], ◌∷◌, ◌++◌, length, Ok, refl, ap, ◌∙◌, arith}
+use Rattle.std.proofs.lemmas.Bool.{eqb-false}
 use Rattle.std.proofs.lemmas.List.{append-nil, nil_from_length}
 use Rattle.pam_outside.specs.Streams.{SourceState}
 use Rattle.record_reader.specs.Run.{Looks, Refuses}
-use Rattle.record_reader.specs.Taking.{Fills, Finds, IsFound, LastGot}
+use Rattle.record_reader.specs.Taking.{Fills, Finds, LastGot}
 use Rattle.record_reader.specs.Cutting.{Cuts}
-use Rattle.record_reader.specs.declared.reader.NextItem.{NextItem}
 use Rattle.record_reader.specs.declared.reader.NextItem.TheVariants.{Rest, End}
 
 -- some bytes were read, at least one by each call, and none at the end of the source

@@ -6,8 +6,8 @@ use Rattle.pam_outside.specs.Streams.{SourceState, SinkState}
 use Rattle.record_reader.specs.declared.ending.Ending.{Ending}
 use Rattle.record_reader.specs.declared.ending.Stop.{Stop}
 use Rattle.record_reader.specs.declared.ending.Stop.TheVariants.{NoMemory}
-use Rattle.record_reader.specs.Run.{Looks, ItemStep, Run, with_text, run_items, run_of}
-use Rattle.record_reader.specs.Turns.{GoesOn, EndsBy, StopsBy, Tells, LastRead, Turns, begun_items}
+use Rattle.record_reader.specs.Run.{Looks, ItemFails, ItemStep, Run, with_text, run_items, run_of}
+use Rattle.record_reader.specs.Turns.{GoesOn, EndsBy, StopsBy, Tells, LastRead, Turns, place, begun_items}
 use Rattle.record_reader.proofs.ItemSequenceFacts.{items-append}
 
 calls_both : {Kind : Type 0} (r : Result (Option (Ending Kind)) Stop) (p q s : ℕ) (a b : List ℕ) → q ≤ p + length a → OnOk r (s ≤ q + length b)
@@ -18,9 +18,9 @@ calls_both (Err stop) p q s a b f g = tt
 four : {A : Type 0} (a b c d rest : List A) → rest ≡ b ++ c ++ d → a ++ rest ≡ (a ++ b) ++ c ++ d
 four a b c d rest e = rw e (sym (append_assoc a (b ++ c) d) ∙ ap (λ t. t ++ d) (sym (append_assoc a b c)))
 
-module _ {State Kind : Type 0} (looked : Looks) (step : ItemStep State Kind) (Fails : State → List ℕ → State → Type 0) where
+module _ {State Kind : Type 0} (looked : Looks) (step : ItemStep State Kind) (Fails : ItemFails State) where
   -- before the first item
-  pub no_turn : (c : State) (x : SourceState) (p : SinkState) → Turns looked step Fails (Ok None) 0 0 c c [] [] x x p p
+  pub no_turn : (c : State) (x : SourceState) (p : SinkState) → Turns looked step Fails (Ok None) (place 0 c [] x p) (place 0 c [] x p)
   unfolding run_items
   no_turn c x p = record {
     got = [];
@@ -37,7 +37,7 @@ module _ {State Kind : Type 0} (looked : Looks) (step : ItemStep State Kind) (Fa
     calls_ok = omega arith;
   }
 
-  pub no_memory : (c : State) (x : SourceState) (p : SinkState) → Turns looked step Fails (Err NoMemory) 0 0 c c [] [] x x p p
+  pub no_memory : (c : State) (x : SourceState) (p : SinkState) → Turns looked step Fails (Err NoMemory) (place 0 c [] x p) (place 0 c [] x p)
   unfolding run_items
   no_memory c x p = record {
     got = [];
@@ -147,7 +147,7 @@ module _ {State Kind : Type 0} (looked : Looks) (step : ItemStep State Kind) (Fa
   })
 
   pub turns_then : (r : Result (Option (Ending Kind)) Stop) (n m k : ℕ) (c d e : State) (held rest : List ℕ) (x y z : SourceState) (p q s : SinkState)
-      → Turns looked step Fails (Ok None) n m c d [] held x y p q → Turns looked step Fails r m k d e held rest y z q s → Turns looked step Fails r n k c e [] rest x z p s
+      → Turns looked step Fails (Ok None) (place n c [] x p) (place m d held y q) → Turns looked step Fails r (place m d held y q) (place k e rest z s) → Turns looked step Fails r (place n c [] x p) (place k e rest z s)
   turns_then r n m k c d e held rest x y z p q s a b = record {
     got = a.got ++ b.got;
     text = a.text ++ b.text;

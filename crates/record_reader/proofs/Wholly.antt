@@ -6,12 +6,12 @@ use Rattle.pam_outside.specs.Streams.{SourceState, SinkState}
 use Rattle.record_reader.specs.declared.ending.Ending.{Ending}
 use Rattle.record_reader.specs.declared.ending.Ending.TheVariants.{Done, ReadFault, Refused}
 use Rattle.record_reader.specs.declared.ending.Stop.{Stop}
-use Rattle.record_reader.specs.Run.{Looks, Refuses, ItemStep, Run, come_to, run_items, run_of}
-use Rattle.record_reader.specs.Turns.{Tells, LastRead, Turns}
+use Rattle.record_reader.specs.Run.{Looks, Refuses, ItemFails, ItemStep, Run, come_to, run_items, run_of}
+use Rattle.record_reader.specs.Turns.{Tells, LastRead, Turns, place}
 use Rattle.record_reader.specs.Whole.{at_last, Reports, Runs}
 use Rattle.record_reader.specs.Cutting.{Cuts, Keeps}
 
-module _ {State Kind : Type 0} (looked : Looks) (step : ItemStep State Kind) (Fails : State → List ℕ → State → Type 0) (refuses : Refuses) (cuts : Cuts looked) (keeps : Keeps looked refuses step) where
+module _ {State Kind : Type 0} (looked : Looks) (step : ItemStep State Kind) (Fails : ItemFails State) (refuses : Refuses) (cuts : Cuts looked) (keeps : Keeps looked refuses step) where
   -- what is refused among the bytes read is refused in the whole input
   refused_all : (ended : Bool) (kind : Kind) (m : ℕ) (c d : State) (input taken left text : List ℕ) → input ≡ taken ++ left → (ended ≡ true → left ≡ [])
       → run_of looked step 0 c taken ended ≡ come_to text d m (Some kind) → run_of looked step 0 c input true ≡ come_to text d m (Some kind)
@@ -52,7 +52,7 @@ module _ {State Kind : Type 0} (looked : Looks) (step : ItemStep State Kind) (Fa
   writes_at (Err stop) A h = tt
 
   pub turns_run : (result : Result (Ending Kind) Stop) (m : ℕ) (c d : State) (held : List ℕ) (x y : SourceState) (p q : SinkState)
-      → Turns looked step Fails (at_last result) 0 m c d [] held x y p q → Runs looked step Fails result m c d x y p q
+      → Turns looked step Fails (at_last result) (place 0 c [] x p) (place m d held y q) → Runs looked step Fails result m c d x y p q
   turns_run result m c d held x y p q t = record {
     taken = t.got;
     text = t.text;

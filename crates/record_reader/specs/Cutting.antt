@@ -1,6 +1,6 @@
 -- The conditions on how items are cut from bytes (this project's own).
-use Rattle.std.specs.Prelude.{◌≡◌, ℕ, ◌<◌, Bool, true, false, List, [], ◌∷◌, ◌++◌, length, Some, Result, Ok}
-use Rattle.record_reader.specs.Run.{Looks, Refuses, ItemStep, Run, run_of}
+use Rattle.std.specs.Prelude.{◌≡◌, ℕ, ◌<◌, Bool, true, false, List, [], ◌∷◌, ◌++◌, length, Some, Ok}
+use Rattle.record_reader.specs.Run.{Looks, Refuses, ItemStep, run_of}
 
 -- An empty input has no items, and bytes that wait for more are the last item if the input ends
 -- there.

@@ -1,14 +1,14 @@
 -- A run of a script: the steps of its lines, one after the other, whatever a step is (this project's own).
-use Rattle.std.specs.Prelude.{ℕ, Bool, List, length, Result, Ok, Err, nat_le, nat_lt, if◌then◌else◌}
+use Rattle.std.specs.Prelude.{ℕ, Bool, List, length, Result, Err, nat_le, nat_lt, if◌then◌else◌}
 use Rattle.pam_base.specs.declared.fault.ScriptKind.{ScriptKind}
 use Rattle.pam_base.specs.declared.fault.ScriptKind.TheVariants.{LineTooLong, TooManyLines}
 use Rattle.record_reader.specs.Run as items
 use Rattle.record_reader.specs.Looked.{held_limit, looked}
 
--- what a line, without its newline, does to a state: the state after it and the text that is written for it, or why
--- it is refused
+-- what a line after n others, without its newline, does to a state: the state after it and the text that is written for
+-- it, or why it is refused
 abbrev pub LineStep : Type 0 → Type 0
-LineStep State = State → List ℕ → Result (State × List ℕ) ScriptKind
+LineStep State = ℕ → State → List ℕ → Result (State × List ℕ) ScriptKind
 
 -- A line that has n lines before it. Line 65,537 is refused, and so is a line of more than `held_limit` bytes,
 -- whatever it ends with; one of exactly that many bytes may end with a carriage return, and the
@@ -18,7 +18,7 @@ unfoldable pub step_at : {State : Type 0} → LineStep State → ℕ → State �
 step_at step n s line =
     if nat_le 65536 n then Err TooManyLines
     else if nat_lt held_limit (length line) then Err LineTooLong
-    else step s line
+    else step n s line
 
 -- the result of lines
 abbrev pub Run : Type 0 → Type 0

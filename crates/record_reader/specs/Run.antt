@@ -13,6 +13,10 @@ Refuses = ℕ → List ℕ → Type 0
 abbrev pub ItemStep : Type 0 → Type 0 → Type 0
 ItemStep State Kind = ℕ → State → List ℕ → Result (State × List ℕ) Kind
 
+-- the states that an item after n others may leave if it runs out of memory
+abbrev pub ItemFails : Type 0 → Type 1
+ItemFails State = ℕ → State → List ℕ → State → Type 0
+
 -- the result of several items: the text of those before the first refused one, the state after them, the number of
 -- items before what follows, and why an item was refused
 pub record Run (State Kind : Type 0) : Type 0 where

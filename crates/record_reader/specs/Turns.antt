@@ -1,71 +1,56 @@
 -- Item by item: what was read from the source and written to the sink, whatever an item does.
-use Rattle.std.specs.Prelude.{◌≡◌, ℕ, ◌+◌, ◌≤◌, ◌<◌, ◌⊎◌, Bool, true, false, List, [], ◌∷◌, ◌++◌, length, drop, Option, Some, None, Result, Ok, Err, OnOk}
+use Rattle.std.specs.Prelude.{◌≡◌, ℕ, ◌+◌, ◌≤◌, ◌⊎◌, Bool, true, false, List, [], ◌∷◌, ◌++◌, length, drop, Option, Some, None, Result, Ok, Err, OnOk}
 use Rattle.pam_outside.specs.Streams.{SourceState, SinkState}
 use Rattle.record_reader.specs.declared.ending.Ending.{Ending}
 use Rattle.record_reader.specs.declared.ending.Ending.TheVariants.{Done, ReadFault, Refused}
 use Rattle.record_reader.specs.declared.ending.Stop.{Stop}
 use Rattle.record_reader.specs.declared.ending.Stop.TheVariants.{NoMemory, WriteFault}
-use Rattle.record_reader.specs.Run.{Looks, ItemStep, come_to, run_items, run_of}
+use Rattle.record_reader.specs.Run.{Looks, ItemFails, ItemStep, come_to, run_items, run_of}
 
 -- ---- one item
 
--- a write failed: the item was applied, and a prefix of its text is written
-pub record IsCutShort {State Kind : Type 0} (step : ItemStep State Kind) (n : ℕ) (item : List ℕ)
-    (c d : State) (written : List ℕ) : Type 0 where
-  pub text : List ℕ
-  pub applied : step n c item ≡ Ok (d, text)
-  pub more : List ℕ
-  pub parts : text ≡ written ++ more
+module _ {State Kind : Type 0} (step : ItemStep State Kind) where
+  -- a write failed: the item was applied, and a prefix of its text is written
+  pub record IsCutShort (n : ℕ) (item : List ℕ) (c d : State) (written : List ℕ) : Type 0 where
+    pub text : List ℕ
+    pub applied : step n c item ≡ Ok (d, text)
+    pub more : List ℕ
+    pub parts : text ≡ written ++ more
 
--- out of memory: the item isn't a refused one; either it was applied, or its call ran out of memory
-pub record IsBegun {State Kind : Type 0} (step : ItemStep State Kind)
-    (Fails : State → List ℕ → State → Type 0) (n : ℕ) (item : List ℕ) (c d : State) : Type 0 where
-  pub after : State
-  pub text : List ℕ
-  pub accepted : step n c item ≡ Ok (after, text)
-  pub state : (d ≡ after) ⊎ Fails c item d
+module _ {State Kind : Type 0} (step : ItemStep State Kind) (Fails : ItemFails State) where
+  -- out of memory: the item isn't a refused one; either it was applied, or its call ran out of memory
+  pub record IsBegun (n : ℕ) (item : List ℕ) (c d : State) : Type 0 where
+    pub after : State
+    pub text : List ℕ
+    pub accepted : step n c item ≡ Ok (after, text)
+    pub state : (d ≡ after) ⊎ Fails n c item d
 
--- how a run stops, and in which item if it began one
-abbrev pub StopsAt : {State Kind : Type 0} → ItemStep State Kind → (State → List ℕ → State → Type 0)
-    → Stop → ℕ → Option (List ℕ) → State → State
-    → List ℕ → Type 0
-StopsAt step Fails WriteFault n None c d written = ⊥
-StopsAt step Fails WriteFault n (Some item) c d written = IsCutShort step n item c d written
-StopsAt step Fails NoMemory n None c d written = (d ≡ c) × (written ≡ [])
-StopsAt step Fails NoMemory n (Some item) c d written = IsBegun step Fails n item c d
-    × (written ≡ [])
+  -- how a run stops, and in which item if it began one
+  abbrev pub StopsAt : Stop → ℕ → Option (List ℕ) → State → State → List ℕ → Type 0
+  StopsAt WriteFault n None c d written = ⊥
+  StopsAt WriteFault n (Some item) c d written = IsCutShort step n item c d written
+  StopsAt NoMemory n None c d written = (d ≡ c) × (written ≡ [])
+  StopsAt NoMemory n (Some item) c d written = IsBegun n item c d × (written ≡ [])
 
--- One item is served: it is applied and its text is written; it is refused and nothing happens; or
--- the run stops in it or before it.
-abbrev pub Serves : {State Kind : Type 0} → ItemStep State Kind → (State → List ℕ → State → Type 0)
-    → Result (Option Kind) Stop → ℕ → List ℕ → State
-    → State → List ℕ → Type 0
-Serves step Fails (Ok None) n item c d written = step n c item ≡ Ok (d, written)
-Serves step Fails (Ok (Some kind)) n item c d written = (step n c item ≡ Err kind) × (d ≡ c)
-    × (written ≡ [])
-Serves step Fails (Err stop) n item c d written = StopsAt step Fails stop n (Some item) c d written
-    ⊎ StopsAt step Fails stop n None c d written
+  -- One item is served: it is applied and its text is written; it is refused and nothing happens; or
+  -- the run stops in it or before it.
+  abbrev pub Serves : Result (Option Kind) Stop → ℕ → List ℕ → State → State → List ℕ → Type 0
+  Serves (Ok None) n item c d written = step n c item ≡ Ok (d, written)
+  Serves (Ok (Some kind)) n item c d written = (step n c item ≡ Err kind) × (d ≡ c)
+      × (written ≡ [])
+  Serves (Err stop) n item c d written = StopsAt stop n (Some item) c d written
+      ⊎ StopsAt stop n None c d written
 
--- what a modelled sink holds after it
-pub record ServesItem {State Kind : Type 0} (step : ItemStep State Kind)
-    (Fails : State → List ℕ → State → Type 0) (result : Result (Option Kind) Stop) (n : ℕ)
-    (item : List ℕ) (c d : State) (old new : SinkState) : Type 0 where
-  pub text : List ℕ
-  pub written : new.written ≡ old.written ++ text
-  pub served : Serves step Fails result n item c d text
-  pub calls : new.calls ≤ old.calls + length text + 1
-  pub calls_ok : OnOk result (new.calls ≤ old.calls + length text)
+  -- what a modelled sink holds after it
+  pub record ServesItem (result : Result (Option Kind) Stop) (n : ℕ) (item : List ℕ) (c d : State)
+      (old new : SinkState) : Type 0 where
+    pub text : List ℕ
+    pub written : new.written ≡ old.written ++ text
+    pub served : Serves result n item c d text
+    pub calls : new.calls ≤ old.calls + length text + 1
+    pub calls_ok : OnOk result (new.calls ≤ old.calls + length text)
 
 -- ---- many items
-
--- The complete items among the bytes read were served. Whatever follows, the run continues with the bytes held.
-pub record GoesOn {State Kind : Type 0} (looked : Looks) (step : ItemStep State Kind) (n m : ℕ)
-    (c d : State) (met held text : List ℕ) : Type 0 where
-  pub served : List (List ℕ)
-  pub number : m ≡ n + length served
-  pub among : (more : List ℕ) (ended : Bool) → looked n (met ++ more) ended ≡ served
-      ++ looked m (held ++ more) ended
-  pub run : run_items step n c served ≡ come_to text d m None
 
 abbrev pub refusal_of : {Kind : Type 0} → Ending Kind → Option Kind
 refusal_of Done = None
@@ -78,77 +63,97 @@ IsEndedBy Done ended = ended ≡ true
 IsEndedBy ReadFault ended = ended ≡ false
 IsEndedBy (Refused kind) ended = Unit {0}
 
--- the run over the bytes read has ended
-pub record EndsBy {State Kind : Type 0} (looked : Looks) (step : ItemStep State Kind)
-    (ending : Ending Kind) (n m : ℕ) (c d : State) (met left text : List ℕ) : Type 0 where
-  pub ended : Bool
-  pub at_end : ended ≡ true → left ≡ []
-  pub by : IsEndedBy ending ended
-  pub run : run_of looked step n c met ended ≡ come_to text d m (refusal_of ending)
+module _ {State Kind : Type 0} (looked : Looks) (step : ItemStep State Kind) where
+  -- The complete items among the bytes read were served. Whatever follows, the run continues with the bytes held.
+  pub record GoesOn (n m : ℕ) (c d : State) (met held text : List ℕ) : Type 0 where
+    pub served : List (List ℕ)
+    pub number : m ≡ n + length served
+    pub among : (more : List ℕ) (ended : Bool) → looked n (met ++ more) ended ≡ served
+        ++ looked m (held ++ more) ended
+    pub run : run_items step n c served ≡ come_to text d m None
+
+  -- the run over the bytes read has ended
+  pub record EndsBy (ending : Ending Kind) (n m : ℕ) (c d : State)
+      (met left text : List ℕ) : Type 0 where
+    pub ended : Bool
+    pub at_end : ended ≡ true → left ≡ []
+    pub by : IsEndedBy ending ended
+    pub run : run_of looked step n c met ended ≡ come_to text d m (refusal_of ending)
+
+  -- the last read, by its result, after other bytes: it read at most a buffer, and nothing before it was refused
+  pub record LastRead (n : ℕ) (c : State) (before got : List ℕ) : Type 0 where
+    pub early : List ℕ
+    pub late : List ℕ
+    pub parts : got ≡ early ++ late
+    pub room : length late ≤ 512
+    pub accepted : (run_of looked step n c (before ++ early) false).refused ≡ None
 
 abbrev pub begun_items : Option (List ℕ) → List (List ℕ)
 begun_items None = []
 begun_items (Some item) = item ∷ []
 
--- The run has stopped: the first items, of the bytes read and of the whole input alike, were served completely, so m
--- items precede what follows, and at most one more item was begun.
-pub record StopsBy {State Kind : Type 0} (looked : Looks) (step : ItemStep State Kind)
-    (Fails : State → List ℕ → State → Type 0) (stop : Stop) (n m : ℕ) (c d : State)
-    (met left text : List ℕ) : Type 0 where
-  pub served : List (List ℕ)
-  pub begun : Option (List ℕ)
-  pub number : m ≡ n + length served
-  pub ended : Bool
-  pub at_end : ended ≡ true → left ≡ []
-  pub others_met : List (List ℕ)
-  pub among_met : looked n met ended ≡ served ++ begun_items begun ++ others_met
-  pub others : List (List ℕ)
-  pub among_all : looked n (met ++ left) true ≡ served ++ begun_items begun ++ others
-  pub middle : State
-  pub whole : List ℕ
-  pub part : List ℕ
-  pub run : run_items step n c served ≡ come_to whole middle m None
-  pub parts : text ≡ whole ++ part
-  pub stopped : StopsAt step Fails stop m begun middle d part
+-- Where a run is, before a turn or after it: so many items were applied, and led to this state; these bytes were read
+-- and not consumed yet; and what source and sink hold.
+pub record Place (State : Type 0) : Type 0 where
+  pub items : ℕ
+  pub state : State
+  pub held : List ℕ
+  pub source : SourceState
+  pub sink : SinkState
 
--- what was written for the bytes read so far
-abbrev pub Tells : {State Kind : Type 0} → Looks → ItemStep State Kind
-    → (State → List ℕ → State → Type 0) → Result (Option (Ending Kind)) Stop → ℕ
-    → ℕ → State → State → List ℕ → List ℕ → List ℕ → List ℕ → Type 0
-Tells looked step Fails (Ok None) n m c d met held left text =
-    GoesOn looked step n m c d met held text
-Tells looked step Fails (Ok (Some ending)) n m c d met held left text =
-    EndsBy looked step ending n m c d met left text
-Tells looked step Fails (Err stop) n m c d met held left text =
-    StopsBy looked step Fails stop n m c d met left text
+abbrev pub place : {State : Type 0} → ℕ → State → List ℕ → SourceState → SinkState → Place State
+place items state held source sink = record {
+  items = items;
+  state = state;
+  held = held;
+  source = source;
+  sink = sink;
+}
 
--- the last read, by its result, after other bytes: it read at most a buffer, and nothing before it was refused
-pub record LastRead {State Kind : Type 0} (looked : Looks) (step : ItemStep State Kind) (n : ℕ)
-    (c : State) (before got : List ℕ) : Type 0 where
-  pub early : List ℕ
-  pub late : List ℕ
-  pub parts : got ≡ early ++ late
-  pub room : length late ≤ 512
-  pub accepted : (run_of looked step n c (before ++ early) false).refused ≡ None
+module _ {State Kind : Type 0} (looked : Looks) (step : ItemStep State Kind)
+    (Fails : ItemFails State) where
+  -- The run has stopped: the first items, of the bytes read and of the whole input alike, were served completely, so m
+  -- items precede what follows, and at most one more item was begun.
+  pub record StopsBy (stop : Stop) (n m : ℕ) (c d : State) (met left text : List ℕ) : Type 0 where
+    pub served : List (List ℕ)
+    pub begun : Option (List ℕ)
+    pub number : m ≡ n + length served
+    pub ended : Bool
+    pub at_end : ended ≡ true → left ≡ []
+    pub others_met : List (List ℕ)
+    pub among_met : looked n met ended ≡ served ++ begun_items begun ++ others_met
+    pub others : List (List ℕ)
+    pub among_all : looked n (met ++ left) true ≡ served ++ begun_items begun ++ others
+    pub middle : State
+    pub whole : List ℕ
+    pub part : List ℕ
+    pub run : run_items step n c served ≡ come_to whole middle m None
+    pub parts : text ≡ whole ++ part
+    pub stopped : StopsAt step Fails stop m begun middle d part
 
--- What was read and written in one turn or several: n items precede them and m items follow n before the next; the
--- state is c before and d after them.
-pub record Turns {State Kind : Type 0} (looked : Looks) (step : ItemStep State Kind)
-    (Fails : State → List ℕ → State → Type 0) (result : Result (Option (Ending Kind)) Stop)
-    (n m : ℕ) (c d : State) (before held : List ℕ) (x y : SourceState) (p q : SinkState) : Type
-    0 where
-  pub got : List ℕ
-  pub text : List ℕ
-  pub source : x.left ≡ got ++ y.left
-  pub sink : q.written ≡ p.written ++ text
-  pub tells : Tells looked step Fails result n m c d (before ++ got) held y.left text
-  pub reads : y.calls ≤ x.calls + length got + 1
-  pub reads_on : result ≡ Ok None → y.calls ≤ x.calls + length got
-  pub ends : y.reads_at_end ≤ x.reads_at_end + 1
-  pub ends_on : result ≡ Ok None → y.reads_at_end ≤ x.reads_at_end
-  pub last : (got ≡ []) ⊎ LastRead looked step n c before got
-  pub calls : q.calls ≤ p.calls + length text + 1
-  pub calls_ok : OnOk result (q.calls ≤ p.calls + length text)
+  -- what was written for the bytes read so far
+  abbrev pub Tells : Result (Option (Ending Kind)) Stop → ℕ → ℕ → State → State → List ℕ → List ℕ
+      → List ℕ → List ℕ → Type 0
+  Tells (Ok None) n m c d met held left text = GoesOn looked step n m c d met held text
+  Tells (Ok (Some ending)) n m c d met held left text =
+      EndsBy looked step ending n m c d met left text
+  Tells (Err stop) n m c d met held left text = StopsBy stop n m c d met left text
+
+  -- what was read and written in one turn or several, from one place to another
+  pub record Turns (result : Result (Option (Ending Kind)) Stop) (old new : Place State) : Type 0 where
+    pub got : List ℕ
+    pub text : List ℕ
+    pub source : old.source.left ≡ got ++ new.source.left
+    pub sink : new.sink.written ≡ old.sink.written ++ text
+    pub tells : Tells result old.items new.items old.state new.state (old.held ++ got) new.held
+        new.source.left text
+    pub reads : new.source.calls ≤ old.source.calls + length got + 1
+    pub reads_on : result ≡ Ok None → new.source.calls ≤ old.source.calls + length got
+    pub ends : new.source.reads_at_end ≤ old.source.reads_at_end + 1
+    pub ends_on : result ≡ Ok None → new.source.reads_at_end ≤ old.source.reads_at_end
+    pub last : (got ≡ []) ⊎ LastRead looked step old.items old.state old.held got
+    pub calls : new.sink.calls ≤ old.sink.calls + length text + 1
+    pub calls_ok : OnOk result (new.sink.calls ≤ old.sink.calls + length text)
 
 -- ---- the result of a turn
 

@@ -1,5 +1,5 @@
 ghost use Rattle.std.specs.Prelude.{◌≡◌, ℕ, List, true};
-ghost use Rattle.record_reader.specs.Laws.{NoTurnYet, StopsAtOnce, SilentIsServed, WrittenIsServed, RefusedIsServed, UnbegunIsServed, BegunIsServed, FaultIsTurn, EndIsTurn, ItemIsTurn, RestIsTurn, TurnsGoOn, TurnsAreRun};
+ghost use Rattle.record_reader.specs.Laws.{NoTurnYet, StopsAtOnce, FaultIsTurn, EndIsTurn, ItemIsTurn, RestIsTurn, TurnsGoOn, TurnsAreRun};
 ghost use Rattle.pam_base.specs.Lines.{lines_of};
 ghost use Rattle.record_reader.specs.Looked.{looked};
 
@@ -13,16 +13,6 @@ pub fn first_turn<R: Stepping>()
         (R.fails setting) }
     ensures no_memory { (setting : R.Setting) → StopsAtOnce R.looked (R.step setting)
         (R.fails setting) }
-{}
-
-/// Serving one item: it has no text to write; its text is written, in full or up to a failed write; it is refused; or
-/// memory runs out, before it is begun or later.
-pub fn item_is_served<R: Stepping>()
-    ensures silent { (setting : R.Setting) → SilentIsServed (R.step setting) (R.fails setting) }
-    ensures written { (setting : R.Setting) → WrittenIsServed (R.step setting) (R.fails setting) }
-    ensures refused { (setting : R.Setting) → RefusedIsServed (R.step setting) (R.fails setting) }
-    ensures unbegun { (setting : R.Setting) → UnbegunIsServed (R.step setting) (R.fails setting) }
-    ensures begun { (setting : R.Setting) → BegunIsServed (R.step setting) (R.fails setting) }
 {}
 
 /// If a source failed or has ended, and no item was found, that is the last turn.

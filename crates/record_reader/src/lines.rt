@@ -15,11 +15,12 @@ pub trait LineStepping {
     /// What a line changes.
     ghost State: { Type 0 };
 
-    /// The state after a line, without its newline, and the text that is written for it; or why it is refused.
-    ghost line_step: { Setting → State → List ℕ → Result (State × List ℕ) ScriptKind };
+    /// The state after a line that follows n others, without its newline, and the text that is written for it; or why it
+    /// is refused.
+    ghost line_step: { Setting → ℕ → State → List ℕ → Result (State × List ℕ) ScriptKind };
 
-    /// The states that a line may leave if it runs out of memory.
-    ghost fails: { Setting → State → List ℕ → State → Type 0 };
+    /// The states that a line after n others may leave if it runs out of memory.
+    ghost fails: { Setting → ℕ → State → List ℕ → State → Type 0 };
 }
 
 /// The stream of such lines.

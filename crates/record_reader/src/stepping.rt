@@ -39,8 +39,8 @@ pub trait Stepping {
     /// The items after n others that are refused in every state.
     ghost refuses: { ℕ → List ℕ → Type 0 };
 
-    /// The states that an item may leave if its call runs out of memory.
-    ghost fails: { Setting → State → List ℕ → State → Type 0 };
+    /// The states that an item after n others may leave if its call runs out of memory.
+    ghost fails: { Setting → ℕ → State → List ℕ → State → Type 0 };
 
     /// What bytes begin with after n items. It waits for at most 581 bytes.
     fn first_item(before: u32, held: &[u8]) -> FirstItem

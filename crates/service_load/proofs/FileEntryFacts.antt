@@ -18,7 +18,7 @@ use Rattle.service_load.specs.declared.rule_file.RuleFile.{RuleFile}
 use Rattle.service_load.specs.declared.rule_type.RuleType.{RuleType}
 use Rattle.service_load.specs.Files.{plain_file}
 use Rattle.service_load.specs.FirstFault.{Counts, Stop, fault_at, past_end, going_on, look}
-use Rattle.service_load.specs.Loading.{texts_of, counts_of, Looks, OnlyCalls, AddsLine, Opens, Brings, Grows, entry_items_at, entry_nodes_at, items_at, nodes_at, entries_items, entries_nodes, TakesContent, brought_in}
+use Rattle.service_load.specs.Loading.{texts_of, counts_of, Looks, OnlyCalls, AddsLine, Opens, Brings, Grows, load_state, entry_items_at, entry_nodes_at, items_at, nodes_at, entries_items, entries_nodes, TakesContent, brought_in}
 use Rattle.service_load.specs.Order.{Item, Opener, by_rule, made, content_items}
 use Rattle.service_load.specs.Tree.{content_nodes}
 
@@ -252,17 +252,18 @@ pub record Since {A : Type 0} (r : Result A (Refuse LoadFault)) (root : List ℕ
   pub stays : OnlyCalls first new
 
 pub since : {A : Type 0} (r : Result A (Refuse LoadFault)) (root : List ℕ) (first old new : VaultState) (was is : Loader) (items : (List ℕ → Option (List ℕ)) → List Item) (before after : Stack) (added : (List ℕ → Option (List ℕ)) → Stack)
-    → OnlyCalls first old → Brings r (texts_of root old) old new was is (items (texts_of root old)) before after (added (texts_of root old))
+    → OnlyCalls first old → Brings r (texts_of root old) (load_state was old) (load_state is new) (items (texts_of root old)) before after (added (texts_of root old))
     → Since r root first old new was is (items (texts_of root first)) before after (added (texts_of root first))
 since r root first old new was is items before after added only brings =
-    let P : VaultState → Type 0 = λ v. Brings r (texts_of root v) v new was is (items (texts_of root v)) before after (added (texts_of root v)) in
+    let P : VaultState → Type 0 = λ v. Brings r (texts_of root v) (load_state was v) (load_state is new) (items (texts_of root v)) before after (added (texts_of root v)) in
     let b : P (record first { calls = old.calls }) = subst P only brings in
     record { looks = b.looks; nodes = b.nodes; stays = b.stays }
 
 -- what an included file adds
 pub file_since : (r : Result Bool (Refuse LoadFault)) (root : List ℕ) (first old new : VaultState) (was is : Loader) (level : ℕ) (type : RuleType) (name : List ℕ) (i : Inclusion) (inner : Stack)
     → OnlyCalls first old
-    → Brings r (texts_of root old) old new was is (items_at (texts_of root old) (level + 1) type (by_rule name i.line) i.file) none inner (nodes_at (texts_of root old) (level + 1) type i.file)
+    → Brings r (texts_of root old) (load_state was old) (load_state is new)
+    (items_at (texts_of root old) (level + 1) type (by_rule name i.line) i.file) none inner (nodes_at (texts_of root old) (level + 1) type i.file)
     → Since r root first old new was is (items_at (texts_of root first) (level + 1) type (by_rule name i.line) i.file) none inner (nodes_at (texts_of root first) (level + 1) type i.file)
 file_since r root first old new was is level type name i inner =
     since r root first old new was is (λ texts. items_at texts (level + 1) type (by_rule name i.line) i.file) none inner (λ texts. nodes_at texts (level + 1) type i.file)
@@ -275,7 +276,8 @@ module _ (root : List ℕ) (first old now : VaultState) (was opened is : Loader)
   IsOpened = Opens (texts_of root first) (Ok (Some entries)) first.fails (counts_of was first) (counts_of opened old) level type opener file
 
   abbrev whole : Type 0
-  whole = Brings {A = Bool} (Ok true) (texts_of root first) first now was is (items_at (texts_of root first) level type opener file) before after (nodes_at (texts_of root first) level type file)
+  whole = Brings {A = Bool} (Ok true) (texts_of root first) (load_state was first) (load_state is now)
+      (items_at (texts_of root first) level type opener file) before after (nodes_at (texts_of root first) level type file)
 
   -- and processed to its end
   pub brings_all : IsOpened
@@ -291,13 +293,15 @@ module _ (root : List ℕ) (first old now : VaultState) (was opened is : Loader)
   pub brings_stop : (r : Refuse LoadFault) → IsOpened
       → Looks {A = Bool} (Err r) (look (texts_of root first) first.fails (counts_of opened old) (entries_items (texts_of root first) level type file.name entries)) (counts_of is now)
       → OnlyCalls first now
-      → Brings {A = Bool} (Err r) (texts_of root first) first now was is (items_at (texts_of root first) level type opener file) before after (nodes_at (texts_of root first) level type file)
+      → Brings {A = Bool} (Err r) (texts_of root first) (load_state was first) (load_state is now)
+      (items_at (texts_of root first) level type opener file) before after (nodes_at (texts_of root first) level type file)
   brings_stop (refusals.Named f) opens looks only = record { looks = opens.0 ∙ looks; nodes = tt; stays = only }
   brings_stop refusals.NoMemory opens looks only = record { looks = tt; nodes = tt; stays = only }
 
   -- it doesn't exist, and doesn't have to
   pub brings_absent : Opens (texts_of root first) (Ok None) first.fails (counts_of was first) (counts_of is now) level type opener file
       → after ≡ before → OnlyCalls first now
-      → Brings {A = Bool} (Ok false) (texts_of root first) first now was is (items_at (texts_of root first) level type opener file) before after (nodes_at (texts_of root first) level type file)
+      → Brings {A = Bool} (Ok false) (texts_of root first) (load_state was first) (load_state is now)
+      (items_at (texts_of root first) level type opener file) before after (nodes_at (texts_of root first) level type file)
   unfolding look
   brings_absent opens same only = record { looks = opens.0; nodes = same ∙ sym (joined-none before) ∙ ap (λ (s : Stack). joined before s) (sym opens.1); stays = only }

@@ -17,7 +17,7 @@ use Rattle.service_load.specs.FirstFault.{Counts, look}
 use Rattle.service_load.specs.Entry.{directory_name}
 use Rattle.service_load.specs.Load.{AreBounded, LoadsBy, LoadsFrom, Loads, loaded_from, directory_exists}
 use Rattle.pam_outside.specs.Paths.{path_of}
-use Rattle.service_load.specs.Loading.{texts_of, counts_of, Looks, OnlyCalls, Brings, Grows, IsBounded, Makes, items_at, nodes_at}
+use Rattle.service_load.specs.Loading.{texts_of, counts_of, Looks, OnlyCalls, Brings, Grows, IsBounded, Makes, items_at, load_state, nodes_at}
 use Rattle.std.specs.List.{flat_map}
 use Rattle.service_load.specs.declared.rule_type.RuleType.TheVariants.{Auth, Account, Password, Session}
 use Rattle.service_load.specs.Order.{Item, Opener, as_service, as_other, as_last, items, other_opener, tree_items, trees_items}
@@ -70,7 +70,7 @@ module _ (root : List ℕ) (first : VaultState) (was : Loader) (own other : Rule
   pub makes_own : (made : Nodes) (now : VaultState) (is : Loader)
       → look texts first.fails fresh (items_at texts 0 type as_service own) ≡ Ok (counts_of is now)
       → stack_of made.vec.items ≡ nodes_at texts 0 type own → eqb (count (stack_of made.vec.items)) 0 ≡ false → OnlyCalls first now
-      → Makes (Ok made) texts first now was is own other type
+      → Makes (Ok made) texts (load_state was first) (load_state is now) own other type
   makes_own made now is looks made_is some only =
       let some_own : eqb (count (nodes texts 17 type own)) 0 ≡ false = rw made_is at some in
       record {
@@ -81,7 +81,7 @@ module _ (root : List ℕ) (first : VaultState) (was : Loader) (own other : Rule
 
   pub stop_own : (r : Refuse LoadFault) (now : VaultState) (is : Loader)
       → Looks {A = Bool} (Err r) (look texts first.fails fresh (items_at texts 0 type as_service own)) (counts_of is now) → OnlyCalls first now
-      → Makes (Err r) texts first now was is own other type
+      → Makes (Err r) texts (load_state was first) (load_state is now) own other type
   stop_own (refusals.Named f) now is looks only = record { looks = begins ∙ look_stops texts first.fails fresh (record { fault = f; calls = now.calls }) (items_at texts 0 type as_service own) others looks; made = tt; stays = only }
   stop_own refusals.NoMemory now is looks only = record { looks = tt; made = tt; stays = only }
 
@@ -98,7 +98,7 @@ module _ (root : List ℕ) (first : VaultState) (was : Loader) (own other : Rule
     -- the nodes are those of `other`
     pub makes_other : (made : Nodes) → look texts first.fails (counts_of half mid) (items_at texts 0 type opener other) ≡ Ok (counts_of is now)
         → stack_of made.vec.items ≡ joined stack (nodes_at texts 0 type other) → OnlyCalls first now
-        → Makes (Ok made) texts first now was is own other type
+        → Makes (Ok made) texts (load_state was first) (load_state is now) own other type
     makes_other made looks made_is only =
         let empty_own : eqb (count (nodes texts 17 type own)) 0 ≡ true = rw stack_is at empty in
         record {
@@ -109,14 +109,15 @@ module _ (root : List ℕ) (first : VaultState) (was : Loader) (own other : Rule
 
     pub stop_other : (r : Refuse LoadFault)
         → Looks {A = Bool} (Err r) (look texts first.fails (counts_of half mid) (items_at texts 0 type opener other)) (counts_of is now)
-        → OnlyCalls first now → Makes (Err r) texts first now was is own other type
+        → OnlyCalls first now → Makes (Err r) texts (load_state was first) (load_state is now) own other type
     stop_other (refusals.Named f) looks only = record { looks = on_to_other ∙ looks; made = tt; stays = only }
     stop_other refusals.NoMemory looks only = record { looks = tt; made = tt; stays = only }
 
 -- what the file of `other` adds, stated for the files as they were
 pub other_since : (r : Result Bool (Refuse LoadFault)) (root : List ℕ) (first mid now : VaultState) (half is : Loader) (own other : RuleFile) (type : RuleType) (there : Bool) (before after : Stack)
     → OnlyCalls first mid
-    → Brings r (texts_of root mid) mid now half is (items_at (texts_of root mid) 0 type (cond there as_other (as_last own.name)) other) before after (nodes_at (texts_of root mid) 0 type other)
+    → Brings r (texts_of root mid) (load_state half mid) (load_state is now)
+    (items_at (texts_of root mid) 0 type (cond there as_other (as_last own.name)) other) before after (nodes_at (texts_of root mid) 0 type other)
     → Since r root first mid now half is (items_at (texts_of root first) 0 type (cond there as_other (as_last own.name)) other) before after (nodes_at (texts_of root first) 0 type other)
 other_since r root first mid now half is own other type there before after =
     since r root first mid now half is (λ texts. items_at texts 0 type (cond there as_other (as_last own.name)) other) before after (λ texts. nodes_at texts 0 type other)
@@ -128,10 +129,10 @@ only_only a b c one two = two ∙ ap (λ (v : VaultState). record v { calls = c.
 
 -- a later tree, stated for the files as they were
 pub makes_since : (r : Result Nodes (Refuse LoadFault)) (root : List ℕ) (first old new : VaultState) (was is : Loader) (own other : RuleFile) (type : RuleType)
-    → OnlyCalls first old → Makes r (texts_of root old) old new was is own other type
-    → Makes r (texts_of root first) (record first { calls = old.calls }) new was is own other type
+    → OnlyCalls first old → Makes r (texts_of root old) (load_state was old) (load_state is new) own other type
+    → Makes r (texts_of root first) (load_state was (record first { calls = old.calls })) (load_state is new) own other type
 makes_since r root first old new was is own other type only makes =
-    let P : VaultState → Type 0 = λ v. Makes r (texts_of root v) v new was is own other type in
+    let P : VaultState → Type 0 = λ v. Makes r (texts_of root v) (load_state was v) (load_state is new) own other type in
     subst P only makes
 
 -- the check of nothing more
@@ -160,7 +161,7 @@ put_stacks trees Session given = refl
 -- one more tree
 pub making_next : (root : List ℕ) (first old new : VaultState) (start : Counts) (was is : Loader) (own other : RuleFile) (trees after : Trees) (given : Nodes) (i : ℕ) (d : RuleType)
     → i < length all_types → Making root first old start was own other trees (drop i all_types)
-    → Makes (Ok given) (texts_of root old) old new was is own other (get_or all_types i d)
+    → Makes (Ok given) (texts_of root old) (load_state was old) (load_state is new) own other (get_or all_types i d)
     → after ≡ with_nodes trees (get_or all_types i d) given
     → Making root first new start is own other after (drop (i + 1) all_types)
 making_next root first old new start was is own other trees after given i d within h makes put =
@@ -180,7 +181,7 @@ making_next root first old new start was is own other trees after given i d with
 -- a refusal in a tree, unless memory ran out, is the first fault of the whole load
 pub making_stops : (r : Refuse LoadFault) (root : List ℕ) (first old new : VaultState) (start : Counts) (was is : Loader) (own other : RuleFile) (trees : Trees) (i : ℕ) (d : RuleType)
     → i < length all_types → Making root first old start was own other trees (drop i all_types)
-    → Makes (Err r) (texts_of root old) old new was is own other (get_or all_types i d)
+    → Makes (Err r) (texts_of root old) (load_state was old) (load_state is new) own other (get_or all_types i d)
     → LoadsBy (Err r) (look (texts_of root first) first.fails start (trees_items (texts_of root first) own other)) new (tree_from (texts_of root first) own other)
 making_stops (refusals.Named f) root first old new start was is own other trees i d within h makes =
     let texts = texts_of root first in
@@ -192,7 +193,7 @@ making_stops (refusals.Named f) root first old new start was is own other trees 
 making_stops refusals.NoMemory root first old new start was is own other trees i d within h makes = tt
 
 pub making_keeps : (r : Refuse LoadFault) (root : List ℕ) (first old new : VaultState) (start : Counts) (was is : Loader) (own other : RuleFile) (trees : Trees) (left : List RuleType) (type : RuleType)
-    → Making root first old start was own other trees left → Makes (Err r) (texts_of root old) old new was is own other type → OnlyCalls first new
+    → Making root first old start was own other trees left → Makes (Err r) (texts_of root old) (load_state was old) (load_state is new) own other type → OnlyCalls first new
 making_keeps r root first old new start was is own other trees left type h makes = only_only first old new h.stays makes.stays
 
 -- all are made: these are the trees of the whole load

@@ -45,6 +45,14 @@ counts_of loader vault = record {
   lines = loader.lines;
 }
 
+-- what a load has at a time: its own state, and what the files hold
+pub record LoadState : Type 0 where
+  pub loader : Loader
+  pub files : VaultState
+
+abbrev pub load_state : Loader → VaultState → LoadState
+load_state loader files = record { loader = loader; files = files }
+
 -- unless memory ran out, a check ends with these counts, or at this fault
 abbrev pub Looks : {A : Type 0} → Result A (Refuse LoadFault) → Result Counts Stop → Counts → Type 0
 Looks (Ok x) looked now = looked ≡ Ok now
@@ -156,11 +164,12 @@ module _ (texts : List ℕ → Option (List ℕ)) where
 
 -- over modelled files, a part of a load processed these items and added these nodes
 pub record Brings {A : Type 0} (result : Result A (Refuse LoadFault))
-    (texts : List ℕ → Option (List ℕ)) (old new : VaultState) (was is : Loader) (items : List Item)
+    (texts : List ℕ → Option (List ℕ)) (old new : LoadState) (items : List Item)
     (before after added : Stack) : Type 0 where
-  pub looks : Looks result (look texts old.fails (counts_of was old) items) (counts_of is new)
+  pub looks : Looks result (look texts old.files.fails (counts_of old.loader old.files) items)
+      (counts_of new.loader new.files)
   pub nodes : OnOk result (after ≡ joined before added)
-  pub stays : OnlyCalls old new
+  pub stays : OnlyCalls old.files new.files
 
 -- with real files too, the lines that a file at this level adds are counted, are within the limit,
 -- and are nested no deeper than the levels left up to 16
@@ -172,11 +181,11 @@ pub record Grows (level : ℕ) (was is : Loader) (before after : Stack) : Type 0
 
 -- over modelled files, a stack was made from its items
 pub record Makes (result : Result Nodes (Refuse LoadFault)) (texts : List ℕ → Option (List ℕ))
-    (old new : VaultState) (was is : Loader) (own other : RuleFile) (type : RuleType) : Type 0 where
-  pub looks : Looks result (look texts old.fails (counts_of was old)
-      (tree_items texts own other type)) (counts_of is new)
+    (old new : LoadState) (own other : RuleFile) (type : RuleType) : Type 0 where
+  pub looks : Looks result (look texts old.files.fails (counts_of old.loader old.files)
+      (tree_items texts own other type)) (counts_of new.loader new.files)
   pub made : IfOk result (λ made. stack_of made.vec.items ≡ tree_from texts own other type)
-  pub stays : OnlyCalls old new
+  pub stays : OnlyCalls old.files new.files
 
 -- with real files too, a stack has at most 4,096 lines, and substacks nested at most 16 deep
 pub record IsBounded (stack : Stack) : Type 0 where

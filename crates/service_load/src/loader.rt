@@ -10,7 +10,7 @@ ghost use Rattle.service_load.specs.Files.{held, is_absent, is_in_directory};
 ghost use Rattle.service_load.specs.Load.{AreBounded, LoadsBy};
 ghost use Rattle.service_load.specs.Order.{as_last, as_other, trees_items};
 ghost use Rattle.service_load.specs.Tree.{tree_from};
-ghost use Rattle.service_load.specs.Loading.{AddsLine, Brings, CountsFaults, Grows, IfCalled, IsBounded, Makes, OnlyCalls, Opens, TakesEntry, counts_of, items_at, nodes_at, opened_answer, opener_of, texts_of};
+ghost use Rattle.service_load.specs.Loading.{AddsLine, Brings, CountsFaults, Grows, IfCalled, IsBounded, Makes, OnlyCalls, Opens, TakesEntry, counts_of, items_at, load_state, nodes_at, opened_answer, opener_of, texts_of};
 
 use crate::entry::{ConfigEntry, Entries, RuleContent};
 use crate::inclusion::Inclusion;
@@ -196,9 +196,9 @@ impl Loader {
         requires { at.level ≤ 17 }
         ensures tells { vault_tells vault.new ≡ vault_tells vault.old }
         ensures told { IsTrue (vault_tells vault.old) → Brings result
-            (texts_of at.entry.root.now (vault_holds vault.old)) (vault_holds vault.old)
-            (vault_holds vault.new)
-            self.old self.new
+            (texts_of at.entry.root.now (vault_holds vault.old))
+            (load_state self.old (vault_holds vault.old))
+            (load_state self.new (vault_holds vault.new))
             (items_at (texts_of at.entry.root.now (vault_holds vault.old)) at.entry.level
             at.entry.rule_type (opener_of at.entry.opener) file.now)
             (stack_of nodes.old.vec.items) (stack_of nodes.new.vec.items)
@@ -243,9 +243,9 @@ impl Loader {
     ) -> Result<Nodes, Refuse<LoadFault>>
         ensures tells { vault_tells vault.new ≡ vault_tells vault.old }
         ensures told { IsTrue (vault_tells vault.old) → Makes result
-            (texts_of root.now (vault_holds vault.old)) (vault_holds vault.old)
-            (vault_holds vault.new)
-            self.old self.new files.now.own files.now.other rule_type }
+            (texts_of root.now (vault_holds vault.old))
+            (load_state self.old (vault_holds vault.old))
+            (load_state self.new (vault_holds vault.new)) files.now.own files.now.other rule_type }
         ensures bounded { IfOk result (λ nodes. IsBounded (stack_of nodes.vec.items)) }
         ensures faults { CountsFaults result (vault_faults vault.old) (vault_faults vault.new) }
     {

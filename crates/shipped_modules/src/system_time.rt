@@ -1,3 +1,5 @@
+ghost use Rattle.std.specs.Prelude.{false};
+
 use cmd_all::TimeOfDay;
 use std::rt::Clock as SystemClock;
 use system_objects::system_moment;
@@ -16,7 +18,12 @@ impl<R: SystemClock + Drop> SystemTime<R> {
 }
 
 impl<R: SystemClock + Drop> TimeOfDay for SystemTime<R> {
-    fn seconds(&self) -> u64 {
+    ghost time_tells = { λ t. false };
+
+    // nothing is known of it
+    ghost time_gives = { λ t n. 0 };
+
+    fn seconds(&self, _before: u32) -> u64 {
         system_moment(&self.rt)
     }
 }

@@ -7,7 +7,7 @@ use Rattle.handler_chain.specs.declared.opinion.Opinion.{Opinion}
 use Rattle.stack_ways.specs.declared.way.Way.{Way}
 use Rattle.stack_ways.specs.MayEnd.{CodesOf, MayEnd}
 use Rattle.stack_ways.specs.Ways.{Gained, Each}
-use Rattle.stack_ways.specs.Steps.{Skips, ByCode, way_by, AfterSub, LineStep}
+use Rattle.stack_ways.specs.Steps.{PlainLine, Skips, ByCode, way_by, AfterSub, LineStep}
 use Rattle.std.proofs.lemmas.List.Elements.{Contains-append_left, Contains-append_right, Contains-append_cases}
 use Rattle.control_words.specs.Stack.{Stack}
 use Rattle.stack_ways.specs.MayEnd.{marks_of}
@@ -25,17 +25,17 @@ gained_skip way new old next skips gained =
     (λ v other. same_way v new (other.opinion ∙ sym skips.opinion) (omega (arith, other.skip, skips.skip)) (other.marks ∙ sym skips.marks))
     gained
 
-pub gained_code : (possible counts : CodesOf) (rule : Rule) (place left : ℕ) (entry : Opinion) (way : Way) (code : Code) (new : Way) (old next : List Way)
-    → possible place code ≡ true → new ≡ way_by counts rule place left entry way code → Gained (λ v. v ≡ new) old next
-    → Gained (ByCode possible counts rule place left entry way code) old next
-gained_code possible counts rule place left entry way code new old next may is gained =
-    gained_same (λ v. v ≡ new) (ByCode possible counts rule place left entry way code) old next
+pub gained_code : (possible counts : CodesOf) (at : PlainLine) (way : Way) (code : Code) (new : Way) (old next : List Way)
+    → possible at.place code ≡ true → new ≡ way_by counts at way code → Gained (λ v. v ≡ new) old next
+    → Gained (ByCode possible counts at way code) old next
+gained_code possible counts at way code new old next may is gained =
+    gained_same (λ v. v ≡ new) (ByCode possible counts at way code) old next
     (λ v same. record { may = may; is = same ∙ is }) (λ v by. by.is ∙ sym is) gained
 
-pub gained_no_code : (possible counts : CodesOf) (rule : Rule) (place left : ℕ) (entry : Opinion) (way : Way) (code : Code) (ways : List Way)
-    → possible place code ≡ false → Gained (ByCode possible counts rule place left entry way code) ways ways
-gained_no_code possible counts rule place left entry way code ways not =
-    gained_none (ByCode possible counts rule place left entry way code) ways (λ v by. true≢false (sym by.may ∙ not))
+pub gained_no_code : (possible counts : CodesOf) (at : PlainLine) (way : Way) (code : Code) (ways : List Way)
+    → possible at.place code ≡ false → Gained (ByCode possible counts at way code) ways ways
+gained_no_code possible counts at way code ways not =
+    gained_none (ByCode possible counts at way code) ways (λ v by. true≢false (sym by.may ∙ not))
 
 pub gained_end : (way end new : Way) (old next : List Way) → AfterSub way end new → Gained (λ v. v ≡ new) old next → Gained (AfterSub way end) old next
 gained_end way end new old next after gained =
@@ -44,19 +44,19 @@ gained_end way end new old next after gained =
     (λ v other. same_way v new (other.opinion ∙ sym after.opinion) (other.skip ∙ sym after.skip) (other.marks ∙ sym after.marks))
     gained
 
-pub gained_line_skip : (possible counts : CodesOf) (rule : Rule) (place left : ℕ) (entry : Opinion) (way : Way) (old next : List Way)
-    → 0 < way.skip → Gained (Skips way) old next → Gained (LineStep possible counts rule place left entry way) old next
-gained_line_skip possible counts rule place left entry way old next some gained =
-    gained_same (Skips way) (LineStep possible counts rule place left entry way) old next
+pub gained_line_skip : (possible counts : CodesOf) (at : PlainLine) (way : Way) (old next : List Way)
+    → 0 < way.skip → Gained (Skips way) old next → Gained (LineStep possible counts at way) old next
+gained_line_skip possible counts at way old next some gained =
+    gained_same (Skips way) (LineStep possible counts at way) old next
     (λ v skips. inl skips)
     (λ v step. elim step [ inl skips ↦ skips | inr none ↦ absurd (omega (arith, none.0, some)) ])
     gained
 
-pub gained_line : (possible counts : CodesOf) (rule : Rule) (place left : ℕ) (entry : Opinion) (way : Way) (old next : List Way)
-    → way.skip ≡ 0 → Gained (Each (ByCode possible counts rule place left entry way) all_codes) old next
-    → Gained (LineStep possible counts rule place left entry way) old next
-gained_line possible counts rule place left entry way old next none gained =
-    gained_same (Each (ByCode possible counts rule place left entry way) all_codes) (LineStep possible counts rule place left entry way) old next
+pub gained_line : (possible counts : CodesOf) (at : PlainLine) (way : Way) (old next : List Way)
+    → way.skip ≡ 0 → Gained (Each (ByCode possible counts at way) all_codes) old next
+    → Gained (LineStep possible counts at way) old next
+gained_line possible counts at way old next none gained =
+    gained_same (Each (ByCode possible counts at way) all_codes) (LineStep possible counts at way) old next
     (λ v each. inr (none, each))
     (λ v step. elim step [ inl skips ↦ absurd (omega (arith, none, skips.skip)) | inr each ↦ each.1 ])
     gained

@@ -13,7 +13,7 @@ use Rattle.handler_chain.specs.Pass.{Visit, visit}
 use Rattle.stack_ways.specs.declared.way.Way.{Way}
 use Rattle.stack_ways.specs.MayEnd.{CodesOf, MayEnd, mark_of, marks_of}
 use Rattle.stack_ways.specs.Ways.{Within, Covered, Gained, Each, IsWay, IsListed, WaysOf}
-use Rattle.stack_ways.specs.Steps.{Skips, way_by, LineStep, SubStep, StackStep, AfterSub}
+use Rattle.stack_ways.specs.Steps.{Skips, line_at, way_by, LineStep, SubStep, StackStep, AfterSub}
 use Rattle.stack_ways.proofs.WayListFacts.{none_in}
 use Rattle.stack_ways.proofs.Coded.{each_code}
 use Rattle.stack_ways.proofs.RestOfStackFacts.{count_node, lines_node, depth_node}
@@ -71,7 +71,7 @@ module _ (possible counts : CodesOf) where
   -- ---- over a line
 
   module _ (rule : Rule) (rest : Stack) (at : ℕ) (entry : Opinion) where
-    line_stepped : (way new : Way) → LineStep possible counts rule at (count rest) entry way new → Stepped (line rule rest) at rest (at + 1) entry way new
+    line_stepped : (way new : Way) → LineStep possible counts (line_at rule at (count rest) entry) way new → Stepped (line rule rest) at rest (at + 1) entry way new
     line_stepped way new step = elim step [
       | inl skips ↦ over_skipped (line rule rest) at rest (at + 1) entry way new skips (λ skip opinion more end may. may)
       | inr by ↦
@@ -92,9 +92,9 @@ module _ (possible counts : CodesOf) where
     ]
 
     line_goes : (skip : ℕ) (way : Way) (ran : List Visit) (end : Opinion) → way.skip ≡ skip → MayEnd possible skip (line rule rest) at entry way.opinion ran end
-        → Goes (LineStep possible counts rule at (count rest) entry) rest (at + 1) entry way ran end
+        → Goes (LineStep possible counts (line_at rule at (count rest) entry)) rest (at + 1) entry way ran end
     line_goes zero way ran end is may = record {
-      new = way_by counts rule at (count rest) entry way may.answer;
+      new = way_by counts (line_at rule at (count rest) entry) way may.answer;
       step = inr (is, record { one = may.answer; among = each_code may.answer; leads = record { may = may.may; is = refl } });
       first = visit at may.answer ∷ [];
       more = may.more;
@@ -112,7 +112,7 @@ module _ (possible counts : CodesOf) where
       goes = may;
     }
 
-    pub over_line : StepsOver (LineStep possible counts rule at (count rest) entry) (line rule rest) at rest (at + 1) entry
+    pub over_line : StepsOver (LineStep possible counts (line_at rule at (count rest) entry)) (line rule rest) at rest (at + 1) entry
     over_line = record { sound = line_stepped; complete = λ way ran end may. line_goes way.skip way ran end refl may }
 
   -- ---- over a substack
@@ -262,7 +262,7 @@ module _ (possible counts : CodesOf) where
   over_node : (node : Node) (rest : Stack) (at left : ℕ) (entry : Opinion) → count rest ≡ left
       → StepsOver (StackStep possible counts (node_on node none) at left entry) (node_on node rest) at rest (at + lines_in (node_on node none)) entry
   over_node (Line rule) rest at left entry counted =
-      subst (λ n. StepsOver (LineStep possible counts rule at n entry) (line rule rest) at rest (at + 1) entry) counted (over_line rule rest at entry)
+      subst (λ n. StepsOver (LineStep possible counts (line_at rule at n entry)) (line rule rest) at rest (at + 1) entry) counted (over_line rule rest at entry)
   over_node (Sub' shape all) rest at left entry counted =
       subst (λ n. StepsOver (SubStep possible counts (row_stack all) at) (sub (row_stack all) rest) at rest (at + n) entry)
       (sym (add-zero (lines_in (row_stack all)))) (over_sub (row_stack all) rest at entry)

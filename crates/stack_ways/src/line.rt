@@ -2,7 +2,7 @@ ghost use Rattle.std.specs.Prelude.{◌≡◌, ◌++◌, [], ◌∷◌, ◌<◌,
 ghost use Rattle.stack_ways.specs.LineCodes.{counts_in, possible_in};
 ghost use Rattle.stack_ways.specs.MayEnd.{mark_of};
 ghost use Rattle.stack_ways.specs.Ways.{Each, Gained};
-ghost use Rattle.stack_ways.specs.Steps.{ByCode, LineStep, Skips, way_by};
+ghost use Rattle.stack_ways.specs.Steps.{ByCode, LineStep, Skips, plain_line, way_by};
 
 use crate::add_way::{WaysFault, add_way};
 use crate::line_codes::{LineCodes, line_counts, may_return};
@@ -12,6 +12,16 @@ use control_words::Rule;
 use handler_chain::{Opinion, PassKind};
 use pam_base::{ALL_CODES, Code, NoMemory, Sequence};
 use std::alloc::Global;
+
+/// A line in a list: its rule and rule number, how many nodes of the list are left after it, and the
+/// state in which the list was entered.
+#[derive(Clone, Copy)]
+pub struct LineAt<'a> {
+    pub rule: &'a Rule,
+    pub place: usize,
+    pub left: usize,
+    pub entry: Opinion,
+}
 
 /// Adds a way that skips the present node.
 pub fn skip_node(
@@ -33,28 +43,27 @@ pub fn skip_node(
     Ok(())
 }
 
-// The way after the line with this rule number returned a code.
+// The way after a line returned a code.
 fn way_after(
     alloc: Global,
-    rule: &Rule,
-    place: usize,
-    left: usize,
-    entry: Opinion,
+    at: &LineAt,
     assumed: &[LineCodes],
     way: &Way,
     code: Code,
 ) -> Result<Way, NoMemory>
-    ensures { IfOk result (λ new. new
-        ≡ way_by (counts_in assumed.now) rule.now place left entry way.now code) }
+    ensures { IfOk result (λ new. new ≡ way_by (counts_in assumed.now)
+        (plain_line at.now) way.now code) }
 {
-    let action = rule.control.action(code);
-    let new = way.opinion.after(PassKind::Keep, action, code, code, entry);
-    let onward = next_node_after(action, left, new);
+    let action = at.rule.control.action(code);
+    let new = way
+        .opinion
+        .after(PassKind::Keep, action, code, code, at.entry);
+    let onward = next_node_after(action, at.left, new);
     let marks = marks_after(
         alloc,
         way.marks.items(),
-        place,
-        line_counts(assumed, place, code),
+        at.place,
+        line_counts(assumed, at.place, code),
     )?;
     Ok(Way {
         opinion: onward.opinion,
@@ -81,10 +90,7 @@ fn marks_after(
 // Adds the way after one code, where it is possible.
 fn return_one(
     alloc: Global,
-    rule: &Rule,
-    place: usize,
-    left: usize,
-    entry: Opinion,
+    at: &LineAt,
     assumed: &[LineCodes],
     way: &Way,
     code: Code,
@@ -92,22 +98,20 @@ fn return_one(
     work: &mut usize,
 ) -> Result<(), WaysFault>
     ensures { OnOk result (Gained (ByCode (possible_in assumed.now) (counts_in assumed.now)
-        rule.now place left entry way.now code) next.old next.new) }
+        (plain_line at.now) way.now code)
+        next.old next.new) }
 {
-    if !may_return(assumed, place, code) {
+    if !may_return(assumed, at.place, code) {
         return Ok(());
     }
-    let new = way_after(alloc, rule, place, left, entry, assumed, way, code)?;
+    let new = way_after(alloc, at, assumed, way, code)?;
     add_way(alloc, next, new, work)?;
     Ok(())
 }
 
 fn return_each(
     alloc: Global,
-    rule: &Rule,
-    place: usize,
-    left: usize,
-    entry: Opinion,
+    at: &LineAt,
     assumed: &[LineCodes],
     way: &Way,
     codes: &[Code],
@@ -115,12 +119,11 @@ fn return_each(
     work: &mut usize,
 ) -> Result<(), WaysFault>
     ensures { OnOk result (Gained (Each (ByCode (possible_in assumed.now) (counts_in assumed.now)
-        rule.now place left entry way.now) codes.now) next.old next.new) }
+        (plain_line at.now) way.now) codes.now)
+        next.old next.new) }
 {
     for code in codes {
-        return_one(
-            alloc, rule, place, left, entry, assumed, way, *code, next, work,
-        )?;
+        return_one(alloc, at, assumed, way, *code, next, work)?;
     }
     Ok(())
 }
@@ -128,24 +131,20 @@ fn return_each(
 // Adds the ways after a line, of a way that is before it.
 fn pass_line(
     alloc: Global,
-    rule: &Rule,
-    place: usize,
-    left: usize,
-    entry: Opinion,
+    at: &LineAt,
     assumed: &[LineCodes],
     way: &Way,
     next: &mut Ways,
     work: &mut usize,
 ) -> Result<(), WaysFault>
     ensures { OnOk result (Gained (LineStep (possible_in assumed.now) (counts_in assumed.now)
-        rule.now place left entry way.now) next.old next.new) }
+        (plain_line at.now) way.now)
+        next.old next.new) }
 {
     if way.skip > 0 {
         skip_node(alloc, way, next, work)?;
     } else {
-        return_each(
-            alloc, rule, place, left, entry, assumed, way, &ALL_CODES, next, work,
-        )?;
+        return_each(alloc, at, assumed, way, &ALL_CODES, next, work)?;
     }
     Ok(())
 }
@@ -153,22 +152,18 @@ fn pass_line(
 /// The ways after a line, of all ways that are before it.
 pub fn pass_line_by_all(
     alloc: Global,
-    rule: &Rule,
-    place: usize,
-    left: usize,
-    entry: Opinion,
+    at: &LineAt,
     assumed: &[LineCodes],
     ways: &[Way],
     work: &mut usize,
 ) -> Result<Ways, WaysFault>
     ensures { IfOk result (λ next. Gained (Each (LineStep (possible_in assumed.now)
-        (counts_in assumed.now) rule.now place left entry) ways.now) [] next) }
+        (counts_in assumed.now) (plain_line at.now))
+        ways.now) [] next) }
 {
     let mut next = Sequence::new(alloc);
     for way in ways {
-        pass_line(
-            alloc, rule, place, left, entry, assumed, way, &mut next, work,
-        )?;
+        pass_line(alloc, at, assumed, way, &mut next, work)?;
     }
     Ok(next)
 }

@@ -6,7 +6,7 @@ ghost use Rattle.stack_ways.specs.Ways.{Apart, Each, Gained, WaysOf};
 ghost use Rattle.stack_ways.specs.Steps.{AfterSub, StackStep, SubStep};
 
 use crate::add_way::{WaysFault, add_way};
-use crate::line::{pass_line_by_all, skip_node};
+use crate::line::{LineAt, pass_line_by_all, skip_node};
 use crate::line_codes::LineCodes;
 use crate::line_count::lines_of;
 use crate::way::{Way, Ways, joined};
@@ -153,7 +153,13 @@ fn pass_node(
 {
     match node {
         Node::Line(rule) => {
-            let next = pass_line_by_all(alloc, rule, place, left, entry, assumed, ways, work)?;
+            let at = LineAt {
+                rule,
+                place,
+                left,
+                entry,
+            };
+            let next = pass_line_by_all(alloc, &at, assumed, ways, work)?;
             Ok(next)
         }
         Node::Sub(inner) => {

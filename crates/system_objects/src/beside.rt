@@ -6,8 +6,19 @@ use std::io::{self, ErrorKind, Write};
 use std::os::unix::fs::{MetadataExt, OpenOptionsExt, fchown};
 use std::rt::Files;
 
+/// What a file is replaced by.
+#[derive(Clone, Copy)]
+pub(crate) struct Replacement<'a> {
+    pub(crate) root: &'a [u8],
+    /// The path below the root.
+    pub(crate) name: &'a str,
+    /// The lock that was taken for it.
+    pub(crate) lock: &'a Option<LockAt>,
+    pub(crate) bytes: &'a [u8],
+}
+
 /// Writes a file beside the old one and renames it to the path, so that the path never names a
-/// partly written file, even if others write it, too. `name` is the same path below the root.
+/// partly written file, even if others write it, too.
 ///
 /// If a lock was taken for it, the path isn't touched if the lock's file was removed since: others may have the lock,
 /// too. Among those only one at a time writes, since it has the first name beside the path; and none replaces a file that
@@ -16,10 +27,7 @@ pub(crate) fn replace_beside(
     rt: &HostRuntime,
     alloc: Global,
     path: &str,
-    root: &[u8],
-    name: &str,
-    lock: &Option<LockAt>,
-    bytes: &[u8],
+    new: &Replacement,
 ) -> io::Result<()> {
     for number in 0..TRIES {
         let beside = name_beside(alloc, path, number)?;
@@ -30,10 +38,9 @@ pub(crate) fn replace_beside(
                     let _ = remove_unlocked(rt, other.as_str());
                 }
             }
-            let beside = beside.as_str();
-            return write_and_rename(rt, alloc, file, beside, path, root, name, lock, bytes);
+            return write_and_rename(rt, alloc, file, beside.as_str(), path, new);
         }
-        if lock.is_some() && is_file(rt, beside.as_str()) {
+        if new.lock.is_some() && is_file(rt, beside.as_str()) {
             return Err(ErrorKind::Other.into());
         }
     }
@@ -90,16 +97,9 @@ fn write_and_rename(
     mut file: File,
     beside: &str,
     path: &str,
-    root: &[u8],
-    name: &str,
-    lock: &Option<LockAt>,
-    bytes: &[u8],
+    new: &Replacement,
 ) -> io::Result<()> {
-    let put = match old_file(rt, alloc, root, name, lock) {
-        Ok(old) => put_in_place(rt, &mut file, beside, path, &old, lock, bytes),
-        Err(error) => Err(error),
-    };
-    match put {
+    match put_in_place(rt, alloc, &mut file, beside, path, new) {
         Ok(directory) => directory.sync_all(),
         Err(error) => {
             let _ = rt.remove_file(beside);
@@ -109,16 +109,10 @@ fn write_and_rename(
 }
 
 // The file that is replaced, which has to be the one that was read under the lock.
-fn old_file(
-    rt: &HostRuntime,
-    alloc: Global,
-    root: &[u8],
-    name: &str,
-    lock: &Option<LockAt>,
-) -> io::Result<Option<Metadata>> {
-    let old = leads_to(rt, alloc, root, name)?;
-    match lock {
-        Some(lock) if !lock.is_as_read(name.as_bytes(), &old) => Err(ErrorKind::Other.into()),
+fn old_file(rt: &HostRuntime, alloc: Global, new: &Replacement) -> io::Result<Option<Metadata>> {
+    let old = leads_to(rt, alloc, new.root, new.name)?;
+    match new.lock {
+        Some(lock) if !lock.is_as_read(new.name.as_bytes(), &old) => Err(ErrorKind::Other.into()),
         _ => Ok(old),
     }
 }
@@ -127,24 +121,23 @@ fn old_file(
 // written, and its bytes are on the disk before it has the name. Returns its directory, which is to be synced.
 fn put_in_place(
     rt: &HostRuntime,
+    alloc: Global,
     file: &mut File,
     beside: &str,
     path: &str,
-    old: &Option<Metadata>,
-    lock: &Option<LockAt>,
-    bytes: &[u8],
+    new: &Replacement,
 ) -> io::Result<File> {
-    if let Some(old) = old {
+    if let Some(old) = old_file(rt, alloc, new)? {
         if !old.is_file() {
             return Err(ErrorKind::Unsupported.into());
         }
         fchown(&*file, Some(old.uid()), Some(old.gid()))?;
         file.set_permissions(old.permissions())?;
     }
-    file.write_all(bytes)?;
+    file.write_all(new.bytes)?;
     file.sync_all()?;
     let directory = File::open(rt, directory_of(path))?;
-    if let Some(lock) = lock {
+    if let Some(lock) = new.lock {
         if !lock.still_holds(rt) {
             return Err(ErrorKind::Other.into());
         }

@@ -1,8 +1,9 @@
-ghost use Rattle.std.specs.Prelude.{IsTrue, ◌≡◌, ◌≢◌, ◌≤◌, ◌↔◌, [], Some, false, true, length, IfOk, OnOk, Err, List, ℕ};
+ghost use Rattle.std.specs.Prelude.{◌≡◌, ◌≢◌, ◌≤◌, ◌↔◌, [], Some, false, true, length, IfOk, Err};
 ghost use Rattle.std.specs.Str.{IsUtf8};
-ghost use Rattle.pam_outside.specs.Counts.{Rose, next_count};
-ghost use Rattle.pam_outside.specs.Files.{ReadsFile, TellsDirectory, Replaces, TakesLock, counted, file_at, no_locks, unlocked};
+ghost use Rattle.pam_outside.specs.Counts.{next_count};
+ghost use Rattle.pam_outside.specs.Files.{no_locks};
 
+use crate::beside::Replacement;
 use crate::held_file::{HeldFile, open_file, put_held};
 use crate::limited::{CHUNK, read_of_size, read_to_limit};
 use crate::lock::LockAt;
@@ -94,21 +95,7 @@ impl Vault for FolderVault {
     /// stayed open are closed, and it is tried again.
     fn read(&mut self, alloc: Global, path: &[u8], limit: u32) -> Result<Text, VaultFault>
         ensures bound { IfOk result (λ text. length text ≤ limit) }
-        ensures tells { ⟦<FolderVault as Vault>⟧.vault_tells self.new ≡
-            ⟦<FolderVault as Vault>⟧.vault_tells self.old }
-        ensures told { IsTrue (⟦<FolderVault as Vault>⟧.vault_tells self.old) →
-            ReadsFile result path.now limit (⟦<FolderVault as Vault>⟧.vault_holds self.old) }
-        ensures counts { IsTrue (⟦<FolderVault as Vault>⟧.vault_tells self.old) →
-            ⟦<FolderVault as Vault>⟧.vault_holds self.new ≡ counted
-            (⟦<FolderVault as Vault>⟧.vault_holds self.old) }
-        ensures faults { ⟦<FolderVault as Vault>⟧.vault_faults self.old ≤
-            ⟦<FolderVault as Vault>⟧.vault_faults self.new }
-        ensures failed { result ≡ Err VaultFault.Failed →
-            Rose (⟦<FolderVault as Vault>⟧.vault_faults self.old)
-            (⟦<FolderVault as Vault>⟧.vault_faults self.new) }
-        ensures no_fault { result ≢ Err VaultFault.Failed →
-            ⟦<FolderVault as Vault>⟧.vault_faults self.new ≡
-            ⟦<FolderVault as Vault>⟧.vault_faults self.old }
+        ensures faults { self.old.faults ≤ self.new.faults }
         ensures fault { result ≡ Err VaultFault.Failed →
             self.new ≡ record self.old { faults = next_count self.old.faults } }
         ensures stays { result ≢ Err VaultFault.Failed → self.new ≡ self.old }
@@ -124,21 +111,7 @@ impl Vault for FolderVault {
     /// Whether the path is a directory, even an empty one; not if there is a file or nothing. Any other error of the
     /// system is Failed.
     fn folder(&mut self, alloc: Global, path: &[u8]) -> Result<bool, ReplaceFault>
-        ensures tells { ⟦<FolderVault as Vault>⟧.vault_tells self.new ≡
-            ⟦<FolderVault as Vault>⟧.vault_tells self.old }
-        ensures told { IsTrue (⟦<FolderVault as Vault>⟧.vault_tells self.old) →
-            TellsDirectory result path.now (⟦<FolderVault as Vault>⟧.vault_holds self.old) }
-        ensures counts { IsTrue (⟦<FolderVault as Vault>⟧.vault_tells self.old) →
-            ⟦<FolderVault as Vault>⟧.vault_holds self.new ≡ counted
-            (⟦<FolderVault as Vault>⟧.vault_holds self.old) }
-        ensures faults { ⟦<FolderVault as Vault>⟧.vault_faults self.old ≤
-            ⟦<FolderVault as Vault>⟧.vault_faults self.new }
-        ensures failed { result ≡ Err ReplaceFault.Failed →
-            Rose (⟦<FolderVault as Vault>⟧.vault_faults self.old)
-            (⟦<FolderVault as Vault>⟧.vault_faults self.new) }
-        ensures no_fault { result ≢ Err ReplaceFault.Failed →
-            ⟦<FolderVault as Vault>⟧.vault_faults self.new ≡
-            ⟦<FolderVault as Vault>⟧.vault_faults self.old }
+        ensures faults { self.old.faults ≤ self.new.faults }
         ensures fault { result ≡ Err ReplaceFault.Failed →
             self.new ≡ record self.old { faults = next_count self.old.faults } }
         ensures stays { result ≢ Err ReplaceFault.Failed → self.new ≡ self.old }
@@ -160,27 +133,7 @@ impl Vault for FolderVault {
     /// the rename and its directory after it; if only the last sync fails, Failed is returned
     /// although the new file is there.
     fn replace(&mut self, alloc: Global, path: &[u8], bytes: &[u8]) -> Result<(), ReplaceFault>
-        ensures tells { ⟦<FolderVault as Vault>⟧.vault_tells self.new ≡
-            ⟦<FolderVault as Vault>⟧.vault_tells self.old }
-        ensures told { IsTrue (⟦<FolderVault as Vault>⟧.vault_tells self.old) →
-            Replaces result path.now bytes.now (⟦<FolderVault as Vault>⟧.vault_holds self.old)
-            (⟦<FolderVault as Vault>⟧.vault_holds self.new) }
-        ensures found { IsTrue (⟦<FolderVault as Vault>⟧.vault_tells self.old) →
-            OnOk result
-            (file_at path.now
-            (⟦<FolderVault as Vault>⟧.vault_holds self.new).files ≡ Some bytes.now) }
-        ensures others { IsTrue (⟦<FolderVault as Vault>⟧.vault_tells self.old) →
-            (other : List ℕ) → other ≢ path.now →
-            file_at other (⟦<FolderVault as Vault>⟧.vault_holds self.new).files ≡ file_at other
-            (⟦<FolderVault as Vault>⟧.vault_holds self.old).files }
-        ensures faults { ⟦<FolderVault as Vault>⟧.vault_faults self.old ≤
-            ⟦<FolderVault as Vault>⟧.vault_faults self.new }
-        ensures failed { result ≡ Err ReplaceFault.Failed →
-            Rose (⟦<FolderVault as Vault>⟧.vault_faults self.old)
-            (⟦<FolderVault as Vault>⟧.vault_faults self.new) }
-        ensures no_fault { result ≢ Err ReplaceFault.Failed →
-            ⟦<FolderVault as Vault>⟧.vault_faults self.new ≡
-            ⟦<FolderVault as Vault>⟧.vault_faults self.old }
+        ensures faults { self.old.faults ≤ self.new.faults }
         ensures fault { result ≡ Err ReplaceFault.Failed →
             self.new ≡ record self.old { faults = next_count self.old.faults } }
         ensures stays { result ≢ Err ReplaceFault.Failed → self.new ≡ self.old }
@@ -198,19 +151,7 @@ impl Vault for FolderVault {
     /// UTF-8, what isn't a file, and any other error are Failed.
     fn hold(&mut self, alloc: Global, path: &[u8], kind: LockKind) -> Result<Held, ReplaceFault>
         ensures held { IfOk result (λ held. held ≡ true) }
-        ensures tells { ⟦<FolderVault as Vault>⟧.vault_tells self.new ≡
-            ⟦<FolderVault as Vault>⟧.vault_tells self.old }
-        ensures told { IsTrue (⟦<FolderVault as Vault>⟧.vault_tells self.old) →
-            TakesLock result path.now kind (⟦<FolderVault as Vault>⟧.vault_holds self.old)
-            (⟦<FolderVault as Vault>⟧.vault_holds self.new) }
-        ensures faults { ⟦<FolderVault as Vault>⟧.vault_faults self.old ≤
-            ⟦<FolderVault as Vault>⟧.vault_faults self.new }
-        ensures failed { result ≡ Err ReplaceFault.Failed → Rose
-            (⟦<FolderVault as Vault>⟧.vault_faults self.old)
-            (⟦<FolderVault as Vault>⟧.vault_faults self.new) }
-        ensures no_fault { result ≢ Err ReplaceFault.Failed →
-            ⟦<FolderVault as Vault>⟧.vault_faults self.new ≡
-            ⟦<FolderVault as Vault>⟧.vault_faults self.old }
+        ensures faults { self.old.faults ≤ self.new.faults }
         ensures fault { result ≡ Err ReplaceFault.Failed →
             self.new ≡ record self.old { faults = next_count self.old.faults } }
         ensures stays { result ≢ Err ReplaceFault.Failed → self.new ≡ self.old }
@@ -225,13 +166,6 @@ impl Vault for FolderVault {
 
     /// Closes the file that is locked. A record lock that isn't let go here ends with the next `hold`, and with the store.
     fn let_go(&mut self, _held: Held)
-        ensures tells { ⟦<FolderVault as Vault>⟧.vault_tells self.new ≡
-            ⟦<FolderVault as Vault>⟧.vault_tells self.old }
-        ensures told { IsTrue (⟦<FolderVault as Vault>⟧.vault_tells self.old) →
-            ⟦<FolderVault as Vault>⟧.vault_holds self.new ≡
-            unlocked _held (⟦<FolderVault as Vault>⟧.vault_holds self.old) }
-        ensures faults { ⟦<FolderVault as Vault>⟧.vault_faults self.new ≡
-            ⟦<FolderVault as Vault>⟧.vault_faults self.old }
         ensures stays { self.new ≡ self.old }
     {
         self.lock = None;
@@ -276,11 +210,16 @@ impl FolderVault {
         if bytes.len() > MAX_FILE as usize {
             return Err(ReplaceFault::Failed);
         }
-        let root = self.root.bytes();
-        let done = match replace_in(&self.rt, alloc, root, name, &self.lock, bytes) {
+        let new = Replacement {
+            root: self.root.bytes(),
+            name,
+            lock: &self.lock,
+            bytes,
+        };
+        let done = match replace_in(&self.rt, alloc, &new) {
             Err(error) if is_full(&error) && !self.held.is_empty() => {
                 self.held.clear();
-                replace_in(&self.rt, alloc, root, name, &self.lock, bytes)
+                replace_in(&self.rt, alloc, &new)
             }
             done => done,
         };
@@ -338,9 +277,7 @@ fn note_read(
     found: Option<&Metadata>,
 ) -> Result<(), VaultFault> {
     match lock {
-        Some(lock) => lock
-            .note_read(alloc, path, found)
-            .map_err(|_| VaultFault::NoMemory),
+        Some(lock) => Ok(lock.note_read(alloc, path, found)?),
         None => Ok(()),
     }
 }

@@ -1,5 +1,6 @@
+use crate::lock::FileStamp;
 use crate::system::{is_full, is_same, look_in};
-use pam_base::{NoMemory, Text};
+use pam_base::Text;
 use std::alloc::Global;
 use std::fs::{self, File, Metadata};
 use std::io::{self, ErrorKind};
@@ -62,26 +63,18 @@ pub(crate) fn open_file(
 }
 
 fn opened(alloc: Global, name: &str, then: Metadata, file: File) -> io::Result<HeldFile> {
-    match Text::from_bytes(alloc, name.as_bytes()) {
-        Ok(path) => Ok(HeldFile { path, then, file }),
-        Err(NoMemory) => Err(ErrorKind::OutOfMemory.into()),
-    }
+    let path = Text::from_bytes(alloc, name.as_bytes()).map_err(|_| ErrorKind::OutOfMemory)?;
+    Ok(HeldFile { path, then, file })
 }
 
 /// Takes out the file that was opened by this path, if the path still names it, with the same permissions; else it is
-/// closed. Writing a file, and changing its owner or mode, changes its ctime.
+/// closed.
 fn take_held(held: &mut Vec<HeldFile>, path: &[u8], found: &Option<Metadata>) -> Option<HeldFile> {
     for i in 0..held.len() {
         if held[i].path.bytes() == path {
             let taken = held.swap_remove(i);
-            let then = &taken.then;
             let is_same = match found {
-                Some(now) => {
-                    then.dev() == now.dev()
-                        && then.ino() == now.ino()
-                        && then.ctime() == now.ctime()
-                        && then.ctime_nsec() == now.ctime_nsec()
-                }
+                Some(now) => FileStamp::of(&taken.then).is(now),
                 None => false,
             };
             return is_same.then_some(taken);

@@ -36,21 +36,21 @@ pub(crate) struct Taken {
 #[derive(Drop)]
 struct ReadFile {
     path: Text,
-    found: Option<Seen>,
+    found: Option<FileStamp>,
 }
 
-// A file as it was seen. Writing it, and changing its owner or mode, changes its ctime.
+/// A file as it was when it was looked at. Writing it, and changing its owner or mode, changes its ctime.
 #[derive(Clone, Copy)]
-struct Seen {
+pub(crate) struct FileStamp {
     device: u64,
     inode: u64,
     changed: i64,
     nanoseconds: i64,
 }
 
-impl Seen {
-    fn of(found: &Metadata) -> Seen {
-        Seen {
+impl FileStamp {
+    pub(crate) fn of(found: &Metadata) -> FileStamp {
+        FileStamp {
             device: found.dev(),
             inode: found.ino(),
             changed: found.ctime(),
@@ -58,7 +58,8 @@ impl Seen {
         }
     }
 
-    fn is(&self, now: &Metadata) -> bool {
+    /// Whether it is still as it was.
+    pub(crate) fn is(&self, now: &Metadata) -> bool {
         self.device == now.dev()
             && self.inode == now.ino()
             && self.changed == now.ctime()
@@ -87,7 +88,7 @@ impl LockAt {
     ) -> Result<(), NoMemory> {
         let path = Text::from_bytes(alloc, path)?;
         let found = match found {
-            Some(found) => Some(Seen::of(found)),
+            Some(found) => Some(FileStamp::of(found)),
             None => None,
         };
         self.read = Some(ReadFile { path, found });
@@ -125,10 +126,8 @@ const LONGEST: u64 = 5;
 /// its directory doesn't exist, None is returned. What isn't a regular file, and a directory that
 /// disappears later, are errors.
 pub(crate) fn locked(rt: &HostRuntime, path: &str, kind: LockKind) -> io::Result<Option<Taken>> {
-    let mut file = match open_or_create(rt, path) {
-        Ok(file) => file,
-        Err(error) if error.kind() == ErrorKind::NotFound => return Ok(None),
-        Err(error) => return Err(error),
+    let Some(mut file) = if_present(open_or_create(rt, path))? else {
+        return Ok(None);
     };
     let mut pause = 1u64;
     for _ in 0..TRIES {
@@ -230,31 +229,26 @@ fn open_or_create(rt: &HostRuntime, path: &str) -> io::Result<Option<File>> {
 }
 
 fn open_present(rt: &HostRuntime, path: &str) -> io::Result<Option<File>> {
-    match symlink_metadata(rt, path) {
-        Ok(found) if found.is_file() => {}
-        Ok(_) => return Err(ErrorKind::Unsupported.into()),
-        Err(error) => return none_if_absent(error),
-    }
-    match OpenOptions::new().read(true).write(true).open(rt, path) {
-        Ok(file) => Ok(Some(file)),
-        Err(error) => none_if_absent(error),
+    match if_present(symlink_metadata(rt, path))? {
+        Some(found) if found.is_file() => {
+            if_present(OpenOptions::new().read(true).write(true).open(rt, path))
+        }
+        Some(_) => Err(ErrorKind::Unsupported.into()),
+        None => Ok(None),
     }
 }
 
-fn none_if_absent(error: io::Error) -> io::Result<Option<File>> {
-    if error.kind() == ErrorKind::NotFound {
-        Ok(None)
-    } else {
-        Err(error)
+/// None if there is no such file or directory.
+pub(crate) fn if_present<T: Drop>(found: io::Result<T>) -> io::Result<Option<T>> {
+    match found {
+        Err(error) if error.kind() == ErrorKind::NotFound => Ok(None),
+        other => Ok(Some(other?)),
     }
 }
 
 // Whether the path still names the file that is open.
 fn is_still_at(rt: &HostRuntime, file: &File, path: &str) -> io::Result<bool> {
-    match is_at(rt, file, path) {
-        Err(error) if error.kind() == ErrorKind::NotFound => Ok(false),
-        other => other,
-    }
+    Ok(if_present(is_at(rt, file, path))?.unwrap_or(false))
 }
 
 /// Whether the path names the file that is open, by device and inode. An error of the system is returned.

@@ -1,7 +1,6 @@
-ghost use Rattle.std.specs.Prelude.{◌≡◌, ◌≤◌, ◌<◌, [], false, length, IsTrue, IfOk, OnOk, OnErr};
+ghost use Rattle.std.specs.Prelude.{◌≡◌, ◌≤◌, ◌<◌, [], false, length, IfOk, OnOk, OnErr};
 ghost use Rattle.std.specs.Io.KnownBytes.{ReadConsumes};
 ghost use Rattle.pam_outside.specs.Counts.{Rose, next_count};
-ghost use Rattle.pam_outside.specs.Streams.{Reads};
 
 use crate::counted::Counted;
 use pam_base::Failed;
@@ -24,19 +23,9 @@ impl<R: Read + Drop> Source for Counted<R> {
     fn read(&mut self, into: &mut [u8]) -> Result<usize, Failed>
         requires { 0 < length into.old }
         ensures bound { IfOk result (λ n. n ≤ length into.new) }
-        ensures tells { ⟦<Counted<R> as Source>⟧.source_tells self.new ≡
-            ⟦<Counted<R> as Source>⟧.source_tells self.old }
-        ensures told { IsTrue (⟦<Counted<R> as Source>⟧.source_tells self.old) →
-            Reads result into.new (⟦<Counted<R> as Source>⟧.source_holds self.old)
-            (⟦<Counted<R> as Source>⟧.source_holds self.new) }
-        ensures faults { ⟦<Counted<R> as Source>⟧.source_faults self.old ≤
-            ⟦<Counted<R> as Source>⟧.source_faults self.new }
-        ensures failed { OnErr result
-            (Rose (⟦<Counted<R> as Source>⟧.source_faults self.old)
-            (⟦<Counted<R> as Source>⟧.source_faults self.new)) }
-        ensures no_fault { OnOk result
-            (⟦<Counted<R> as Source>⟧.source_faults self.new ≡
-            ⟦<Counted<R> as Source>⟧.source_faults self.old) }
+        ensures faults { self.old.faults ≤ self.new.faults }
+        ensures failed { OnErr result (Rose self.old.faults self.new.faults) }
+        ensures no_fault { OnOk result (self.new.faults ≡ self.old.faults) }
         ensures given { ReadConsumes (R.remaining self.old.inner)
             (R.remaining self.new.inner) result into.new }
         ensures fault { OnErr result (self.new.faults ≡ next_count self.old.faults) }

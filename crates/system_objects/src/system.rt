@@ -1,6 +1,6 @@
 use crate::below::{Place, place_below};
-use crate::beside::replace_beside;
-use crate::lock::{LockAt, is_one, locked};
+use crate::beside::{Replacement, replace_beside};
+use crate::lock::{LockAt, if_present, is_one, locked};
 use pam_outside::LockKind;
 use std::alloc::Global;
 use std::fs::{File, Metadata, metadata};
@@ -16,7 +16,7 @@ pub(crate) fn look_in(
     if root.is_empty() {
         return Ok(Place {
             path: String::from_str(alloc, path)?,
-            found: found_at(rt, path)?,
+            found: if_present(metadata(rt, path))?,
         });
     }
     place_below(rt, alloc, root_text(root)?, path, true)
@@ -24,19 +24,12 @@ pub(crate) fn look_in(
 
 /// Replaces a file. A link at the end is replaced itself, by a file with the owner and the mode of the one that it leads
 /// to.
-pub(crate) fn replace_in(
-    rt: &HostRuntime,
-    alloc: Global,
-    root: &[u8],
-    path: &str,
-    lock: &Option<LockAt>,
-    bytes: &[u8],
-) -> io::Result<()> {
-    if root.is_empty() {
-        return replace_beside(rt, alloc, path, root, path, lock, bytes);
+pub(crate) fn replace_in(rt: &HostRuntime, alloc: Global, new: &Replacement) -> io::Result<()> {
+    if new.root.is_empty() {
+        return replace_beside(rt, alloc, new.name, new);
     }
-    let place = place_below(rt, alloc, root_text(root)?, path, false)?;
-    replace_beside(rt, alloc, place.path.as_str(), root, path, lock, bytes)
+    let place = place_below(rt, alloc, root_text(new.root)?, new.name, false)?;
+    replace_beside(rt, alloc, place.path.as_str(), new)
 }
 
 /// The file that a path leads to, if there is one.
@@ -46,10 +39,9 @@ pub(crate) fn leads_to(
     root: &[u8],
     path: &str,
 ) -> io::Result<Option<Metadata>> {
-    match look_in(rt, alloc, root, path) {
-        Ok(place) => Ok(place.found),
-        Err(error) if error.kind() == ErrorKind::NotFound => Ok(None),
-        Err(error) => Err(error),
+    match if_present(look_in(rt, alloc, root, path))? {
+        Some(place) => Ok(place.found),
+        None => Ok(None),
     }
 }
 
@@ -64,10 +56,9 @@ pub(crate) fn hold_in(
     let path = if root.is_empty() {
         String::from_str(alloc, path)?
     } else {
-        match place_below(rt, alloc, root_text(root)?, path, false) {
-            Ok(place) => place.path,
-            Err(error) if error.kind() == ErrorKind::NotFound => return Ok(None),
-            Err(error) => return Err(error),
+        match if_present(place_below(rt, alloc, root_text(root)?, path, false))? {
+            Some(place) => place.path,
+            None => return Ok(None),
         }
     };
     match locked(rt, path.as_str(), kind)? {
@@ -88,14 +79,6 @@ const EMFILE: i32 = 24;
 /// Whether an open file is the one that was found.
 pub(crate) fn is_same(found: &Metadata, open: &Metadata) -> bool {
     open.is_file() && is_one(found, open)
-}
-
-fn found_at(rt: &HostRuntime, path: &str) -> io::Result<Option<Metadata>> {
-    match metadata(rt, path) {
-        Ok(found) => Ok(Some(found)),
-        Err(error) if error.kind() == ErrorKind::NotFound => Ok(None),
-        Err(error) => Err(error),
-    }
 }
 
 fn root_text(root: &[u8]) -> io::Result<&str> {

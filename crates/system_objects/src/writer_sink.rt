@@ -1,7 +1,6 @@
-ghost use Rattle.std.specs.Prelude.{◌≡◌, ◌==◌, ◌≤◌, ◌<◌, [], false, if◌then◌else◌, length, IsTrue, IfOk, OnErr, Ok};
+ghost use Rattle.std.specs.Prelude.{◌≡◌, ◌==◌, ◌≤◌, ◌<◌, [], false, if◌then◌else◌, length, IfOk, OnErr, Ok};
 ghost use Rattle.std.specs.Io.KnownBytes.{WriteAppends};
 ghost use Rattle.pam_outside.specs.Counts.{Rose, next_count};
-ghost use Rattle.pam_outside.specs.Streams.{Writes};
 
 use crate::counted::Counted;
 use pam_base::Failed;
@@ -24,22 +23,10 @@ impl<W: Write + Drop> Sink for Counted<W> {
     fn write(&mut self, piece: &[u8]) -> Result<usize, Failed>
         requires { 0 < length piece.now }
         ensures bound { IfOk result (λ n. n ≤ length piece.now) }
-        ensures tells { ⟦<Counted<W> as Sink>⟧.sink_tells self.new ≡
-            ⟦<Counted<W> as Sink>⟧.sink_tells self.old }
-        ensures told { IsTrue (⟦<Counted<W> as Sink>⟧.sink_tells self.old) →
-            Writes result piece.now (⟦<Counted<W> as Sink>⟧.sink_holds self.old)
-            (⟦<Counted<W> as Sink>⟧.sink_holds self.new) }
-        ensures faults { ⟦<Counted<W> as Sink>⟧.sink_faults self.old ≤
-            ⟦<Counted<W> as Sink>⟧.sink_faults self.new }
-        ensures failed { OnErr result
-            (Rose (⟦<Counted<W> as Sink>⟧.sink_faults self.old)
-            (⟦<Counted<W> as Sink>⟧.sink_faults self.new)) }
-        ensures nothing { result ≡ Ok 0 →
-            Rose (⟦<Counted<W> as Sink>⟧.sink_faults self.old)
-            (⟦<Counted<W> as Sink>⟧.sink_faults self.new) }
-        ensures no_fault { IfOk result (λ n. 0 < n →
-            ⟦<Counted<W> as Sink>⟧.sink_faults self.new ≡
-            ⟦<Counted<W> as Sink>⟧.sink_faults self.old) }
+        ensures faults { self.old.faults ≤ self.new.faults }
+        ensures failed { OnErr result (Rose self.old.faults self.new.faults) }
+        ensures nothing { result ≡ Ok 0 → Rose self.old.faults self.new.faults }
+        ensures no_fault { IfOk result (λ n. 0 < n → self.new.faults ≡ self.old.faults) }
         ensures given { WriteAppends (W.contents self.old.inner)
             (W.contents self.new.inner) result piece.now }
         ensures counted { IfOk result

@@ -20,7 +20,7 @@ returns-in-Err-clause-cleaned_up g c = nothing_to_clean _ _ _ c.requires.no_birt
 pub returns-in-Ok-clause-generate : goal.returns-in-Ok-clause-generate
 returns-in-Ok-clause-generate g c = record {
   generated = λ number given sink both.
-      generated _ _ _ _ _ _ _ _ _ number _ _ c.generate-generated.result _ c.in-Ok.ensures.players c.in-Ok.ensures.slots
+      generated _ _ _ _ _ _ _ number _ _ c.generate-generated.result _ c.in-Ok.ensures.players c.in-Ok.ensures.slots
       (ap exit_status c.generate_exit.ensures)
       (c.generate-generated.ensures.told number (c.in-Ok.ensures.delay number given)
       (both_true _ _ (c.in-Ok.ensures.tells (both_right _ _ both)) (both_left _ _ both)) sink);

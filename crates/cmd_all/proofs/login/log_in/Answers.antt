@@ -16,20 +16,16 @@ returns-in-Err-clause-cleaned_up g c = nothing_since _ _ _ _ c.in-Err.ensures.st
 
 pub returns-in-Ok-clause-login : goal.returns-in-Ok-clause-login
 returns-in-Ok-clause-login g c =
-    logs_in_so _ _ _ _ _ _ _ _ _ _ c.login-verdict.result c.in-Ok.ensures.opened c.with_terminal-desk.ensures.players c.with_terminal-desk.ensures.slots
-    (λ both. both_right _ _ (c.with_terminal-desk.ensures.tells ∙ both))
+    logs_in_so _ _ _ _ _ _ _ _ _ _ c.login-verdict.result c.in-Ok.ensures.opened c.with_terminal-desk.ensures.setup.players
+    c.with_terminal-desk.ensures.setup.slots (λ both. both_right _ _ (c.with_terminal-desk.ensures.setup.tells ∙ both))
     (λ number given. rw c.with_terminal-desk.ensures.delay given) c.library_under.ensures.tells (ap exit_status c.login_exit.ensures)
-    (λ both number gives all sink. c.login-verdict.ensures.told (both_left _ _ (c.with_terminal-desk.ensures.tells ∙ both)) number gives all sink)
-    (λ sink. record {
-      result = c.login-verdict.result;
-      is = ap exit_status c.login_exit.ensures;
-      shows = c.login-verdict.ensures.shows sink;
-      reports = c.login-verdict.ensures.reports sink;
-    })
+    _ c.with_terminal-desk.ensures.setup.moments
+    (λ both number gives all sink. c.login-verdict.ensures.told (both_left _ _ (c.with_terminal-desk.ensures.setup.tells ∙ both)) number gives all sink)
+    (λ sink. c.login-verdict.ensures.reports sink)
 
 pub returns-in-Ok-clause-cleaned_up : goal.returns-in-Ok-clause-cleaned_up
 returns-in-Ok-clause-cleaned_up g c =
-    rw c.with_terminal-desk.ensures.players at
+    rw c.with_terminal-desk.ensures.setup.players at
     (cleaned_at _ _ (ends_login c.login-verdict.result _ (ap exit_status c.login_exit.ensures)) _ _ _ _ _ _ (c.proceeding_adds_events.ensures _)
     c.in-Ok.ensures.opened refl refl refl
     c.login-verdict.ensures.went c.login-verdict.ensures.none_open)

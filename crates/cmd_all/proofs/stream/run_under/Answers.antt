@@ -22,7 +22,7 @@ returns-in-Err-clause-under g c = record {
 pub returns-in-Ok-clause-under : goal.returns-in-Ok-clause-under
 returns-in-Ok-clause-under g c = record {
   told = λ number given source sink both. inl
-      (begun _ _ _ _ _ _ _ _ _ _ _ _ number _ c.in-Ok.ensures.opened (c.reset_clock.ensures.told (c.library_under.ensures.tells ∙ both_left _ _ both))
+      (begun _ _ _ _ _ _ _ _ _ _ _ _ _ number refl refl c.in-Ok.ensures.opened (c.reset_clock.ensures.told (c.library_under.ensures.tells ∙ both_left _ _ both))
       (c.run_stream-result.ensures.ran.told (both_left _ _ (both_right _ _ both)) number (c.in-Ok.ensures.opened.gives number given)
       (both_true _ _ (c.in-Ok.ensures.opened.tells (both_right _ _ (both_right _ _ both)))
       (c.reset_clock.ensures.tells ∙ c.library_under.ensures.tells ∙ both_left _ _ both)) source sink));

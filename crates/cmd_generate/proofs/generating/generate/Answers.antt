@@ -21,3 +21,21 @@ returns-in-Ok-write_all-clause-writes g c = λ sink. writes_front _ _ _ _ (c.in-
 
 pub returns-clause-writes : goal.returns-clause-writes
 returns-clause-writes g c = λ sink. writes_front _ _ _ _ (c.in-Err-write_all.ensures.told sink)
+
+pub returns-in-Err-clause-none_open : goal.returns-in-Err-clause-none_open
+returns-in-Err-clause-none_open g c = c.find.ensures.none_open
+
+pub returns-in-Ok-write_all-clause-none_open : goal.returns-in-Ok-write_all-clause-none_open
+returns-in-Ok-write_all-clause-none_open g c = c.find.ensures.none_open
+
+pub returns-clause-none_open : goal.returns-clause-none_open
+returns-clause-none_open g c = c.find.ensures.none_open
+
+pub returns-in-Err-clause-went : goal.returns-in-Err-clause-went
+returns-in-Err-clause-went g c = c.in-Err.ensures.went
+
+pub returns-in-Ok-write_all-clause-went : goal.returns-in-Ok-write_all-clause-went
+returns-in-Ok-write_all-clause-went g c = c.in-Ok.ensures.went
+
+pub returns-clause-went : goal.returns-clause-went
+returns-clause-went g c = c.in-Ok.ensures.went

@@ -1,37 +1,20 @@
-use Rattle.std.proofs.Common.{[], refl}
-use Rattle.cmd_login.proofs.WholeLoginFacts.{denial_cut, denial_unwritten, denial_written}
-use Rattle.cmd_login.proofs.LoginOutputFacts.{shows_front, shows_none, shows_whole}
-use Rattle.cmd_login.proofs.LoginReportFacts.{reports_front, reports_none, reports_whole}
+use Rattle.std.proofs.Common.{◌≡◌, Err, refl, rules}
+use Rattle.record_reader.specs.declared.ending.Stop.TheVariants.{NoMemory, WriteFault}
+use Rattle.cmd_login.proofs.LoginCallFacts.{denial_cut, denial_unwritten, denial_written}
 use Rattle.cmd_login.proofs.attempt.deny.Goals as goal
 
-pub returns-in-Err-clause-told : goal.returns-in-Err-clause-told
-returns-in-Err-clause-told g c = λ sink. denial_unwritten _ _
+pub returns-in_err-line-clause-writes : goal.returns-in_err-line-clause-writes
+returns-in_err-line-clause-writes g c = λ s sink.
+    let failed : c.from_residual.result ≡ Err NoMemory = search rules in
+    rw failed (denial_unwritten _ _ s _)
 
-pub returns-in-Ok-write_all-clause-told : goal.returns-in-Ok-write_all-clause-told
-returns-in-Ok-write_all-clause-told g c = λ sink. denial_written _ c.in-Ok-write_all.field-0 _ _ _ c.in-Ok.ensures
-    (rw c.as_bytes.ensures.value at (c.in-Ok-write_all.ensures.told sink))
+pub returns-in_err-write_all-clause-writes : goal.returns-in_err-write_all-clause-writes
+returns-in_err-write_all-clause-writes g c = λ s sink.
+    let failed : c.from_residual-in_err-write_all.result ≡ Err WriteFault = search rules in
+    rw failed (denial_cut _ _ s _ c.in_ok-line.ensures _ _ c.in_err-write_all.field-0.0
+    (rw c.as_bytes.ensures.value at (c.in_err-write_all.ensures.told sink)))
 
-pub returns-clause-told : goal.returns-clause-told
-returns-clause-told g c = λ sink. denial_cut _ c.in-Err-write_all.field-0 _ _ _ c.in-Ok.ensures
-    (rw c.as_bytes.ensures.value at (c.in-Err-write_all.ensures.told sink))
-
-pub returns-in-Err-clause-shows : goal.returns-in-Err-clause-shows
-returns-in-Err-clause-shows g c = λ sink. shows_none _ _ _
-
-pub returns-in-Ok-write_all-clause-shows : goal.returns-in-Ok-write_all-clause-shows
-returns-in-Ok-write_all-clause-shows g c = λ sink. shows_whole _ _ c.in-Ok-write_all.field-0 _ _ _
-    (rw c.as_bytes.ensures.value at (c.in-Ok-write_all.ensures.told sink)) ([], c.in-Ok.ensures)
-
-pub returns-clause-shows : goal.returns-clause-shows
-returns-clause-shows g c = λ sink. shows_front _ c.in-Err-write_all.field-0 _ _ _ (rw c.as_bytes.ensures.value at (c.in-Err-write_all.ensures.told sink))
-
-pub returns-in-Err-clause-reports : goal.returns-in-Err-clause-reports
-returns-in-Err-clause-reports g c = λ sink. reports_none _ _ _ _ _ (refl, refl)
-
-pub returns-in-Ok-write_all-clause-reports : goal.returns-in-Ok-write_all-clause-reports
-returns-in-Ok-write_all-clause-reports g c = λ sink.
-    reports_whole _ _ c.in-Ok-write_all.field-0 _ _ _ (rw c.as_bytes.ensures.value at (c.in-Ok-write_all.ensures.told sink)) (refl, c.in-Ok.ensures)
-
-pub returns-clause-reports : goal.returns-clause-reports
-returns-clause-reports g c = λ sink.
-    reports_front _ c.in-Err-write_all.field-0 _ _ _ _ (rw c.as_bytes.ensures.value at (c.in-Err-write_all.ensures.told sink)) (refl, c.in-Ok.ensures)
+pub returns-clause-writes : goal.returns-clause-writes
+returns-clause-writes g c = λ s sink.
+    denial_written _ _ s _ c.in_ok-line.ensures _ _ c.in_ok-write_all.field-0
+    (rw c.as_bytes.ensures.value at (c.in_ok-write_all.ensures.told sink))

@@ -1,4 +1,4 @@
-use Rattle.std.proofs.Common.{[], Some, None, Ok, Err, refl, ap, ◌∙◌}
+use Rattle.std.proofs.Common.{[], Some, None, Ok, Err, ap, ◌∙◌}
 use Rattle.cmd_run.proofs.ItemRequestFacts.{item_asks, item_asks_first, item_first, item_leads, rest_asks, rest_asks_first, rest_is}
 use Rattle.cmd_run.proofs.ServedItemFacts.{broken_off, none_served, one_served, refused_served}
 use Rattle.cmd_run.proofs.RunPartFacts.{went_nowhere, went_so}

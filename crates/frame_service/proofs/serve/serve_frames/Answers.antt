@@ -9,7 +9,7 @@ use Rattle.frame_service.proofs.serve.serve_frames.OwnLists.{at-6-10, at-6-11, a
 use Rattle.frame_service.proofs.serve.serve_frames.Goals as goal
 
 pub returns-31-clause-served : goal.returns-31-clause-served
-returns-31-clause-served g c = served_as _ _ _ _ _ _ _ _ _ shipped_players c.answer_frames.ensures.served c.returns_served_wait.ensures
+returns-31-clause-served g c = served_as _ _ _ _ _ _ _ _ _ _ shipped_players c.answer_frames.ensures.served c.returns_served_wait.ensures
     (rw (
       c.in_Continue-shipped_modules-shipped_modules-30.ensures.items,
       c.in_Continue-shipped_modules-shipped_modules-28.ensures.items,

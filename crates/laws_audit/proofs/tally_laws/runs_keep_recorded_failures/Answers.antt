@@ -1,4 +1,4 @@
-use Rattle.std.proofs.Common.{ℕ, List, subst, sym}
+use Rattle.std.proofs.Common.{List, subst, sym}
 use Rattle.pam_outside.specs.Files.{File}
 use Rattle.record_reader.specs.LineRun.{run_lines}
 use Rattle.cmd_run.specs.Step.{line_step}

@@ -19,6 +19,7 @@ pub returns-clause-told : goal.returns-clause-told
 unfolding checks_account
 returns-clause-told g c = λ talks tells clock ticks.
     let looked = λ (room : PlainRoom) (clock : ClockState). rw c.user_of.ensures at (c.in_ok-look.ensures.told tells room clock) in
-    then asks_user (λ user (act : Code → Act). looks user (λ look. account_by look act)) (Ok c.account_by-code.result) _ _ _ _ (c.in_ok-require_user.ensures.told talks _ _ (plain_process c.args.process.now))
-    (then (looks _) (λ look (act : Code → Act). account_by look act) (Ok c.account_by-code.result) c.in_ok-look.look _ _ _ (looked _ _)
-    (c.account_by-code.ensures.told clock ticks _ _ (plain_process c.args.process.now)))
+    then asks_user (λ user (act : Code → Act). looks user (λ look. account_by look act)) (Ok c.account_by.result) _ _ _ _
+    (c.in_ok-require_user.ensures.told talks _ _ (plain_process c.args.job.now.process.now))
+    (then (looks _) (λ look (act : Code → Act). account_by look act) (Ok c.account_by.result) c.in_ok-look.look _ _ _ (looked _ _)
+    (c.account_by.ensures.told clock ticks _ _ (plain_process c.args.job.now.process.now)))

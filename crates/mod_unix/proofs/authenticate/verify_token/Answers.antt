@@ -12,16 +12,21 @@ returns-in-None-clause-told g c = λ talks vault clock process.
 
 pub returns-then-not-has_argument-clause-told : goal.returns-then-not-has_argument-clause-told
 returns-then-not-has_argument-clause-told g c = λ talks vault clock process.
-    asks c.act_steps.ensures.seeing _ _ _ _ c.ask_password.result (c.ask_password.ensures.told talks vault clock process) c.if-has_argument.ensures c.if-not-has_argument.ensures
+    asks c.act_steps.ensures.seeing _ _ _ _ c.ask_password.result (c.ask_password.ensures.told talks vault clock process) c.if-has_argument.ensures
+    c.if-not-has_argument.ensures
 
 pub returns-in-None-get_item-clause-told : goal.returns-in-None-get_item-clause-told
 returns-in-None-get_item-clause-told g c = λ talks vault clock process.
-    tries_nothing c.act_steps.ensures.seeing _ _ _ _ c.ask_password-in-None-get_item.result (c.ask_password-in-None-get_item.ensures.told talks vault clock process) c.if-has_argument.ensures c.if-not-has_argument.ensures c.in-None-get_item.ensures
+    tries_nothing c.act_steps.ensures.seeing _ _ _ _ c.ask_password-in-None-get_item.result
+    (c.ask_password-in-None-get_item.ensures.told talks vault clock process) c.if-has_argument.ensures c.if-not-has_argument.ensures
+    c.in-None-get_item.ensures
 
 pub returns-then-is_success-clause-told : goal.returns-then-is_success-clause-told
 returns-then-is_success-clause-told g c = λ talks vault clock process.
-    tries_well c.act_steps.ensures.seeing _ _ _ _ _ _ c.if-has_argument.ensures c.if-not-has_argument.ensures c.in-Some-get_item.ensures c.verify-code.ensures c.if-is_success.ensures refl
+    tries_well c.act_steps.ensures.seeing _ _ _ _ _ _ c.if-has_argument.ensures c.if-not-has_argument.ensures c.in-Some-get_item.ensures c.verify-code.ensures
+    c.if-is_success.ensures refl
 
 pub returns-clause-told : goal.returns-clause-told
 returns-clause-told g c = λ talks vault clock process.
-    tries c.act_steps.ensures.seeing _ _ _ _ c.ask_password-2.result (c.ask_password-2.ensures.told talks vault clock process) c.if-has_argument.ensures _ _ c.if-not-has_argument.ensures c.in-Some-get_item.ensures c.verify-code.ensures c.if-is_success.ensures
+    tries c.act_steps.ensures.seeing _ _ _ _ c.ask_password-2.result (c.ask_password-2.ensures.told talks vault clock process) c.if-has_argument.ensures _ _
+    c.if-not-has_argument.ensures c.in-Some-get_item.ensures c.verify-code.ensures c.if-is_success.ensures

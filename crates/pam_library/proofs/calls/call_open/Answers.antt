@@ -14,7 +14,7 @@ pub returns-in-SetItem-clause-called : goal.returns-in-SetItem-clause-called
 returns-in-SetItem-clause-called g c = record {
   still_tells = c.set_item.ensures.tells;
   world_tells = refl;
-  goes = rw c.in-SetItem.is (inside_goes _ _ _ _ _ _ _ _ _ _ refl c.nothing_grows.ensures c.requires.told c.requires.ready.0 c.requires.ready.1.none_gone c.receipts_in-filed.ensures c.set_item.ensures.goes);
+  goes = rw c.in-SetItem.is (inside_goes _ _ _ _ _ _ _ _ _ _ _ refl c.nothing_grows.ensures c.requires.told c.requires.ready.0 c.requires.ready.1.none_gone c.receipts_in-filed.ensures c.set_item.ensures.goes);
   world = λ leaves. refl;
 }
 
@@ -22,7 +22,7 @@ pub returns-in-GetItem-clause-called : goal.returns-in-GetItem-clause-called
 returns-in-GetItem-clause-called g c = record {
   still_tells = refl;
   world_tells = refl;
-  goes = rw c.in-GetItem.is (inside_goes _ _ _ _ _ _ _ _ _ _ refl c.nothing_grows.ensures c.requires.told c.requires.ready.0 c.requires.ready.1.none_gone c.receipts_in-filed.ensures c.get_item.ensures);
+  goes = rw c.in-GetItem.is (inside_goes _ _ _ _ _ _ _ _ _ _ _ refl c.nothing_grows.ensures c.requires.told c.requires.ready.0 c.requires.ready.1.none_gone c.receipts_in-filed.ensures c.get_item.ensures);
   world = λ leaves. refl;
 }
 
@@ -30,7 +30,7 @@ pub returns-in-PutEnv-clause-called : goal.returns-in-PutEnv-clause-called
 returns-in-PutEnv-clause-called g c = record {
   still_tells = c.put_env.ensures.tells;
   world_tells = refl;
-  goes = rw c.in-PutEnv.is (inside_goes _ _ _ _ _ _ _ _ _ _ refl c.nothing_grows.ensures c.requires.told c.requires.ready.0 c.requires.ready.1.none_gone c.receipts_in-filed.ensures c.put_env.ensures.goes);
+  goes = rw c.in-PutEnv.is (inside_goes _ _ _ _ _ _ _ _ _ _ _ refl c.nothing_grows.ensures c.requires.told c.requires.ready.0 c.requires.ready.1.none_gone c.receipts_in-filed.ensures c.put_env.ensures.goes);
   world = λ leaves. refl;
 }
 
@@ -38,7 +38,7 @@ pub returns-in-GetEnv-clause-called : goal.returns-in-GetEnv-clause-called
 returns-in-GetEnv-clause-called g c = record {
   still_tells = refl;
   world_tells = refl;
-  goes = rw c.in-GetEnv.is (inside_goes _ _ _ _ _ _ _ _ _ _ refl c.nothing_grows.ensures c.requires.told c.requires.ready.0 c.requires.ready.1.none_gone c.receipts_in-filed.ensures c.get_env.ensures);
+  goes = rw c.in-GetEnv.is (inside_goes _ _ _ _ _ _ _ _ _ _ _ refl c.nothing_grows.ensures c.requires.told c.requires.ready.0 c.requires.ready.1.none_gone c.receipts_in-filed.ensures c.get_env.ensures);
   world = λ leaves. refl;
 }
 
@@ -46,7 +46,7 @@ pub returns-in-EnvList-clause-called : goal.returns-in-EnvList-clause-called
 returns-in-EnvList-clause-called g c = record {
   still_tells = refl;
   world_tells = refl;
-  goes = rw c.in-EnvList.is (inside_goes _ _ _ _ _ _ _ _ _ _ refl c.nothing_grows.ensures c.requires.told c.requires.ready.0 c.requires.ready.1.none_gone c.receipts_in-filed.ensures c.list_env.ensures);
+  goes = rw c.in-EnvList.is (inside_goes _ _ _ _ _ _ _ _ _ _ _ refl c.nothing_grows.ensures c.requires.told c.requires.ready.0 c.requires.ready.1.none_gone c.receipts_in-filed.ensures c.list_env.ensures);
   world = λ leaves. refl;
 }
 
@@ -54,7 +54,7 @@ pub returns-in-FailDelay-clause-called : goal.returns-in-FailDelay-clause-called
 returns-in-FailDelay-clause-called g c = record {
   still_tells = c.fail_delay.ensures.tells;
   world_tells = refl;
-  goes = rw c.in-FailDelay.is (inside_goes _ _ _ _ _ _ _ _ _ _ refl c.nothing_grows.ensures c.requires.told c.requires.ready.0 c.requires.ready.1.none_gone c.receipts_in-filed.ensures
+  goes = rw c.in-FailDelay.is (inside_goes _ _ _ _ _ _ _ _ _ _ _ refl c.nothing_grows.ensures c.requires.told c.requires.ready.0 c.requires.ready.1.none_gone c.receipts_in-filed.ensures
       (requests_delay _ _ _ _ c.code.result c.fail_delay.ensures.request (record { outcome_is = c.code.ensures.plain; answer_is = c.code.ensures.answer; filed_is = c.code.ensures.filed_from })));
   world = λ leaves. refl;
 }
@@ -63,7 +63,7 @@ pub returns-in-DelayFn-clause-called : goal.returns-in-DelayFn-clause-called
 returns-in-DelayFn-clause-called g c = record {
   still_tells = c.set_delay.ensures.tells;
   world_tells = refl;
-  goes = rw c.in-DelayFn.is (inside_goes _ _ _ _ _ _ _ _ _ _ refl c.nothing_grows.ensures c.requires.told c.requires.ready.0 c.requires.ready.1.none_gone c.receipts_in-filed.ensures
+  goes = rw c.in-DelayFn.is (inside_goes _ _ _ _ _ _ _ _ _ _ _ refl c.nothing_grows.ensures c.requires.told c.requires.ready.0 c.requires.ready.1.none_gone c.receipts_in-filed.ensures
       (switches_delay _ _ _ _ c.code-in-DelayFn.result c.set_delay.ensures.on (record { outcome_is = c.code-in-DelayFn.ensures.plain; answer_is = c.code-in-DelayFn.ensures.answer; filed_is = c.code-in-DelayFn.ensures.filed_from })));
   world = λ leaves. refl;
 }
@@ -89,36 +89,36 @@ returns-in-Reply-clause-no_nap g c = anyway c.offer_open.result refl
 -- ---- a stack call
 
 pub returns-in-Some-refusal-clause-called : goal.returns-in-Some-refusal-clause-called
-returns-in-Some-refusal-clause-called g c = rw c.in-Some.ensures.stack (record {
+returns-in-Some-refusal-clause-called g c = record {
   still_tells = refl;
   world_tells = refl;
-  goes = stack_refused _ _ _ _ c.in-Some.func c.in-Some.flags _ _ c.only.result c.in-Some-refusal.refused c.nothing_grows.ensures c.requires.told c.requires.ready.0 c.requires.ready.1.none_gone
+  goes = stack_refused _ _ _ _ _ c.args.call.now c.in-Some.func c.in-Some.flags (sym c.in-Some.ensures) _ _ c.only.result c.in-Some-refusal.refused c.nothing_grows.ensures c.requires.told c.requires.ready.0 c.requires.ready.1.none_gone
       (sym c.refusal.ensures ∙ c.in-Some-refusal.is)
       (only_of _ _ _ _ c.only.ensures.plain c.only.ensures.answer c.only.ensures.filed_from c.receipts_in-filed.ensures);
   world = λ leaves. refl;
-})
+}
 
 pub returns-in-Some-clause-called : goal.returns-in-Some-clause-called
-returns-in-Some-clause-called g c = rw c.in-Some.ensures.stack (record {
+returns-in-Some-clause-called g c = record {
   still_tells = search rules;
   world_tells = c.call.ensures.world_tells;
-  goes = stack_ran _ _ _ _ c.in-Some.func c.in-Some.flags _ _ c.telling.result c.in_ok-code.code _ _ _ c.requires.told c.requires.ready.0 (sym c.refusal.ensures ∙ c.in_default-refusal.is)
+  goes = stack_ran _ _ _ _ _ c.args.call.now c.in-Some.func c.in-Some.flags (sym c.in-Some.ensures) _ _ c.telling.result c.in_ok-code.code _ _ _ c.requires.told c.requires.ready.0 (sym c.refusal.ensures ∙ c.in_default-refusal.is)
       (λ number_of given all. c.in_ok-code.ensures.told number_of (delay_gives c.in-Some.func _ number_of given) all) c.call.ensures.sound c.take_told-told.ensures.emptied
       (told_of _ _ _ _ _ _ _ _ c.telling.ensures.plain c.telling.ensures.answer c.telling.ensures.filed_from c.receipts_in-filed.ensures c.take_told-told.ensures.said c.take_told-told.ensures.trail c.take_told-told.ensures.wait)
-      (ran_traced c.in-Some.func c.in-Some.flags _ (plain_handle (plain_room (λ b. (goal.Conv-dyn g (b.vtable, b.value)).conv_holds b.value)) c.call.new.self) (plain_outcome c.telling.result) c.in_ok-code.code _ c.requires.told c.take_told-told.ensures.emptied
+      (ran_traced c.in-Some.func c.in-Some.flags _ (plain_handle (plain_room (λ b. (goal.Conv-dyn g (b.vtable, b.value)).conv_holds b.value)) c.call.new.self) (plain_outcome c.telling.result) c.in_ok-code.code c.args.call.now (sym c.in-Some.ensures) _ c.requires.told c.take_told-told.ensures.emptied
       (ap (λ (o : PlainOutcome). o.trail) c.telling.ensures.plain ∙ c.take_told-told.ensures.trail) (ap (λ (o : PlainOutcome). o.answer) c.telling.ensures.plain)
       c.in_ok-code.ensures.left c.in_ok-code.ensures.by_trail);
-  world = λ leaves. absurd (world_not c.in-Some.func c.in-Some.flags (plain_handle (plain_room (λ b. (goal.Conv-dyn g (b.vtable, b.value)).conv_holds b.value)) c.args.handle.now) (sym c.refusal.ensures ∙ c.in_default-refusal.is) leaves);
-})
+  world = λ leaves. absurd (world_not c.args.call.now c.in-Some.func c.in-Some.flags (sym c.in-Some.ensures) (plain_handle (plain_room (λ b. (goal.Conv-dyn g (b.vtable, b.value)).conv_holds b.value)) c.args.handle.now) (sym c.refusal.ensures ∙ c.in_default-refusal.is) leaves);
+}
 
 pub returns-in_err-code-clause-called : goal.returns-in_err-code-clause-called
 returns-in_err-code-clause-called g c =
     let plain = plain_world (λ b. (goal.Vault-dyn g (b.vtable, b.value)).vault_holds b.value) (λ b. (goal.Clock-dyn g (b.vtable, b.value)).clock_holds b.value) (λ b. (goal.Nap-dyn g (b.vtable, b.value)).nap_holds b.value) in
     let answered : c.from_residual.result ≡ Err c.in_err-code.field-0.0 = search rules in
-    rw c.in-Some.ensures.stack (record {
+    record {
       still_tells = c.call.ensures.tells;
       world_tells = c.call.ensures.world_tells;
-      goes = rw answered (stack_failed _ _ _ _ c.in-Some.func c.in-Some.flags _ _ c.in_err-code.field-0.0 _ _ c.requires.told c.requires.ready.0 (sym c.refusal.ensures ∙ c.in_default-refusal.is)
+      goes = rw answered (stack_failed _ _ _ _ _ c.args.call.now c.in-Some.func c.in-Some.flags (sym c.in-Some.ensures) _ _ c.in_err-code.field-0.0 _ _ c.requires.told c.requires.ready.0 (sym c.refusal.ensures ∙ c.in_default-refusal.is)
           c.in_err-code.ensures.err (stops_plain c.in-Some.func c.in-Some.flags _ (λ kept. ap plain kept) c.in_err-code.ensures.stopped) c.call.ensures.sound);
-      world = λ leaves. absurd (world_not c.in-Some.func c.in-Some.flags (plain_handle (plain_room (λ b. (goal.Conv-dyn g (b.vtable, b.value)).conv_holds b.value)) c.args.handle.now) (sym c.refusal.ensures ∙ c.in_default-refusal.is) leaves);
-    })
+      world = λ leaves. absurd (world_not c.args.call.now c.in-Some.func c.in-Some.flags (sym c.in-Some.ensures) (plain_handle (plain_room (λ b. (goal.Conv-dyn g (b.vtable, b.value)).conv_holds b.value)) c.args.handle.now) (sym c.refusal.ensures ∙ c.in_default-refusal.is) leaves);
+    }

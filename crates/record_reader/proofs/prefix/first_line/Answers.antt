@@ -1,4 +1,4 @@
-use Rattle.std.proofs.Common.{◌≡◌, ◌≤◌, ◌<◌, length, Some, None, false, arith, rules}
+use Rattle.std.proofs.Common.{◌≡◌, Some, false, arith, rules}
 use Rattle.pam_base.specs.Bytes.{has_byte, IsFirstPlace}
 use Rattle.record_reader.proofs.CutLineFacts.{line_front, wait_front, last_front}
 use Rattle.record_reader.proofs.prefix.first_line.Goals as goal

@@ -1,5 +1,4 @@
-use Rattle.std.proofs.Common.{Ok, ap, ◌∙◌}
-use Rattle.mod_unix.specs.Aging.{day_of}
+use Rattle.std.proofs.Common.{Ok, ap}
 use Rattle.pam_base.specs.declared.code.Code.TheVariants.{Success}
 use Rattle.pam_base.specs.declared.call.Func.TheVariants.{Authenticate, SetCred, AcctMgmt, OpenSession, CloseSession, ChAuthTok}
 use Rattle.pam_room.specs.Plain.{plain_call, plain_process}
@@ -46,7 +45,7 @@ returns-in-AcctMgmt-clause-told g c = λ told.
     let call = plain_call c.args.call.now in
     c.act_steps.ensures.playing unix_act call _ _ c.code_or_conv_err.result
     (by_this _ AcctMgmt call c.code_or_conv_err.result _ _ c.in-AcctMgmt.is
-    (c.code_or_conv_err.ensures.told checks_account _ _ (c.check_account-answer.ensures.told (conv_of _ vault_tells clock_tells told) (vault_of _ vault_tells clock_tells told) _ c.requires.moment)))
+    (c.code_or_conv_err.ensures.told checks_account _ _ (c.check_account.ensures.told (conv_of _ vault_tells clock_tells told) (vault_of _ vault_tells clock_tells told) _ c.requires.moment)))
 
 pub returns-in-ChAuthTok-clause-told : goal.returns-in-ChAuthTok-clause-told
 returns-in-ChAuthTok-clause-told g c = λ told.
@@ -58,8 +57,7 @@ returns-in-ChAuthTok-clause-told g c = λ told.
     let ticks = clock_of ((goal.Conv-dyn g c.args.conv.now).conv_tells c.args.conv.now.1) vault_tells clock_tells told in
     c.act_steps.ensures.playing unix_act call _ _ c.code_or_conv_err-in-ChAuthTok.result
     (by_this _ ChAuthTok call c.code_or_conv_err-in-ChAuthTok.result _ _ c.in-ChAuthTok.is
-    (c.code_or_conv_err-in-ChAuthTok.ensures.told (changes_token call) _ _ (c.change_token-answer.ensures.told (conv_of _ vault_tells clock_tells told) (vault_of _ vault_tells clock_tells told) ticks
-    (c.day_of-today.ensures ∙ ap day_of c.requires.moment))))
+    (c.code_or_conv_err-in-ChAuthTok.ensures.told (changes_token call) _ _ (c.change_token.ensures.told (conv_of _ vault_tells clock_tells told) (vault_of _ vault_tells clock_tells told) ticks c.requires.moment)))
 
 pub returns-in-OpenSession-clause-told : goal.returns-in-OpenSession-clause-told
 returns-in-OpenSession-clause-told g c = λ told.

@@ -20,7 +20,7 @@ returns-then-not-is_followed-clause-give g c =
     let mid : PlainHandle = plain_handle room c.pass-result.new.self in
     give_once c.args.func c.args.flags c.args.first.now _ c.pass-result.new.paused _ _ _ _ _ _ _ _ _ _ c.first_request-request.result c.swap_cached-cached.result c.pass-result.new.kept
     (sym c.is_second.ensures ∙ c.if-is_second.false)
-    (ap kept_answers (c.swap_cached-cached.ensures.cached ∙ ap (λ (n : Answers). cached_of c.args.func c.args.self.now.authenticated c.args.self.now.opened n) c.none.ensures) ∙ kept_of c.args.func c.args.self.now.authenticated c.args.self.now.opened _)
+    (ap kept_answers (c.swap_cached-cached.ensures.cached ∙ ap (λ (n : Answers). cached_of c.args.func c.args.self.now.authenticated c.args.self.now.opened n) c.none.ensures) ∙ kept_of c.args.func c.args.self.now.authenticated c.args.self.now.opened)
     c.first_request-request.ensures c.in_ok-code.code _ (sym c.is_followed.ensures ∙ c.if-not-is_followed.true) (ap kept_answers c.drop_all.ensures)
     (ap (λ k. plain_handle room k) c.swap_cached-own.ensures.new
     ∙ swapped c.args.func h mid mid.room c.args.self.now.authenticated c.args.self.now.opened c.pass-result.new.self.authenticated c.pass-result.new.self.opened c.none.result c.pass-result.new.kept refl refl refl refl
@@ -39,7 +39,7 @@ returns-in_err-code-clause-give g c =
     rw answered
     (give_none c.args.func c.args.flags c.args.first.now _ c.pass-result.new.paused _ _ _ _ _ _ _ _ _ _ c.first_request-request.result c.swap_cached-cached.result c.pass-result.new.kept
     (sym c.is_second.ensures ∙ c.if-is_second.false)
-    (ap kept_answers (c.swap_cached-cached.ensures.cached ∙ ap (λ (n : Answers). cached_of c.args.func c.args.self.now.authenticated c.args.self.now.opened n) c.none.ensures) ∙ kept_of c.args.func c.args.self.now.authenticated c.args.self.now.opened _)
+    (ap kept_answers (c.swap_cached-cached.ensures.cached ∙ ap (λ (n : Answers). cached_of c.args.func c.args.self.now.authenticated c.args.self.now.opened n) c.none.ensures) ∙ kept_of c.args.func c.args.self.now.authenticated c.args.self.now.opened)
     c.first_request-request.ensures c.in_err-code.field-0.0 _
     (ap (λ k. plain_handle room k) c.swap_cached-own.ensures.new
     ∙ swapped c.args.func h mid mid.room c.args.self.now.authenticated c.args.self.now.opened c.pass-result.new.self.authenticated c.pass-result.new.self.opened c.none.result c.pass-result.new.kept refl refl refl refl
@@ -75,7 +75,7 @@ returns-clause-give g c =
     give_twice c.pass-2.result c.args.func c.args.flags c.args.first.now c.swap_cached-cached.result kept c.swap_cached-own.result c.pass-2.new.kept _ c.pass-result.new.paused c.pass-2.new.paused end.room _ _ _ _ _ _ _
     _ _ _ _ _ _ _ _ _ c.first_request-request.result c.second_request-2.result c.pass-result.new.self.authenticated c.pass-result.new.self.opened c.in_ok-code.code
     (sym c.is_second.ensures ∙ c.if-is_second.false) follows
-    (ap kept_answers (c.swap_cached-cached.ensures.cached ∙ ap (λ (n : Answers). cached_of c.args.func c.args.self.now.authenticated c.args.self.now.opened n) c.none.ensures) ∙ kept_of c.args.func c.args.self.now.authenticated c.args.self.now.opened _)
+    (ap kept_answers (c.swap_cached-cached.ensures.cached ∙ ap (λ (n : Answers). cached_of c.args.func c.args.self.now.authenticated c.args.self.now.opened n) c.none.ensures) ∙ kept_of c.args.func c.args.self.now.authenticated c.args.self.now.opened)
     c.first_request-request.ensures c.swap_cached-own.ensures.cached c.second_request-2.ensures
     (c.pass-2.ensures.others ∙ ap (λ (k : PlainHandle). in_room end.room k) middle)
     (rw c.swap_cached-cached.ensures.new at c.pass-result.ensures.stays.sound)

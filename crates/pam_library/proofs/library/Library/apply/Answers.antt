@@ -1,4 +1,4 @@
-use Rattle.std.proofs.Common.{◌≡◌, ◌+◌, ◌<◌, ◌&&◌, true, length, map, IsTrue, None, subst, arith, rules, Option}
+use Rattle.std.proofs.Common.{◌≡◌, ◌+◌, ◌<◌, true, length, map, IsTrue, None, subst, arith, rules, Option}
 use Rattle.std.specs.List.{list_all}
 use Rattle.pam_library.specs.Slots.{PlainSlot, slot_at}
 use Rattle.pam_library.specs.Plain.{plain_slot, slot_tells}
@@ -74,16 +74,16 @@ pub returns-clause-keeps : goal.returns-clause-keeps
 returns-clause-keeps g c = record {
   tells = tell_as (slot_tells (λ b. (goal.Conv-dyn g (b.vtable, b.value)).conv_tells b.value)) _ _ _ _ _ (stepped_in g c) c.step-slot.ensures.called.calls.still_tells;
   world_tells = c.step-slot.ensures.called.calls.world_tells;
-  sound = sound_after _ _ _ _ _ _ _ _ _ _ _ _ _ (put_in g c) c.step-slot.ensures.called.calls.goes
+  sound = sound_after _ _ _ _ _ _ _ _ _ _ _ _ _ _ (put_in g c) c.step-slot.ensures.called.calls.goes
       c.one_place_moves.ensures.sound c.requires.sound c.ledger_is_sound.ensures.numbered;
-  moves = moves_after _ _ _ _ _ _ _ _ _ _ _ _ _ (put_in g c) c.step-slot.ensures.called.calls.goes
+  moves = moves_after _ _ _ _ _ _ _ _ _ _ _ _ _ _ (put_in g c) c.step-slot.ensures.called.calls.goes
       c.one_place_moves.ensures.moves c.requires.sound c.ledger_is_sound.ensures.numbered;
 }
 
 pub returns-clause-leaves : goal.returns-clause-leaves
 returns-clause-leaves g c = record {
-  others = others_stay _ _ _ _ _ _ _ _ _ _ _ _ _ (put_in g c) c.step-slot.ensures.called.calls.goes;
-  spends = spends_after _ _ _ _ _ _ _ _ _ _ _ _ _ (put_in g c) c.step-slot.ensures.called.calls.goes;
+  others = others_stay _ _ _ _ _ _ _ _ _ _ _ _ _ _ (put_in g c) c.step-slot.ensures.called.calls.goes;
+  spends = spends_after _ _ _ _ _ _ _ _ _ _ _ _ _ _ (put_in g c) c.step-slot.ensures.called.calls.goes;
   root = c.step-slot.ensures.called.calls.goes.root;
   caller = c.step-slot.ensures.called.calls.goes.caller;
 }
@@ -93,13 +93,13 @@ returns-clause-world g c = λ leaves. c.step-slot.ensures.called.calls.world (su
 
 pub returns-clause-answers : goal.returns-clause-answers
 returns-clause-answers g c = answers_with c.args.step.now _ _ c.step-slot.result.outcome
-    (answer_after _ _ _ _ _ _ _ _ _ _ _ _ _ (put_in g c) c.step-slot.ensures.called.calls.goes)
-    (traces_after _ _ _ _ _ _ _ _ _ _ _ _ _ (put_in g c) c.step-slot.ensures.called.calls.goes) c.step-slot.ensures.called.calls.goes.filed_from c.step-slot.ensures.called.counts
+    (answer_after _ _ _ _ _ _ _ _ _ _ _ _ _ _ (put_in g c) c.step-slot.ensures.called.calls.goes)
+    (traces_after _ _ _ _ _ _ _ _ _ _ _ _ _ _ (put_in g c) c.step-slot.ensures.called.calls.goes) c.step-slot.ensures.called.calls.goes.filed_from c.step-slot.ensures.called.counts
 
 pub returns-clause-inside : goal.returns-clause-inside
 returns-clause-inside g c = λ delay inside.
     all_step _ delay _ _ c.args.step.now _ _ _ _ _ (put_in g c)
-    (c.step-slot.ensures.called.calls.goes.alone delay (inside_after _ _ _ _ _ _ _ _ _ _ _ _ _ (put_in g c) c.step-slot.ensures.called.calls.goes inside))
+    (c.step-slot.ensures.called.calls.goes.alone delay (inside_after _ _ _ _ _ _ _ _ _ _ _ _ _ _ (put_in g c) c.step-slot.ensures.called.calls.goes inside))
 
 pub returns-clause-told : goal.returns-clause-told
 returns-clause-told g c = λ delay given all.
@@ -107,11 +107,11 @@ returns-clause-told g c = λ delay given all.
     (c.step-slot.ensures.called.calls.goes.told delay given (both_of _ _ (tells_there g c (first_of _ _ all)) (second_of _ _ all)))
 
 pub returns-clause-succeeds : goal.returns-clause-succeeds
-returns-clause-succeeds g c = succeeds_after _ _ _ _ _ _ _ _ _ _ _ _ _ (put_in g c) c.step-slot.ensures.called.calls.goes
+returns-clause-succeeds g c = succeeds_after _ _ _ _ _ _ _ _ _ _ _ _ _ _ (put_in g c) c.step-slot.ensures.called.calls.goes
 
 pub returns-clause-fails : goal.returns-clause-fails
 returns-clause-fails g c = runs_out c.args.step.now _ _ c.step-slot.result.outcome _ _
-    (fails_after _ _ _ _ _ _ _ _ _ _ _ _ _ (put_in g c) c.step-slot.ensures.called.calls.goes _ (tells_there g c))
-    (stops_after _ _ _ _ _ _ _ _ _ _ _ _ _ (put_in g c) c.step-slot.ensures.called.calls.goes
+    (fails_after _ _ _ _ _ _ _ _ _ _ _ _ _ _ (put_in g c) c.step-slot.ensures.called.calls.goes _ (tells_there g c))
+    (stops_after _ _ _ _ _ _ _ _ _ _ _ _ _ _ (put_in g c) c.step-slot.ensures.called.calls.goes
     _ (λ all. both_of _ _ (tells_there g c (first_of _ _ all)) (second_of _ _ all)))
     c.step-slot.ensures.no_nap c.step-slot.ensures.called.hides_none

@@ -1,4 +1,4 @@
-use Rattle.std.proofs.Common.{length, ◌<◌, ◌≤◌, ◌≡◌, ◌+◌, true, false, Some, is_ok, map, sym, ◌∙◌, ap, subst, arith, rules}
+use Rattle.std.proofs.Common.{length, ◌≡◌, ◌+◌, true, false, Some, map, sym, ◌∙◌, ap, subst, arith, rules}
 use Rattle.pam_handle.specs.pam_room.specs.Module.{notes_of, player_of}
 use Rattle.pam_handle.specs.pam_room.specs.Plain.{plain_room}
 use Rattle.pam_handle.specs.Plain.{plain_handle}

@@ -11,10 +11,10 @@ returns-in-End-clause-called g c = rw c.in-Open.is (record {
   calls = record {
     still_tells = search rules;
     world_tells = search rules;
-    goes = rw c.in-End.is (onward _ _ _ _ _ _ _ _ _ _ _ _ _ c.take_told-before.ensures.emptied c.take_told-before.ensures.tells (rw c.in-Open.is at c.requires.may.placed) c.end.ensures.goes);
+    goes = rw c.in-End.is (onward _ _ _ _ _ _ _ _ _ _ _ _ _ _ c.take_told-before.ensures.emptied c.take_told-before.ensures.tells (rw c.in-Open.is at c.requires.may.placed) c.end.ensures.goes);
     world = rw c.in-End.is (λ leaves. absurd (cc));
   };
-  counts = no_fault _ _ _ _ _ _ _ _ _ _ _ _ _ c.end.ensures.goes;
+  counts = no_fault _ _ _ _ _ _ _ _ _ _ _ _ _ _ c.end.ensures.goes;
   hides_none = never _ _ (c.end.ensures.goes.succeeds refl);
 })
 
@@ -25,12 +25,15 @@ returns-in_default-clause-called g c =
       calls = record {
         still_tells = search rules;
         world_tells = search rules;
-        goes = onward _ _ _ _ _ _ _ _ _ _ _ _ _ c.take_told-before.ensures.emptied c.take_told-before.ensures.tells (rw c.in-Open.is at c.requires.may.placed) c.call_open-outcome.ensures.called.goes;
+        goes = onward _ _ _ _ _ _ _ _ _ _ _ _ _ _ c.take_told-before.ensures.emptied c.take_told-before.ensures.tells (rw c.in-Open.is at c.requires.may.placed) c.call_open-outcome.ensures.called.goes;
         world = search rules;
       };
-      counts = no_fault _ _ _ _ _ _ _ _ _ _ _ _ _ c.call_open-outcome.ensures.called.goes;
+      counts = no_fault _ _ _ _ _ _ _ _ _ _ _ _ _ _ c.call_open-outcome.ensures.called.goes;
       hides_none = anyway c.call_open-outcome.result (opened_quietly (λ w. (goal.Vault-dyn g (w.vault.vtable, w.vault.value)).vault_faults w.vault.value) h c.args.step.now.call _ _ c.call_open-outcome.ensures.called.world);
     })
 
 pub returns-in-End-clause-no_nap : goal.returns-in-End-clause-no_nap
 returns-in-End-clause-no_nap g c = never _ _ (c.end.ensures.goes.succeeds refl)
+
+pub returns-in-Closed-clause-called : goal.returns-in-Closed-clause-called
+returns-in-Closed-clause-called g c = rw c.in-Closed.is c.step_closed.ensures.called

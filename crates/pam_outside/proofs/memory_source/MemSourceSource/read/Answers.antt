@@ -10,7 +10,7 @@ returns-clause-told c =
     let copied = rw (c.bytes.ensures, rest_is) at c.copy_from_slice.ensures.after in
     let within : c.min-n.result ≤ length (drop c.self.inside.at c.self.inside.bytes) = omega (arith, amount) in
     let left : c.args.self.now.left ≡ drop c.self.inside.at c.self.inside.bytes = sym (ap (λ (v : SourceMemory). v.left) c.self.view_is) in
-    λ e. record {
+    record {
       calls = search rules;
       at_end = rw left (search rules);
       taken = rw (left, ← drop-drop) (taken (drop c.self.inside.at c.self.inside.bytes) c.args.into.now _ c.min-n.result within copied);

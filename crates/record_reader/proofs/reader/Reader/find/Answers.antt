@@ -1,4 +1,4 @@
-use Rattle.std.proofs.Common.{◌≡◌, ◌∙◌, Ok, false, [], rules}
+use Rattle.std.proofs.Common.{◌≡◌, ◌∙◌, false, [], rules}
 use Rattle.record_reader.proofs.Taken.{at_end}
 use Rattle.record_reader.proofs.reader.Reader.find.Goals as goal
 

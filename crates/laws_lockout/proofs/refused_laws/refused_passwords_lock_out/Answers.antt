@@ -1,0 +1,9 @@
+use Rattle.laws_lockout.proofs.AttemptFacts.{refused_lock_out}
+use Rattle.laws_lockout.proofs.refused_laws.refused_passwords_lock_out.Goals as goal
+
+pub returns : goal.returns
+returns c = refused_lock_out c.recorded_failures_are_kept.ensures.one c.recorded_failures_are_kept.ensures.all c.written_tallies_are_read.ensures.tally
+    c.written_tallies_are_read.ensures.read c.written_tallies_are_read.ensures.new c.steps_change_files_by_plays.ensures.asks
+    c.steps_change_files_by_plays.ensures.moments c.steps_change_files_by_plays.ensures.step c.other_modules_leave_tallies.ensures.alone
+    c.enough_failures_lock.ensures c.locked_user_is_refused.ensures c.refused_password_is_recorded.ensures
+    c.other_modules_leave_user_and_files.ensures c.locked_user_is_denied.ensures c.locked_user_is_kept_out.ensures.call
