@@ -158,7 +158,7 @@ no_frame_read status x four = record {
     spells = record {
       frames = record { framed = tt; parts = refl };
       few = omega arith;
-      past_end = (nothing_is_open, λ e. refl, λ e. refl);
+      followed = (nothing_is_open, λ e. refl, λ e. refl);
     };
   };
 }

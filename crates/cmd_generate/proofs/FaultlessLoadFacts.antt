@@ -14,7 +14,7 @@ use Rattle.service_load.specs.declared.rule_file.RuleFile.{RuleFile}
 use Rattle.service_load.specs.declared.rule_type.RuleType.{RuleType}
 use Rattle.service_load.specs.declared.rule_type.RuleType.TheVariants.{Auth, Account, Password, Session}
 use Rattle.service_load.specs.Entry.{directory_name}
-use Rattle.service_load.specs.Files.{Held, absent, held, held_text, is_absent, plain_file, rules_held}
+use Rattle.service_load.specs.Files.{FileContent, absent, held, held_text, is_absent, plain_file, rules_held}
 use Rattle.service_load.specs.FirstFault.{Counts, Stop, asked, fault_at, held_file, look}
 use Rattle.service_load.specs.Load.{directory_exists, loaded, loaded_from}
 use Rattle.service_load.specs.Loading.{texts_of}
@@ -166,7 +166,7 @@ module _ (texts : List ℕ → Option (List ℕ)) (seed lines : ℕ) (most : lin
   other_held = ap (held_text None) other
 
   opener_is : other_opener texts (plain_file service_path) ≡ as_other
-  opener_is = ap (λ (x : Held). cond (is_absent x) (as_last service_path) as_other)
+  opener_is = ap (λ (x : FileContent). cond (is_absent x) (as_last service_path) as_other)
       (held_is texts service_path (service files_number).text (service_contents files_number) own (holds_service lines most))
 
   other_passes : (type : RuleType) → Passes texts (items texts 17 type (other_opener texts (plain_file service_path)) other_file) 1 0
@@ -174,7 +174,7 @@ module _ (texts : List ℕ → Option (List ℕ)) (seed lines : ℕ) (most : lin
   other_passes type =
       let deeper = items texts 16 type in
       let rest : file_items deeper type other_file (rules_held (held texts other_file)) ≡ [] =
-      ap (λ (x : Held). file_items deeper type other_file (rules_held x)) other_held in
+      ap (λ (x : FileContent). file_items deeper type other_file (rules_held x)) other_held in
       let opens : Passes texts (opening other_file 0 as_other ∷ []) 1 0 =
       passes_opening texts other_file 0 as_other (omega arith) (λ c. ap (held_file (asked c) other_file as_other) other_held) in
       subst (λ (opener : Opener). Passes texts (items texts 17 type opener other_file) 1 0) (sym opener_is)

@@ -14,8 +14,8 @@ use Rattle.service_load.specs.declared.rule_file.RuleFile.{RuleFile}
 use Rattle.service_load.specs.declared.rule_type.RuleType.{RuleType}
 use Rattle.service_load.specs.declared.rule_type.RuleType.TheVariants.{Auth}
 use Rattle.service_load.specs.Entry.{entry_of}
-use Rattle.service_load.specs.Files.{Held, all_fine, entries_of, held, held_answer, held_text, holds, own_rules, plain_file, rules_held}
-use Rattle.service_load.specs.FirstFault.{Counts, Stop, asked, past_end, checked_rule, going_on, held_file, look, opened, refused_opening, stop}
+use Rattle.service_load.specs.Files.{FileContent, all_fine, entries_of, held, held_answer, held_text, holds, own_rules, plain_file, rules_held}
+use Rattle.service_load.specs.FirstFault.{Counts, Stop, asked, take_one, checked_rule, going_on, held_file, look, opened, refused_opening, stop}
 use Rattle.service_load.specs.Order.{Item, Opener, checked, content_items, file_items, items, items_of, made, opening}
 use Rattle.cmd_generate.specs.RandomRules.{HoldsRules, entries_from}
 use Rattle.cmd_generate.proofs.StoredFileFacts.{never}
@@ -45,7 +45,7 @@ module _ (texts : List ℕ → Option (List ℕ)) where
   pub look_then : (xs ys : List Item) (c d : Counts) → look texts [] c xs ≡ Ok d → look texts [] c (xs ++ ys) ≡ look texts [] d ys
   unfolding look
   look_then [] ys c d e = ap (λ (r : Result Counts Stop). going_on r (λ (x : Counts). look texts [] x ys)) e
-  look_then (i ∷ is) ys c d e = by_first is ys d (past_end texts [] c i) (λ b. look_then is ys b d) e
+  look_then (i ∷ is) ys c d e = by_first is ys d (take_one texts [] c i) (λ b. look_then is ys b d) e
 
   pub passes_then : (xs ys : List Item) (a b m n : ℕ) → Passes xs a m → Passes ys b n → Passes (xs ++ ys) (a + b) (m + n)
   passes_then xs ys a b m n first second c opens lines =
@@ -64,7 +64,7 @@ module _ (texts : List ℕ → Option (List ℕ)) where
       record { after = p.after; looks = p.looks; openings_are = omega (arith, p.openings_are, few); lines_are = omega (arith, p.lines_are, short) }
 
   -- one item
-  by_one : (c d : Counts) (i : Item) → past_end texts [] c i ≡ Ok d → look texts [] c (i ∷ []) ≡ Ok d
+  by_one : (c d : Counts) (i : Item) → take_one texts [] c i ≡ Ok d → look texts [] c (i ∷ []) ≡ Ok d
   unfolding look
   by_one c d i e = ap (λ (r : Result Counts Stop). going_on r (λ (x : Counts). look texts [] x [])) e
 
@@ -72,7 +72,7 @@ module _ (texts : List ℕ → Option (List ℕ)) where
   passes_made name line c opens lines =
       let next : Counts = record c { lines = c.lines + 1 } in
       let fits : nat_le 4096 c.lines ≡ false = lt-leb 4096 c.lines (omega (arith, lines)) in
-      let step : past_end texts [] c (made name line) ≡ Ok next = ap (λ (b : Bool). cond b (stop c name line TooManyLines) (Ok next)) fits in
+      let step : take_one texts [] c (made name line) ≡ Ok next = ap (λ (b : Bool). cond b (stop c name line TooManyLines) (Ok next)) fits in
       record { after = next; looks = by_one c next (made name line) step; openings_are = omega arith; lines_are = omega arith }
 
   -- a file that is opened
@@ -126,7 +126,7 @@ module _ (texts : List ℕ → Option (List ℕ)) where
           let deeper = items texts level type in
           let brought = items_of deeper type name (entries_from 1 contents) in
           let rest : file_items deeper type (plain_file name) (rules_held (held texts (plain_file name))) ≡ map (checked (plain_file name)) h.rules ++ brought =
-          ap (λ (x : Held). file_items deeper type (plain_file name) (rules_held x)) held_is
+          ap (λ (x : FileContent). file_items deeper type (plain_file name) (rules_held x)) held_is
           ∙ ap (λ (b : Bool). map (checked (plain_file name)) h.rules ++ cond b (items_of deeper type name (entries_of true h.rules)) []) h.fine
           ∙ ap (λ (es : List ConfigEntry). map (checked (plain_file name)) h.rules ++ items_of deeper type name es) h.entries in
           let all : Passes (opening (plain_file name) (16 - level) opener ∷ (map (checked (plain_file name)) h.rules ++ brought)) (1 + opens) lines =

@@ -103,12 +103,12 @@ module _ (setting : Setting) where
       → (after n s r (rest_of n ls)).text ≡ report_of_steps setting s.slots (steps_after setting (kept_at setting n s) l r (λ t. steps_in setting (n + 1) t ls))
   text_by n s l ls next (Ok x) e =
       let read = as_read n s l x e in
-      let past_end = steps_in setting (n + 1) x.0 ls in
+      let followed = steps_in setting (n + 1) x.0 ls in
       ap (λ (t : List ℕ). x.1 ++ t) (next x.0)
-      ∙ ap (λ (t : List ℕ). t ++ report_of_steps setting x.0.slots past_end) (sym (one_text (kept_at setting n s) (parsed l) x read))
-      ∙ ap (λ (slots : List PlainSlot). report_of_steps setting s.slots (step_of (kept_at setting n s) (parsed l)) ++ report_of_steps setting slots past_end)
+      ∙ ap (λ (t : List ℕ). t ++ report_of_steps setting x.0.slots followed) (sym (one_text (kept_at setting n s) (parsed l) x read))
+      ∙ ap (λ (slots : List PlainSlot). report_of_steps setting s.slots (step_of (kept_at setting n s) (parsed l)) ++ report_of_steps setting slots followed)
       (sym (one_slots (kept_at setting n s) (parsed l) x read))
-      ∙ sym (report-append (step_of (kept_at setting n s) (parsed l)) past_end s.slots)
+      ∙ sym (report-append (step_of (kept_at setting n s) (parsed l)) followed s.slots)
   text_by n s l ls next (Err kind) e = refl
 
   pub text_in : (n : ℕ) (s : RunState) (ls : List (List ℕ))

@@ -198,14 +198,14 @@ module _ (setting : Setting) (status : Code) where
       closings_text (closings_after setting.players status front slots (world_after_places setting.players status before w))
       ≡ flat_map (closing_text_with setting.players status number_words (state_of (before ++ slots) w)) (range_with_len (suc i) (length slots))
   unfolding closings_after
-  texts_by_number [] front before i w at past_end = refl
-  texts_by_number (x ∷ slots) front before i w at past_end =
+  texts_by_number [] front before i w at followed = refl
+  texts_by_number (x ∷ slots) front before i w at followed =
       let now : PlainWorld = world_after_places setting.players status before w in
       let all : List PlainSlot = before ++ x ∷ slots in
       let more : List PlainSlot = before ++ x ∷ [] in
       let next : List PlainSlot = front ++ left_after setting status x ∷ [] in
-      let taken : take i all ≡ before = subst (λ (j : ℕ). take j all ≡ before) (sym past_end) (take-append_seam before (x ∷ slots)) in
-      let found : slice_get all i ≡ Some x = subst (λ (j : ℕ). slice_get all j ≡ Some x) (sym past_end) (at_front before slots x) in
+      let taken : take i all ≡ before = subst (λ (j : ℕ). take j all ≡ before) (sym followed) (take-append_seam before (x ∷ slots)) in
+      let found : slice_get all i ≡ Some x = subst (λ (j : ℕ). slice_get all j ≡ Some x) (sym followed) (at_front before slots x) in
       let here : closing_text_with setting.players status number_words (state_of all w) (suc i) ≡ place_text (suc i) now x =
       ap (λ (l : List PlainSlot). closed_text_with setting.players status number_words (suc i) (world_after_places setting.players status l w)
       (slice_get all i)) taken
@@ -213,7 +213,7 @@ module _ (setting : Setting) (status : Code) where
       let rest : closings_text (closings_after setting.players status next slots (world_after_places setting.players status more w))
       ≡ flat_map (closing_text_with setting.players status number_words (state_of (more ++ slots) w)) (range_with_len (suc (suc i)) (length slots)) =
       texts_by_number slots next more (suc i) w (ap suc at ∙ sym (one_longer front (left_after setting status x)))
-      (ap suc past_end ∙ sym (one_longer before x)) in
+      (ap suc followed ∙ sym (one_longer before x)) in
       let one_more : suc (suc i) ≡ suc i + 1 = omega arith in
       one_place i x front slots now at
       ∙ ap (λ (v : PlainWorld). place_text (suc i) now x ++ closings_text (closings_after setting.players status next slots v)) (sym (after_one before x w))

@@ -74,18 +74,18 @@ module _ (setting : Setting) (asks : AllStepsAsk) (at_once : AllStepsAskAtOnce) 
       either now (parsed line) (nat_le 65536 n) (Err TooManyLines) _ tt (either now (parsed line) (nat_lt 513 (length line)) (Err LineTooLong) _ tt
       (parsed_leads now (parsed line)))
 
-  past_end : (n : ℕ) (s : RunState) (l : List ℕ) (ls : List (List ℕ)) (r : Result (RunState × List ℕ) ScriptKind) → LineLeads (kept_at setting n s) (parsed l) r
+  followed : (n : ℕ) (s : RunState) (l : List ℕ) (ls : List (List ℕ)) (r : Result (RunState × List ℕ) ScriptKind) → LineLeads (kept_at setting n s) (parsed l) r
       → ((t : RunState) → Leads t (steps_in setting (n + 1) t ls) (run_lines (line_step setting) (n + 1) t ls).last.world.vault.files)
       → Leads s (steps_after setting (kept_at setting n s) l r (λ t. steps_in setting (n + 1) t ls))
       (after n s r (λ t. run_lines (line_step setting) (n + 1) t ls)).last.world.vault.files
-  past_end n s l ls (Ok x) leads more = leads (steps_in setting (n + 1) x.0 ls) _ (more x.0)
-  past_end n s l ls (Err kind) leads more = ([], refl, refl)
+  followed n s l ls (Ok x) leads more = leads (steps_in setting (n + 1) x.0 ls) _ (more x.0)
+  followed n s l ls (Err kind) leads more = ([], refl, refl)
 
   pub script_leads : (script : List (List ℕ)) (n : ℕ) (s : RunState)
       → Leads s (steps_in setting n s script) (run_lines (line_step setting) n s script).last.world.vault.files
   unfolding run_items steps_in
   script_leads [] n s = ([], refl, refl)
-  script_leads (l ∷ ls) n s = past_end n s l ls (step_at (line_step setting) n s l) (line_leads n s l) (λ t. script_leads ls (n + 1) t)
+  script_leads (l ∷ ls) n s = followed n s l ls (step_at (line_step setting) n s l) (line_leads n s l) (λ t. script_leads ls (n + 1) t)
 
 -- ---- the implicit ends after them
 

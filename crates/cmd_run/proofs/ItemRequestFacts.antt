@@ -39,14 +39,14 @@ module _ {Kind : Type 0} (looked : Looks) (refuses : Refuses) (asked : Asking Ki
   all_left found n before held x y f =
       ap (λ (l : List ℕ). before ++ l) f.source ∙ sym (append_assoc before f.got y.left) ∙ ap (λ (h : List ℕ). h ++ y.left) (sym f.held_is)
 
-  one_asks : (n : ℕ) (text item : List ℕ) (past_end : List (List ℕ)) → looked n text true ≡ item ∷ past_end
+  one_asks : (n : ℕ) (text item : List ℕ) (followed : List (List ℕ)) → looked n text true ≡ item ∷ followed
       → All (λ b. b < 256) item → (number status : ℕ) → IsEnd (asked n item) number status → HasEndAmong looked asked n text number status
-  one_asks n text item past_end first bytes number status a =
+  one_asks n text item followed first bytes number status a =
       let same : n ≡ n + length {A = List ℕ} [] = omega arith in
       record {
         before = [];
         item = item;
-        past_end = past_end;
+        followed = followed;
         among = first;
         accepted = tt;
         asks = subst (λ (k : ℕ). IsEnd (asked k item) number status) same a;
@@ -132,8 +132,8 @@ module _ {Kind : Type 0} (looked : Looks) (asked : Asking Kind) where
       record {
         before = l.items ++ h.before;
         item = h.item;
-        past_end = h.past_end;
-        among = l.among ∙ ap (λ (t : List (List ℕ)). l.items ++ t) h.among ∙ sym (append_assoc l.items h.before (h.item ∷ h.past_end));
+        followed = h.followed;
+        among = l.among ∙ ap (λ (t : List (List ℕ)). l.items ++ t) h.among ∙ sym (append_assoc l.items h.before (h.item ∷ h.followed));
         accepted = accepted-append l.items h.before n m l.number l.accepted h.accepted;
         asks = subst (λ (k : ℕ). IsEnd (asked k h.item) number status) same h.asks;
         bytes = h.bytes;
@@ -159,7 +159,7 @@ by_line all tells text number status has told =
     let there : HasEnd text number status = record {
       line = h.item;
       before = h.before;
-      past_end = h.past_end;
+      followed = h.followed;
       among = sym (all 0 text) ∙ h.among;
       asks = as_parsed _ h.item _ h.asks;
     } in

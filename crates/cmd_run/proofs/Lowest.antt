@@ -16,15 +16,15 @@ use Rattle.cmd_run.specs.Closings.{Closing, EndsNext, all_closed, last_state, op
 
 -- ---- one slot in place of another
 
-set-past_end : (front rest : List PlainSlot) (old new : PlainSlot) → slice_set (front ++ old ∷ rest) (length front) new ≡ front ++ new ∷ rest
-set-past_end [] rest old new = refl
-set-past_end (x ∷ front) rest old new = ap (λ (xs : List PlainSlot). x ∷ xs) (set-past_end front rest old new)
+set-followed : (front rest : List PlainSlot) (old new : PlainSlot) → slice_set (front ++ old ∷ rest) (length front) new ≡ front ++ new ∷ rest
+set-followed [] rest old new = refl
+set-followed (x ∷ front) rest old new = ap (λ (xs : List PlainSlot). x ∷ xs) (set-followed front rest old new)
 
-count-past_end : (front rest : List PlainSlot) (h : PlainHandle) → open_count (front ++ closed h.room.conv ∷ rest) < open_count (front ++ opened h ∷ rest)
+count-followed : (front rest : List PlainSlot) (h : PlainHandle) → open_count (front ++ closed h.room.conv ∷ rest) < open_count (front ++ opened h ∷ rest)
 unfolding open_count
-count-past_end [] rest h = omega arith
-count-past_end (closed conv ∷ front) rest h = count-past_end front rest h
-count-past_end (opened g ∷ front) rest h = omega (arith, count-past_end front rest h)
+count-followed [] rest h = omega arith
+count-followed (closed conv ∷ front) rest h = count-followed front rest h
+count-followed (opened g ∷ front) rest h = omega (arith, count-followed front rest h)
 
 -- ---- the first open slot
 
@@ -96,10 +96,10 @@ module _ (players : List Player) (status : Code) where
       let k : number ≡ suc (length o.before) = omega (arith, o.number_is) in
       let l : length o.before + 1 ≡ number = omega (arith, o.number_is) in
       let set : with_slot slots number (closed h.room.conv) ≡ o.before ++ closed h.room.conv ∷ o.after =
-      rw (k, o.parts) (set-past_end o.before o.after (opened h) (closed h.room.conv)) in
+      rw (k, o.parts) (set-followed o.before o.after (opened h) (closed h.room.conv)) in
       record {
         first = rw (set, o.parts, ← l) (core o.before o.after h w o.skip);
-        fewer = rw (set, o.parts) (count-past_end o.before o.after h);
+        fewer = rw (set, o.parts) (count-followed o.before o.after h);
         receipts = omega (
           arith,
           length-append w.process.ledger.filed (receipts_for (notes_of players) (number_of status) (length w.process.ledger.births)

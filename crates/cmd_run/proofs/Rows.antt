@@ -67,7 +67,7 @@ words_of_a_read_fault = refl
 -- the second line asks for the end of transaction 3, with a status of 32 bits
 end_with_a_high_bit : HasEnd (codes "at 5\nend 3 0x80000007\nx") 3 2147483655
 unfolding lines_of cut words_of
-end_with_a_high_bit = record { line = codes "end 3 0x80000007"; before = codes "at 5" ∷ []; past_end = codes "x" ∷ []; among = refl; asks = refl }
+end_with_a_high_bit = record { line = codes "end 3 0x80000007"; before = codes "at 5" ∷ []; followed = codes "x" ∷ []; among = refl; asks = refl }
 
 -- after the lines a transaction is ended with ABORT if one was refused
 end_after_a_refused_line : IsEndOfRun true (codes "x") 3 26

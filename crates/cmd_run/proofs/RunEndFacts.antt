@@ -61,8 +61,8 @@ module _ {Kind : Type 0} (wrapped : List ℕ → List ℕ) (last_text : Ending K
     closed_text : closings_text c.whole ++ c.part ≡ closings_text c.whole
     closed_text = ap (λ (x : List ℕ). closings_text c.whole ++ x) c.to.1 ∙ append-nil (closings_text c.whole)
 
-    past_end : (part : List ℕ) → r.written ≡ q.written ++ part → r.written ≡ p.written ++ (closings_text c.whole ++ part)
-    past_end part w = w ∙ ap (λ (x : List ℕ). x ++ part) (c.written ∙ ap (λ (x : List ℕ). p.written ++ x) closed_text)
+    followed : (part : List ℕ) → r.written ≡ q.written ++ part → r.written ≡ p.written ++ (closings_text c.whole ++ part)
+    followed part w = w ∙ ap (λ (x : List ℕ). x ++ part) (c.written ∙ ap (λ (x : List ℕ). p.written ++ x) closed_text)
         ∙ append_assoc p.written (closings_text c.whole) part
 
     counted : (part : List ℕ) → r.calls ≤ q.calls + length part + 1 → r.calls ≤ p.calls + length (closings_text c.whole ++ part) + 1
@@ -82,7 +82,7 @@ module _ {Kind : Type 0} (wrapped : List ℕ → List ℕ) (last_text : Ending K
       others = c.others;
       among = c.among;
       part = w.front;
-      written = past_end w.front w.written;
+      written = followed w.front w.written;
       to = (c.to.0, w.all ∙ sym (ap text_of is), c.to.2);
       calls = counted w.front w.calls;
       calls_ok = counted_ok w.front w.calls_ok;
@@ -98,7 +98,7 @@ module _ {Kind : Type 0} (wrapped : List ℕ → List ℕ) (last_text : Ending K
       others = [];
       among = rw c.to.0 at c.among;
       part = w.front;
-      written = past_end w.front w.written;
+      written = followed w.front w.written;
       to = (is_there text is, (w.back, ap text_of is ∙ w.parts), c.to.2, none);
       calls = counted w.front w.calls;
       calls_ok = tt;

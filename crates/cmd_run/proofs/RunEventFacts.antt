@@ -153,23 +153,23 @@ module _ (players : List Player) (code : Code) where
   one_longer : (front : List PlainSlot) (x : PlainSlot) → length (front ++ x ∷ []) ≡ length front + 1
   one_longer front x = length-append front (x ∷ [])
 
-  past_end : EndStands → (slots front : List PlainSlot) (w : PlainWorld) (events : List Event) → length front + length slots ≤ 16
+  followed : EndStands → (slots front : List PlainSlot) (w : PlainWorld) (events : List Event) → length front + length slots ≤ 16
       → Stand w (front ++ slots) events → Past front slots w events
   unfolding closings_after
-  past_end law [] front w events few stand = rw (append-nil events) stand
-  past_end law (closed conv ∷ slots) front w events few stand =
+  followed law [] front w events few stand = rw (append-nil events) stand
+  followed law (closed conv ∷ slots) front w events few stand =
       let front2 : List PlainSlot = front ++ closed conv ∷ [] in
       let stand2 : Stand w (front2 ++ slots) events = subst (λ (l : List PlainSlot). Stand w l events) (sym (moved_over front slots (closed conv))) stand in
-      let rest : Past front2 slots w events = past_end law slots front2 w events (omega (arith, few, one_longer front (closed conv))) stand2 in
+      let rest : Past front2 slots w events = followed law slots front2 w events (omega (arith, few, one_longer front (closed conv))) stand2 in
       rw (moved_over front slots (closed conv), one_longer front (closed conv)) at rest
-  past_end law (opened h ∷ slots) front w events few stand =
+  followed law (opened h ∷ slots) front w events few stand =
       let x : PlainSlot = closed h.room.conv in
       let front2 : List PlainSlot = front ++ x ∷ [] in
       let v : PlainWorld = world_after players code h w in
       let more : List Event = events ++ ends (length front + 1) (number_of code) ∷ [] in
       let stand2 : Stand v (front2 ++ slots) more = subst (λ (l : List PlainSlot). Stand v l more) (sym (moved_over front slots x))
       (one_end law front slots h w events (omega (arith, few)) stand) in
-      let rest : Past front2 slots v more = past_end law slots front2 v more (omega (arith, few, one_longer front x)) stand2 in
+      let rest : Past front2 slots v more = followed law slots front2 v more (omega (arith, few, one_longer front x)) stand2 in
       rw (
         moved_over front slots x,
         one_longer front x,
@@ -179,7 +179,7 @@ module _ (players : List Player) (code : Code) where
 
   pub closings_stand : EndStands → (s : RunState) → length s.slots ≤ 16
       → AddsEvents (notes_of players) (closing_events 1 (number_of code) s.slots) s (all_closed players code s)
-  closings_stand law s few = λ events stand. past_end law s.slots [] s.world events (omega (arith, few)) stand
+  closings_stand law s few = λ events stand. followed law s.slots [] s.world events (omega (arith, few)) stand
 
 -- ---- a whole run
 

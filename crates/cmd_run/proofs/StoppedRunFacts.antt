@@ -71,9 +71,9 @@ module _ (setting : Setting) (all_looked : AllLooked) (law : CallsAddEvents sett
       → Goes (IsStatusOf status) t u → q.written ≡ p.written ++ text → EventsUntilCut setting status m s u input text
   cut_short status m s t u input text p q b closing written =
       let others : List (List ℕ) = drop m (lines_of input) in
-      let past_end : others ≡ b.others = last_lines setting m s b.middle input b.others p b.sink all_looked b.served in
+      let followed : others ≡ b.others = last_lines setting m s b.middle input b.others p b.sink all_looked b.served in
       let line : Goes (IsLaterEnd status others) b.middle t = proceeds_so (FirstAsks line_asked m b.others) (IsLaterEnd status others)
-      (λ number ended a. inl (rw past_end (first_asks m b.others number ended a))) _ _ _ _ _ b.later in
+      (λ number ended a. inl (rw followed (first_asks m b.others number ended a))) _ _ _ _ _ b.later in
       let last : Goes (IsLaterEnd status others) t u = proceeds_so (IsStatusOf status) (IsLaterEnd status others) (λ number ended h. inr h) _ _ _ _ _ closing in
       let all : Goes (IsLaterEnd status others) b.middle u = goes_on (IsLaterEnd status others) (notes_of setting.players) _ _ _ _ _ _ line last in
       let w = b.served in

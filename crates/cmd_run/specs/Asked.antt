@@ -39,8 +39,8 @@ module _ {Kind : Type 0} (looked : Looks) (asked : Asking Kind) where
   pub record HasEndAmong (n : ℕ) (text : List ℕ) (number status : ℕ) : Type 0 where
     pub before : List (List ℕ)
     pub item : List ℕ
-    pub past_end : List (List ℕ)
-    pub among : looked n text true ≡ before ++ item ∷ past_end
+    pub followed : List (List ℕ)
+    pub among : looked n text true ≡ before ++ item ∷ followed
     pub accepted : AreAccepted asked n before
     pub asks : IsEnd (asked (n + length before) item) number status
     pub bytes : All (λ b. b < 256) item

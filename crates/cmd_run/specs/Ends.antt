@@ -26,8 +26,8 @@ AsksEnd line number status = parsed line ≡ Ok (Step (record { number = number;
 pub record HasEnd (text : List ℕ) (number status : ℕ) : Type 0 where
   pub line : List ℕ
   pub before : List (List ℕ)
-  pub past_end : List (List ℕ)
-  pub among : lines_of text ≡ before ++ line ∷ past_end
+  pub followed : List (List ℕ)
+  pub among : lines_of text ≡ before ++ line ∷ followed
   pub asks : AsksEnd line number status
 
 -- ---- after the lines

@@ -101,15 +101,15 @@ has_end : AllAreLookedAt → ReadsTable → (input : List ℕ) (number status : 
 has_end all law input number status h =
     let before : AreFrames h.before = are_frames law 0 h.before h.accepted in
     let f : IsFrame h.item (end_call number status) = (law h.item (end_call number status)).1 h.bytes (as_step _ h.item (end_call number status) h.asks) in
-    let past_end : List ℕ = concat h.past_end in
-    let parts : input ≡ frames_of before.steps ++ (h.item ++ past_end) =
-    sym (all 0 input) ∙ ap concat h.among ∙ concat-append h.before (h.item ∷ h.past_end) ∙ ap (λ (z : List ℕ). z ++ (h.item ++ past_end)) before.bytes in
-    let front : AreFramesOf input before.steps (h.item ++ past_end) = record { framed = before.framed_all; parts = parts } in
+    let followed : List ℕ = concat h.followed in
+    let parts : input ≡ frames_of before.steps ++ (h.item ++ followed) =
+    sym (all 0 input) ∙ ap concat h.among ∙ concat-append h.before (h.item ∷ h.followed) ∙ ap (λ (z : List ℕ). z ++ (h.item ++ followed)) before.bytes in
+    let front : AreFramesOf input before.steps (h.item ++ followed) = record { framed = before.framed_all; parts = parts } in
     record {
       before = before.steps;
-      rest = past_end;
-      among = joined input (h.item ++ past_end) past_end before.steps (end_call number status ∷ []) front
-          (one_framed (h.item ++ past_end) h.item past_end (end_call number status) refl f);
+      rest = followed;
+      among = joined input (h.item ++ followed) followed before.steps (end_call number status ∷ []) front
+          (one_framed (h.item ++ followed) h.item followed (end_call number status) refl f);
       few = omega (arith, leb-false 65536 (0 + length h.before) (few_by (leb 65536 (0 + length h.before)) (step_of h.item) _ h.asks), before.count);
     }
 

@@ -212,7 +212,7 @@ module _ (setting : Setting) (served : ServedAreSteps (answers setting)) where
   only m s t rest item text ended others [] left f i e d = absurd cc
   only m s t rest item text ended others (step ∷ []) left f i e d = record {
     step = step;
-    next = record { past_end = left; frames = f };
+    next = record { followed = left; frames = f };
     item_is = cc;
     state_is = d;
     text_is = e ∙ append-nil (answers setting m s step).1;

@@ -19,13 +19,13 @@ module _ (setting : Setting) (start : RunState) (x y : SourceState) (p : SinkSta
   pub stopped : (stop : Stop) (frames : ℕ) (last end : RunState) (q : SinkState)
       → Runs looked (step_at (answers setting)) (Fails setting) (Err stop) frames start last x y p q
       → end ≡ all_closed setting.players (stop_status stop) last → RunsFrames setting (Err stop) start end x y p q
-  stopped stop frames last end q r e = record { served = Err stop; frames = frames; last = last; between = q; runs = r; past_end = (refl, e, refl) }
+  stopped stop frames last end q r e = record { served = Err stop; frames = frames; last = last; between = q; runs = r; followed = (refl, e, refl) }
 
   -- all frames are answered
   pub ended : (ending : Ending FrameFault) (frames : ℕ) (last end : RunState) (between q : SinkState)
       → Runs looked (step_at (answers setting)) (Fails setting) (Ok ending) frames start last x y p between
       → (done : Unit {0}) → Closes setting.players (ending_status ending) (Ok done) last end between q → RunsFrames setting (Ok ending) start end x y p q
-  ended ending frames last end between q r done c = record { served = Ok ending; frames = frames; last = last; between = between; runs = r; past_end = (refl, c) }
+  ended ending frames last end between q r done c = record { served = Ok ending; frames = frames; last = last; between = between; runs = r; followed = (refl, c) }
 
   -- it stops after the frames
   pub broken : (ending : Ending FrameFault) (frames : ℕ) (last middle end : RunState) (between q : SinkState)
@@ -38,5 +38,5 @@ module _ (setting : Setting) (start : RunState) (x y : SourceState) (p : SinkSta
     last = last;
     between = between;
     runs = r;
-    past_end = (middle, c, e);
+    followed = (middle, c, e);
   }

@@ -45,14 +45,14 @@ pub record RunsFrames (setting : Setting) (result : Result (Ending FrameFault) S
   pub between : SinkState
   pub runs : Runs looked (step_at (answers setting)) (Fails setting) served frames
       start last x y p between
-  pub past_end : IsPast setting.players served result last end between q
+  pub followed : IsPast setting.players served result last end between q
 
 -- ---- by the steps that the bytes taken spell
 
 -- the step whose frame some bytes begin with
 pub record IsNextStep (rest : List ℕ) (step : Step) : Type 0 where
-  pub past_end : List ℕ
-  pub frames : AreFramesOf rest (step ∷ []) past_end
+  pub followed : List ℕ
+  pub frames : AreFramesOf rest (step ∷ []) followed
 
 module _ (setting : Setting) where
   -- It ended: what is written is the answers to these steps, one after the other, and then those of the implicit ends.

@@ -27,11 +27,11 @@ abbrev line : ℕ → List Piece → JoinedLine
 line n ps = record { first = n; pieces = ps }
 
 -- the lines after one that ends with a newline
-abbrev past_end : ℕ → List Piece → List ℕ → List JoinedLine
-past_end n ps more = numbered (n + newlines (spelling ps) + 1) (lines_of_pieces (pieces_of more))
+abbrev nul_kept : ℕ → List Piece → List ℕ → List JoinedLine
+nul_kept n ps more = numbered (n + newlines (spelling ps) + 1) (lines_of_pieces (pieces_of more))
 
 module _ (n : ℕ) (before : List ℕ) (ps : List Piece) (within : list_any is_newline ps ≡ false) where
-  answer-line : (more : List ℕ) → Reads before ps (10 ∷ more) → answer_at n before ≡ answer_of (line n ps ∷ past_end n ps more)
+  answer-line : (more : List ℕ) → Reads before ps (10 ∷ more) → answer_at n before ≡ answer_of (line n ps ∷ nul_kept n ps more)
   unfolding answer_at
   answer-line more r =
       let pieces : pieces_of before ≡ ps ++ newline ∷ pieces_of more = reads_pieces before ps (10 ∷ more) r ∙ ap (λ (qs : List Piece). ps ++ qs) (piece_again newline more refl) in
@@ -65,7 +65,7 @@ unfolding answer_at pieces_after
 answer-none m = refl
 
 module _ (n m k : ℕ) (before : List ℕ) (ps : List Piece) (within : list_any is_newline ps ≡ false) where
-  past_is : (bs : List ℕ) → n + newlines (spelling ps) + 1 ≡ m → answer_of (past_end n ps bs) ≡ answer_at m bs
+  past_is : (bs : List ℕ) → n + newlines (spelling ps) + 1 ≡ m → answer_of (nul_kept n ps bs) ≡ answer_at m bs
   unfolding answer_at
   past_is bs e = ap (λ (i : ℕ). answer_of (numbered i (lines_of_pieces (pieces_of bs)))) e
 
@@ -77,7 +77,7 @@ module _ (n m k : ℕ) (before : List ℕ) (ps : List Piece) (within : list_any 
   line_given (b ∷ bs) rest opened tokens r open_is is tokens_are lines ends =
       let reads : Reads before ps (10 ∷ bs) = rw ends.0 at r in
       let number : n + newlines (spelling ps) + 1 ≡ m = omega (arith, lines, ends.2) in
-      answer-line n before ps within bs reads ∙ rw (line_fault_is n before ps within (b ∷ bs) opened None r open_is is, tokens_are, ends.1) (given-front (first_fault (past_end n ps bs)) (rule_at n (tokens_of ps)) (flat_map line_rules (past_end n ps bs)) ∙ ap (with_rules_first (rule_at n (tokens_of ps))) (past_is bs number))
+      answer-line n before ps within bs reads ∙ rw (line_fault_is n before ps within (b ∷ bs) opened None r open_is is, tokens_are, ends.1) (given-front (first_fault (nul_kept n ps bs)) (rule_at n (tokens_of ps)) (flat_map line_rules (nul_kept n ps bs)) ∙ ap (with_rules_first (rule_at n (tokens_of ps))) (past_is bs number))
 
 -- nothing is left
 pub answer_end : (m : ℕ) (rest : List ℕ) (rules : List RawRule) → length rest ≡ 0 → with_rules_first rules (answer_at m rest) ≡ Ok rules

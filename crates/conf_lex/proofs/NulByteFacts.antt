@@ -39,10 +39,10 @@ before_short [] = omega arith
 before_short (b ∷ bs) = elim (which (eqb b 0)) [ inl y ↦ rw y (omega arith) | inr z ↦ rw z (omega (arith, before_short bs)) ]
 
 pub moves_none : (t : List ℕ) (m : ℕ) → Moves t t m m
-moves_none t m = record { nul = refl; past_end = refl; fits = omega arith }
+moves_none t m = record { nul = refl; nul_kept = refl; fits = omega arith }
 
 pub moves_on : (s t u : List ℕ) (m k n : ℕ) → Moves s t m k → Moves t u k n → Moves s u m n
-moves_on s t u m k n a b = record { nul = b.nul ∙ a.nul; past_end = omega (arith, a.past_end, b.past_end); fits = omega (arith, a.fits, b.fits) }
+moves_on s t u m k n a b = record { nul = b.nul ∙ a.nul; nul_kept = omega (arith, a.nul_kept, b.nul_kept); fits = omega (arith, a.fits, b.fits) }
 
 drop_length : (n : ℕ) (t : List ℕ) → n ≤ length t → length (drop n t) + n ≡ length t
 drop_length zero t e = omega arith
@@ -74,7 +74,7 @@ skip_moves n t rest m lines e is to =
     let left_before : length (before_nul rest) + n ≡ length (before_nul t) = ap (λ (s : List ℕ). length (before_nul s) + n) to ∙ (ap (λ (s : List ℕ). length s + n) (before_drop n t e) ∙ drop_length n (before_nul t) e) in
     record {
       nul = ap (λ (k : ℕ). nul_line (m + k) rest) is ∙ (ap (nul_line (m + newlines (take n (before_nul t)))) to ∙ nul_drop m n t e);
-      past_end = omega (arith, left, left_before);
+      nul_kept = omega (arith, left, left_before);
       fits = omega (arith, left, is, lines_most n t e);
     }
 

@@ -29,7 +29,7 @@ nul_line n (b ∷ bs) = if b == 0 then Some n else nul_line (n + newlines (b ∷
 -- follows it
 pub record Moves (before after : List ℕ) (old_line new_line : ℕ) : Type 0 where
   pub nul : nul_line new_line after ≡ nul_line old_line before
-  pub past_end : length after + length (before_nul before) ≡ length before + length (before_nul after)
+  pub nul_kept : length after + length (before_nul before) ≡ length before + length (before_nul after)
   pub fits : new_line + length after ≤ old_line + length before
 
 -- whether a bracket's units end here, with a `]` or the line

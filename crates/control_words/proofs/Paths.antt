@@ -8,16 +8,16 @@ or_true : (b : Bool) → (b || true) ≡ true
 or_true true = refl
 or_true false = refl
 
-has-past_end : (front more : List ℕ) → has_byte 47 (front ++ 47 ∷ more) ≡ true
-has-past_end [] more = refl
-has-past_end (b ∷ bs) more = ap (λ (t : Bool). eqb b 47 || t) (has-past_end bs more) ∙ or_true (eqb b 47)
+has-followed : (front more : List ℕ) → has_byte 47 (front ++ 47 ∷ more) ≡ true
+has-followed [] more = refl
+has-followed (b ∷ bs) more = ap (λ (t : Bool). eqb b 47 || t) (has-followed bs more) ∙ or_true (eqb b 47)
 
-last_part-past_end : (front more : List ℕ) → last_part (front ++ 47 ∷ more) ≡ last_part more
-last_part-past_end [] more = refl
-last_part-past_end (b ∷ bs) more = rw (has-past_end (b ∷ bs) more) (last_part-past_end bs more)
+last_part-followed : (front more : List ℕ) → last_part (front ++ 47 ∷ more) ≡ last_part more
+last_part-followed [] more = refl
+last_part-followed (b ∷ bs) more = rw (has-followed (b ∷ bs) more) (last_part-followed bs more)
 
 pub last_part-slash : (path : List ℕ) (n : ℕ) → IsFirstPlace (Some n) 47 path → last_part path ≡ last_part (drop (n + 1) path)
-last_part-slash path n at = ap last_part at.2 ∙ last_part-past_end (take n path) (drop (n + 1) path)
+last_part-slash path n at = ap last_part at.2 ∙ last_part-followed (take n path) (drop (n + 1) path)
 
 pub last_part-none : (path : List ℕ) → IsFirstPlace None 47 path → last_part path ≡ path
 last_part-none [] e = refl

@@ -20,10 +20,10 @@ pub(crate) fn first_entry(text: &[u8]) -> ControlPair
     ensures action { result.action.now ≡ (first_entry text.now).entry.action }
     ensures rest { result.rest.now ≡ (first_entry text.now).rest }
 {
-    let (name, past_end) = up_to_name_end(text);
-    match after_space(past_end) {
-        [b'=', past_end @ ..] => {
-            let (action, rest) = up_to_space(after_space(past_end));
+    let (name, followed) = up_to_name_end(text);
+    match after_space(followed) {
+        [b'=', followed @ ..] => {
+            let (action, rest) = up_to_space(after_space(followed));
             ControlPair { name, action, rest }
         }
         rest => ControlPair {

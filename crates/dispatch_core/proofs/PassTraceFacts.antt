@@ -17,7 +17,7 @@ use Rattle.handler_chain.specs.declared.pass_kind.PassKind.{PassKind}
 use Rattle.handler_chain.specs.declared.pass_kind.PassKind.TheVariants as kinds
 use Rattle.handler_chain.specs.Opinion.{opening, verdict}
 use Rattle.handler_chain.specs.Pass.{Answered, PassState, Visit, answers_of, decides, is_incomplete, pass_after, pass_state, served_now, serving, visit}
-use Rattle.handler_chain.specs.Retell.{Seen, Telling, answer_told, replaying, seen_at, strays, telling}
+use Rattle.handler_chain.specs.Retell.{RecordedLine, Telling, answer_told, replaying, seen_at, strays, telling}
 use Rattle.handler_chain.specs.Route.{KeptAnswers}
 use Rattle.handler_chain.specs.Walk.{ServedAs, Walked}
 use Rattle.dispatch_core.specs.declared.walker.Walker.{Walker}
@@ -36,7 +36,7 @@ same_bytes [] = refl
 same_bytes (x ∷ xs) = ap (λ (b : Bool). b && bytes_eq xs xs) (eq-eqb x x refl) ∙ same_bytes xs
 
 -- the line of a rule returns what the trace has for it, if that is next in the trace
-own_line : (rule : Rule) (place : ℕ) (code : Code) (left : List Seen)
+own_line : (rule : Rule) (place : ℕ) (code : Code) (left : List RecordedLine)
     → answer_told rule place (seen_at place (name_of_module rule.path) code ∷ left) ≡ record { answer = code; state = telling left }
 own_line rule place code left =
     let name : List ℕ = name_of_module rule.path in
@@ -44,7 +44,7 @@ own_line rule place code left =
     let test : (nat_eq place place && bytes_eq name name) ≡ true = ap (λ (b : Bool). b && bytes_eq name name) (eq-eqb place place refl) ∙ same_bytes name in
     ap (λ (b : Bool). if b then yes else strays (seen_at place name code ∷ left)) test
 
-pub served_told : (kind : PassKind) (kept : KeptAnswers) (stack : Stack) (i : ℕ) (code : Code) (visits : List Visit) (left : List Seen) → is_incomplete code ≡ false
+pub served_told : (kind : PassKind) (kept : KeptAnswers) (stack : Stack) (i : ℕ) (code : Code) (visits : List Visit) (left : List RecordedLine) → is_incomplete code ≡ false
     → ServedAs (serving kind kept replaying (rule_at stack i) (i + 1) (pass_state [] visits (telling (seen_of (visited_at stack i code) ∷ left)))) code (decides kind kept (i + 1) code) false
     (pass_state [] (visits ++ visit (i + 1) code ∷ []) (telling left))
 served_told kind kept stack i code visits left on =
@@ -57,7 +57,7 @@ served_told kind kept stack i code visits left on =
       state_is = ap (λ (b : Bool). pass_state [] (if b then visits else visits ++ visit (i + 1) code ∷ []) (telling left)) (sym on);
     })
 
-put_off_told : (kind : PassKind) (kept : KeptAnswers) (stack : Stack) (i : ℕ) (visits : List Visit) (left : List Seen)
+put_off_told : (kind : PassKind) (kept : KeptAnswers) (stack : Stack) (i : ℕ) (visits : List Visit) (left : List RecordedLine)
     → ServedAs (serving kind kept replaying (rule_at stack i) (i + 1) (pass_state [] visits (telling (seen_of (visited_at stack i codes.Incomplete) ∷ left)))) codes.Incomplete (decides kind kept (i + 1) codes.Incomplete) true
     (pass_state [] visits (telling left))
 put_off_told kind kept stack i visits left =
@@ -67,7 +67,7 @@ put_off_told kind kept stack i visits left =
 
 seen_more : (vs ws : List Visited) → seen_in (vs ++ ws) ≡ seen_in vs ++ seen_in ws
 seen_more [] ws = refl
-seen_more (v ∷ vs) ws = ap (λ (xs : List Seen). seen_of v ∷ xs) (seen_more vs ws)
+seen_more (v ∷ vs) ws = ap (λ (xs : List RecordedLine). seen_of v ∷ xs) (seen_more vs ws)
 
 module _ (kind : PassKind) (kept : KeptAnswers) (stack : Stack) (given : List Code) (start : List Visited) where
   -- The lines that were run since the start. Whatever lines come after them, the walk from here on goes where the whole
@@ -75,7 +75,7 @@ module _ (kind : PassKind) (kept : KeptAnswers) (stack : Stack) (given : List Co
   pub record Traced (walker : Walker) (past : List Code) (visits : List Visit) (now : List Visited) : Type 0 where
     pub more : List Visited
     pub trail : now ≡ start ++ more
-    pub leads : (rest : List Seen) → walk_on kind (serving kind kept replaying) stack walker (pass_state past visits (telling rest)) ≡ pass_after kind kept replaying stack given (telling (seen_in more ++ rest))
+    pub leads : (rest : List RecordedLine) → walk_on kind (serving kind kept replaying) stack walker (pass_state past visits (telling rest)) ≡ pass_after kind kept replaying stack given (telling (seen_in more ++ rest))
 
   pub traced_first : (walker : Walker) → walker.at ≡ 0 → walker.opinion ≡ opening → ((k : ℕ) → entry_at walker.entries k ≡ opening) → Traced walker given [] start
   traced_first walker at opinion entries = record {
@@ -85,12 +85,12 @@ module _ (kind : PassKind) (kept : KeptAnswers) (stack : Stack) (given : List Co
   }
 
   -- one more line, and the walk with all of them
-  line_more : (walker : Walker) (past : List Code) (visits : List Visit) (now : List Visited) (w : Visited) (rest : List Seen) (traced : Traced walker past visits now) → past ≡ []
+  line_more : (walker : Walker) (past : List Code) (visits : List Visit) (now : List Visited) (w : Visited) (rest : List RecordedLine) (traced : Traced walker past visits now) → past ≡ []
       → walk_on kind (serving kind kept replaying) stack walker (pass_state [] visits (telling (seen_of w ∷ rest))) ≡ pass_after kind kept replaying stack given (telling (seen_in (traced.more ++ w ∷ []) ++ rest))
   line_more walker past visits now w rest traced none =
       subst (λ (cs : List Code). walk_on kind (serving kind kept replaying) stack walker (pass_state cs visits (telling (seen_of w ∷ rest))) ≡ pass_after kind kept replaying stack given (telling (seen_in traced.more ++ seen_of w ∷ rest))) none (traced.leads (seen_of w ∷ rest))
-      ∙ ap (λ (l : List Seen). pass_after kind kept replaying stack given (telling l))
-      (sym (append_assoc (seen_in traced.more) (seen_of w ∷ []) rest) ∙ ap (λ (l : List Seen). l ++ rest) (sym (seen_more traced.more (w ∷ []))))
+      ∙ ap (λ (l : List RecordedLine). pass_after kind kept replaying stack given (telling l))
+      (sym (append_assoc (seen_in traced.more) (seen_of w ∷ []) rest) ∙ ap (λ (l : List RecordedLine). l ++ rest) (sym (seen_more traced.more (w ∷ []))))
 
   trail_more : (walker : Walker) (past : List Code) (visits : List Visit) (now later : List Visited) (w : Visited) (traced : Traced walker past visits now) → later ≡ now ++ w ∷ [] → later ≡ start ++ (traced.more ++ w ∷ [])
   trail_more walker past visits now later w traced is = is ∙ ap (λ (xs : List Visited). xs ++ w ∷ []) traced.trail ∙ append_assoc start traced.more (w ∷ [])

@@ -15,7 +15,7 @@ use Rattle.handler_chain.specs.declared.pass_kind.PassKind.{PassKind}
 use Rattle.handler_chain.specs.Route.{KeptAnswers}
 use Rattle.handler_chain.specs.Walk.{halted}
 use Rattle.handler_chain.specs.Pass.{Answering, AnswersAs, Visit, answers_of, is_incomplete, pass_after, pass_state, serving, visit}
-use Rattle.handler_chain.specs.Retell.{Seen, replaying, telling}
+use Rattle.handler_chain.specs.Retell.{RecordedLine, replaying, telling}
 use Rattle.dispatch_core.specs.AnyWorld.{GoesSoundly}
 use Rattle.dispatch_core.specs.Around.{Around}
 use Rattle.dispatch_core.specs.declared.walker.Walker.{Walker}
@@ -53,12 +53,12 @@ pub record GoesBy (kind : PassKind) (kept : KeptAnswers) (stack : Stack) (code :
       → walk_on kind (serving kind kept unasked) stack old (pass_state (code ∷ rest) visits None)
       ≡ walk_on kind (serving kind kept unasked) stack new
       (pass_state rest (visits ++ visit (old.at + 1) code ∷ []) None)
-  pub again : (rest : List Code) (visits : List Visit) (left : List Seen)
+  pub again : (rest : List Code) (visits : List Visit) (left : List RecordedLine)
       → walk_on kind (serving kind kept replaying) stack old
       (pass_state (code ∷ rest) visits (telling left))
       ≡ walk_on kind (serving kind kept replaying) stack new
       (pass_state rest (visits ++ visit (old.at + 1) code ∷ []) (telling left))
-  pub told : is_incomplete code ≡ false → (visits : List Visit) (left : List Seen)
+  pub told : is_incomplete code ≡ false → (visits : List Visit) (left : List RecordedLine)
       → walk_on kind (serving kind kept replaying) stack old
       (pass_state [] visits (telling (seen_of (visited_at stack old.at code) ∷ left)))
       ≡ walk_on kind (serving kind kept replaying) stack new

@@ -14,12 +14,12 @@ use Rattle.cmd_audit.specs.declared.transcript.Transcript.{Transcript}
 use Rattle.cmd_audit.specs.declared.transcript.Transcript.TheVariants.{Whole, TooLong, Unread}
 use Rattle.explain.specs.Explained.{IsExplained, IsOutputOf, IsOutputBy, explained_by}
 use Rattle.cmd_audit.specs.Transcript.{is_unread}
-use Rattle.explain.specs.Program.{Asked, Causes, Leaves, IsOutputOfInput, IsOutputOfRead, usage_written}
+use Rattle.explain.specs.Program.{PlainTarget, Causes, Leaves, IsOutputOfInput, IsOutputOfRead, usage_written}
 
 module _ (input_before input_now before now : ℕ) where
   -- ---- of an output
 
-  other_status : (place : Asked) (k status : ℕ) → status ≡ k → k ≢ 2 → k ≢ 4 → k ≢ 5 → k ≢ 6 → Causes status (Some place) input_before input_now before now
+  other_status : (place : PlainTarget) (k status : ℕ) → status ≡ k → k ≢ 2 → k ≢ 4 → k ≢ 5 → k ≢ 6 → Causes status (Some place) input_before input_now before now
   other_status place k status is not2 not4 not5 not6 = record {
     usage = λ none. absurd cc;
     no_usage = λ two. absurd (not2 (sym is ∙ two));
@@ -28,7 +28,7 @@ module _ (input_before input_now before now : ℕ) where
     unwritten = λ six. not6 (sym is ∙ six);
   }
 
-  unread_status : (place : Asked) (status : ℕ) → status ≡ 5 → Rose input_before input_now ⊎ Rose before now
+  unread_status : (place : PlainTarget) (status : ℕ) → status ≡ 5 → Rose input_before input_now ⊎ Rose before now
       → Causes status (Some place) input_before input_now before now
   unread_status place status is cause = record {
     usage = λ none. absurd cc;
@@ -47,47 +47,47 @@ module _ (input_before input_now before now : ℕ) where
     unwritten = λ six. omega (arith, is, six);
   }
 
-  explained_status : (place : Asked) (status : ℕ) (line : Option ℕ) (text : List ℕ) → status ≡ (explained_by line text).status
+  explained_status : (place : PlainTarget) (status : ℕ) (line : Option ℕ) (text : List ℕ) → status ≡ (explained_by line text).status
       → Causes status (Some place) input_before input_now before now
   explained_status place status None text is = other_status place 0 status is (λ e. omega (arith, e)) (λ e. omega (arith, e)) (λ e. omega (arith, e))
       (λ e. omega (arith, e))
   explained_status place status (Some line) text is = other_status place 11 status is (λ e. omega (arith, e)) (λ e. omega (arith, e)) (λ e. omega (arith, e))
       (λ e. omega (arith, e))
 
-  stacks_status : (place : Asked) (e : Output) (text : List ℕ) (stacks : Stacks) → IsOutputBy e stacks text before now
+  stacks_status : (place : PlainTarget) (e : Output) (text : List ℕ) (stacks : Stacks) → IsOutputBy e stacks text before now
       → Causes e.status (Some place) input_before input_now before now
   stacks_status place e text stacks (inl by) =
       explained_status place e.status (differs stacks (lines_read read_line text)) (explained_from stacks by.sources all_shut [] (bare_lines text))
       by.explained.status
   stacks_status place e text stacks (inr failure) = unread_status place e.status failure.nothing.status (inr failure.failed)
 
-  shown_status : (place : Asked) (e : Output) (text : List ℕ) → IsOutputOf e text before now → Causes e.status (Some place) input_before input_now before now
+  shown_status : (place : PlainTarget) (e : Output) (text : List ℕ) → IsOutputOf e text before now → Causes e.status (Some place) input_before input_now before now
   shown_status place e text (inl by) = stacks_status place e text by.0 by.1
   shown_status place e text (inr fault) =
       other_status place 3 e.status fault.refused.status (λ e. omega (arith, e)) (λ e. omega (arith, e)) (λ e. omega (arith, e)) (λ e. omega (arith, e))
 
-  read_status : (place : Asked) (e : Output) (report : Transcript) → RisesIf (is_unread report) input_before input_now → IsOutputOfRead e report before now
+  read_status : (place : PlainTarget) (e : Output) (report : Transcript) → RisesIf (is_unread report) input_before input_now → IsOutputOfRead e report before now
       → Causes e.status (Some place) input_before input_now before now
   read_status place e (Whole text) rises shown = shown_status place e text shown
   read_status place e TooLong rises shown =
       other_status place 12 e.status shown.0.status (λ e. omega (arith, e)) (λ e. omega (arith, e)) (λ e. omega (arith, e)) (λ e. omega (arith, e))
   read_status place e Unread rises shown = unread_status place e.status shown.0.status (inl rises)
 
-  pub asked_causes : {E : Type 0} (r : Result Output E) (words : Option Asked) (place : Asked) → Some place ≡ words
+  pub asked_causes : {E : Type 0} (r : Result Output E) (words : Option PlainTarget) (place : PlainTarget) → Some place ≡ words
       → IfOk r (λ e. IsOutputOfInput e input_before input_now before now) → IfOk r (λ e. Causes e.status words input_before input_now before now)
   asked_causes (Ok e) words place is shows =
-      subst (λ (o : Option Asked). Causes e.status o input_before input_now before now) is (read_status place e shows.report shows.read shows.shown)
+      subst (λ (o : Option PlainTarget). Causes e.status o input_before input_now before now) is (read_status place e shows.report shows.read shows.shown)
   asked_causes (Err x) words place is shows = tt
 
-  pub usage_causes : {E : Type 0} (r : Result Output E) (words : Option Asked) → None ≡ words → IfOk r (λ e. IsExplained e usage_written)
+  pub usage_causes : {E : Type 0} (r : Result Output E) (words : Option PlainTarget) → None ≡ words → IfOk r (λ e. IsExplained e usage_written)
       → IfOk r (λ e. Causes e.status words input_before input_now before now)
   usage_causes (Ok e) words none is =
-      subst (λ (o : Option Asked). Causes e.status o input_before input_now before now) none (usage_status e.status is.status)
+      subst (λ (o : Option PlainTarget). Causes e.status o input_before input_now before now) none (usage_status e.status is.status)
   usage_causes (Err x) words none is = tt
 
   -- ---- of the program, whose output has this status
 
-  module _ (result given : ℕ) (words : Option Asked) (out_before out_now : ℕ) where
+  module _ (result given : ℕ) (words : Option PlainTarget) (out_before out_now : ℕ) where
     pub by_usage : Leaves result given out_before out_now → Causes given words input_before input_now before now → words ≡ None
         → (result ≡ 2) ⊎ ((result ≡ 4) ⊎ (result ≡ 6))
     by_usage (inl same) causes none = inl (same.0 ∙ causes.usage none)

@@ -12,7 +12,7 @@ ghost use Rattle.explain_calls.specs.Calls.{call_after_text, call_text, change_t
 
 use crate::runs::{Run, rows_of};
 use explain_lines::{Sources, write_run};
-use handler_chain::{PassKind, Seen};
+use handler_chain::{PassKind, RecordedLine};
 use pam_base::{Code, Func, NoMemory};
 use pass_replay::answers::Answers;
 use pass_replay::held::Held;
@@ -31,7 +31,7 @@ pub fn write_call(
     number: u32,
     func: Func,
     held: &Held,
-    told: &[Option<Seen>],
+    told: &[Option<RecordedLine>],
 ) -> Result<(), NoMemory>
     requires bounded { AreBounded trees.now }
     ensures { OnOk result (string_bytes text.new ≡ string_bytes text.old
@@ -68,7 +68,7 @@ struct Call<'a> {
     // What is held when it begins.
     held: &'a Held,
     // The recorded lines of its block.
-    told: &'a [Option<Seen>],
+    told: &'a [Option<RecordedLine>],
     // The codes of its earlier calls.
     past: &'a [Code],
 }

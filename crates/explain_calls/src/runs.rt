@@ -8,7 +8,7 @@ ghost use Rattle.explain_calls.specs.Rows.{pass_rows};
 use crate::walk::walk_nodes;
 use control_words::Nodes;
 use explain_lines::{Fate, Rows};
-use handler_chain::{Opinion, PassKind, Seen};
+use handler_chain::{Opinion, PassKind, RecordedLine};
 use pam_base::{Code, NoMemory};
 use pass_replay::answers::Answers;
 use pass_replay::replay::begun;
@@ -23,7 +23,7 @@ pub struct Run<'a> {
     /// The codes of its call's earlier calls.
     pub past: &'a [Code],
     /// The recorded lines.
-    pub told: &'a [Option<Seen>],
+    pub told: &'a [Option<RecordedLine>],
 }
 
 /// The rows of a run of a stack, from a recorded line on.

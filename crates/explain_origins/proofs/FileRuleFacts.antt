@@ -7,7 +7,7 @@ use Rattle.control_words.specs.conf_lex.specs.declared.token.Token.{Token}
 use Rattle.explain_lines.specs.declared.origin.Origin.{Origin}
 use Rattle.explain_origins.specs.declared.step.Step.{Step}
 use Rattle.explain_origins.specs.declared.step.Step.TheVariants.{Nothing, Line, File}
-use Rattle.explain_origins.specs.Placed.{Placed, nothing, rule_at, within, past_end, is_nothing, places, content_placed, entry_placed, placed_of, placed}
+use Rattle.explain_origins.specs.Placed.{Placed, nothing, rule_at, within, appended, is_nothing, places, content_placed, entry_placed, placed_of, placed}
 use Rattle.pam_base.specs.declared.fault.NoMemory.{NoMemory}
 use Rattle.explain_origins.specs.declared.files.Inclusion.{Inclusion}
 use Rattle.explain_origins.specs.Reading.{Adds, Takes, placed_at, step_at, step_by, step_of_rules}
@@ -21,15 +21,15 @@ use Rattle.service_load.specs.Files.{plain_file, held, rules_held, own_rule, own
 use Rattle.service_load.specs.RuleType.{is_word}
 use Rattle.service_load.specs.Tree.{serves}
 
-pub places-past_end : (a b : Placed) → places (past_end a b) ≡ places a ++ places b
-places-past_end nothing b = refl
-places-past_end (rule_at origin rule rest) b = ap (λ (os : List Origin). origin ∷ os) (places-past_end rest b)
-places-past_end (within inner rest) b = ap (λ (os : List Origin). places inner ++ os) (places-past_end rest b) ∙ sym (append_assoc (places inner) (places rest) (places b))
+pub places-appended : (a b : Placed) → places (appended a b) ≡ places a ++ places b
+places-appended nothing b = refl
+places-appended (rule_at origin rule rest) b = ap (λ (os : List Origin). origin ∷ os) (places-appended rest b)
+places-appended (within inner rest) b = ap (λ (os : List Origin). places inner ++ os) (places-appended rest b) ∙ sym (append_assoc (places inner) (places rest) (places b))
 
-is_nothing-past_end : (a b : Placed) → is_nothing (past_end a b) ≡ is_nothing a && is_nothing b
-is_nothing-past_end nothing b = refl
-is_nothing-past_end (rule_at origin rule rest) b = refl
-is_nothing-past_end (within inner rest) b = refl
+is_nothing-appended : (a b : Placed) → is_nothing (appended a b) ≡ is_nothing a && is_nothing b
+is_nothing-appended nothing b = refl
+is_nothing-appended (rule_at origin rule rest) b = refl
+is_nothing-appended (within inner rest) b = refl
 
 pub nothing_there : (p : Placed) → is_nothing p ≡ true → places p ≡ []
 nothing_there nothing is = refl
@@ -94,14 +94,14 @@ module _ (deeper : List ℕ → Placed) (type : RuleType) (name : List ℕ) wher
   rule_places : (in_directory : Bool) (rule : RawRule) (rest : List RawRule) (said : Result ConfigEntry FaultKind) → entry_of in_directory rule ≡ said
       → places (of_rules in_directory (rule ∷ rest)) ≡ places_by (step_by type said) ++ places (of_rules in_directory rest)
   rule_places in_directory rule rest (Ok e) is =
-      rw is (places-past_end (entry_placed deeper type name e) (of_rules in_directory rest)
+      rw is (places-appended (entry_placed deeper type name e) (of_rules in_directory rest)
       ∙ ap (λ (os : List Origin). os ++ places (of_rules in_directory rest)) (if_places (serves type e.rule_type) (content_placed deeper name e.line e.content) (step_at e.line e.content) (content_places e.line e.content)))
   rule_places in_directory rule rest (Err kind) is = rw is refl
 
   rule_nothing : (in_directory : Bool) (rule : RawRule) (rest : List RawRule) (said : Result ConfigEntry FaultKind) → entry_of in_directory rule ≡ said
       → is_nothing (of_rules in_directory (rule ∷ rest)) ≡ nothing_by (step_by type said) && is_nothing (of_rules in_directory rest)
   rule_nothing in_directory rule rest (Ok e) is =
-      rw is (is_nothing-past_end (entry_placed deeper type name e) (of_rules in_directory rest)
+      rw is (is_nothing-appended (entry_placed deeper type name e) (of_rules in_directory rest)
       ∙ ap (λ (b : Bool). b && is_nothing (of_rules in_directory rest)) (if_nothing (serves type e.rule_type) (content_placed deeper name e.line e.content) (step_at e.line e.content) (content_nothing e.line e.content)))
   rule_nothing in_directory rule rest (Err kind) is = rw is refl
 

@@ -2,7 +2,7 @@
 use Rattle.std.proofs.Common.{◌≡◌, ℕ, zero, suc, ◌+◌, Bool, true, false, cond, eqb, List, [], ◌∷◌, length, length-append, Option, refl, ap, ◌∙◌, arith}
 use Rattle.std.proofs.lemmas.Bool.{eqb-true}
 use Rattle.control_words.specs.Stack.{Stack, none, line, sub, joined, count, lines_in}
-use Rattle.explain_origins.specs.Placed.{Placed, nothing, rule_at, within, past_end, is_nothing, forgotten, places, content_placed, entry_placed, placed_of, placed, placed_from}
+use Rattle.explain_origins.specs.Placed.{Placed, nothing, rule_at, within, appended, is_nothing, forgotten, places, content_placed, entry_placed, placed_of, placed, placed_from}
 use Rattle.service_load.specs.declared.entry.RuleContent.{RuleContent}
 use Rattle.service_load.specs.declared.entry.RuleContent.TheVariants.{Line, Include, Substack}
 use Rattle.service_load.specs.declared.entry.ConfigEntry.{ConfigEntry}
@@ -11,10 +11,10 @@ use Rattle.service_load.specs.declared.rule_type.RuleType.{RuleType}
 use Rattle.service_load.specs.Files.{plain_file, held, rules_held, entries_of, is_in_directory}
 use Rattle.service_load.specs.Tree.{serves, content_nodes, entry_nodes, nodes_of, nodes, tree_from, tree_of}
 
-pub forgotten-past_end : (a b : Placed) → forgotten (past_end a b) ≡ joined (forgotten a) (forgotten b)
-forgotten-past_end nothing b = refl
-forgotten-past_end (rule_at origin rule rest) b = ap (line rule) (forgotten-past_end rest b)
-forgotten-past_end (within inner rest) b = ap (sub (forgotten inner)) (forgotten-past_end rest b)
+pub forgotten-appended : (a b : Placed) → forgotten (appended a b) ≡ joined (forgotten a) (forgotten b)
+forgotten-appended nothing b = refl
+forgotten-appended (rule_at origin rule rest) b = ap (line rule) (forgotten-appended rest b)
+forgotten-appended (within inner rest) b = ap (sub (forgotten inner)) (forgotten-appended rest b)
 
 -- each line has one place
 pub places_each : (p : Placed) → length (places p) ≡ lines_in (forgotten p)
@@ -54,7 +54,7 @@ module _ (deeper : List ℕ → Placed) (stack : List ℕ → Stack) (same : (na
   all_forgotten : (type : RuleType) (name : List ℕ) (entries : List ConfigEntry) → forgotten (placed_of deeper type name entries) ≡ nodes_of stack type entries
   all_forgotten type name [] = refl
   all_forgotten type name (e ∷ es) =
-      forgotten-past_end (entry_placed deeper type name e) (placed_of deeper type name es)
+      forgotten-appended (entry_placed deeper type name e) (placed_of deeper type name es)
       ∙ ap (λ (s : Stack). joined s (forgotten (placed_of deeper type name es))) (entry_forgotten type name e)
       ∙ ap (joined (entry_nodes stack type e)) (all_forgotten type name es)
 

@@ -21,10 +21,10 @@ pub data Placed : Type 0 where
   within : Placed → Placed → Placed
 
 -- one list after another
-abbrev pub past_end : Placed → Placed → Placed
-past_end nothing more = more
-past_end (rule_at origin rule rest) more = rule_at origin rule (past_end rest more)
-past_end (within inner rest) more = within inner (past_end rest more)
+abbrev pub appended : Placed → Placed → Placed
+appended nothing more = more
+appended (rule_at origin rule rest) more = rule_at origin rule (appended rest more)
+appended (within inner rest) more = within inner (appended rest more)
 
 abbrev pub is_nothing : Placed → Bool
 is_nothing nothing = true
@@ -59,7 +59,7 @@ entry_placed deeper type name entry = if serves type entry.rule_type
 abbrev pub placed_of : (List ℕ → Placed) → RuleType → List ℕ → List ConfigEntry → Placed
 placed_of deeper type name [] = nothing
 placed_of deeper type name (e ∷ es) =
-    past_end (entry_placed deeper type name e) (placed_of deeper type name es)
+    appended (entry_placed deeper type name e) (placed_of deeper type name es)
 
 -- the list of a service, or that of `other` if it is empty
 abbrev pub placed_if : Placed → Placed → Placed

@@ -8,11 +8,11 @@ use Rattle.std.proofs.lemmas.Option.{slice_get-map}
 use Rattle.pam_base.specs.declared.code.Code.{Code}
 use Rattle.pam_base.specs.declared.call.Func.{Func}
 use Rattle.service_load.specs.Stacks.{Stacks}
-use Rattle.handler_chain.specs.Retell.{telling, Seen as Visit}
+use Rattle.handler_chain.specs.Retell.{telling, RecordedLine as Visit}
 use Rattle.pass_replay.specs.dispatch_core.specs.Calls.{Held}
 use Rattle.pass_replay.specs.Told.{visits_in}
-use Rattle.handler_chain.specs.declared.seen.Seen.{Seen}
-use Rattle.report_lines.specs.Line.{Told, Result, block_of}
+use Rattle.handler_chain.specs.declared.seen.RecordedLine.{RecordedLine}
+use Rattle.report_lines.specs.Line.{ToldLine, Result, block_of}
 use Rattle.report_lines.specs.declared.form.Form.{Form}
 use Rattle.report_lines.specs.declared.form.Form.TheVariants as forms
 use Rattle.report_lines.specs.declared.form.ReportedOutcome.{ReportedOutcome}
@@ -31,24 +31,24 @@ use Rattle.explain_report.specs.Report.{Takes, block_text, called_text, explaine
 
 module _ (stacks : Stacks) (sources : Sources) where
   -- a line before the result
-  pub told_more : (places : List SlotLog) (told more : List (Option Seen)) (visit : Option Seen) (lines : List (Option Says)) → more ≡ told ++ visit ∷ []
+  pub told_more : (places : List SlotLog) (told more : List (Option RecordedLine)) (visit : Option RecordedLine) (lines : List (Option Says)) → more ≡ told ++ visit ∷ []
       → explained_from stacks sources places (told_in told ++ told_of visit ∷ []) lines ≡ explained_from stacks sources places (told_in more) lines
   told_more places told more visit lines is =
-      ap (λ (ts : List Told). explained_from stacks sources places ts lines) (sym (map-append told_of told (visit ∷ [])) ∙ ap told_in (sym is))
+      ap (λ (ts : List ToldLine). explained_from stacks sources places ts lines) (sym (map-append told_of told (visit ∷ [])) ∙ ap told_in (sym is))
 
   -- a result that fits
-  pub result_fits : (number : ℕ) (places past_end : List SlotLog) (told : List Told) (result : Result) (text after : List ℕ) (lines : List (Option Says))
+  pub result_fits : (number : ℕ) (places new_logs : List SlotLog) (told : List ToldLine) (result : Result) (text after : List ℕ) (lines : List (Option Says))
       → after ≡ text ++ block_text stacks sources number (place_at places number) (visits_told told) result
-      → after_block stacks places (block_of number told result) ≡ Some past_end
-      → text ++ explained_from stacks sources places told (Some (results number result) ∷ lines) ≡ after ++ explained_from stacks sources past_end [] lines
-  result_fits number places past_end told result text after lines adds fits =
+      → after_block stacks places (block_of number told result) ≡ Some new_logs
+      → text ++ explained_from stacks sources places told (Some (results number result) ∷ lines) ≡ after ++ explained_from stacks sources new_logs [] lines
+  result_fits number places new_logs told result text after lines adds fits =
       let own : List ℕ = block_text stacks sources number (place_at places number) (visits_told told) result in
       let left : List SlotLog → List ℕ = λ next. explained_from stacks sources next [] lines in
       ap (λ (next : Option (List SlotLog)). text ++ (own ++ text_after stacks sources next left)) fits
-      ∙ sym (append_assoc text own (left past_end)) ∙ ap (λ (xs : List ℕ). xs ++ left past_end) (sym adds)
+      ∙ sym (append_assoc text own (left new_logs)) ∙ ap (λ (xs : List ℕ). xs ++ left new_logs) (sym adds)
 
   -- a result that doesn't
-  pub result_differs : (number : ℕ) (places : List SlotLog) (told : List Told) (result : Result) (text after : List ℕ) (lines : List (Option Says))
+  pub result_differs : (number : ℕ) (places : List SlotLog) (told : List ToldLine) (result : Result) (text after : List ℕ) (lines : List (Option Says))
       → after ≡ text ++ block_text stacks sources number (place_at places number) (visits_told told) result
       → after_block stacks places (block_of number told result) ≡ None
       → text ++ explained_from stacks sources places told (Some (results number result) ∷ lines) ≡ after
@@ -60,7 +60,7 @@ module _ (stacks : Stacks) (sources : Sources) where
 
   -- ---- what is left to write
 
-  pub takes_told : (old new : Explainer) (form : Option Form) (line : Option Says) (number : ℕ) (visit : Option Seen) → option_map says_of form ≡ line
+  pub takes_told : (old new : Explainer) (form : Option Form) (line : Option Says) (number : ℕ) (visit : Option RecordedLine) → option_map says_of form ≡ line
       → form ≡ Some (forms.Told number visit)
       → string_bytes new.text ≡ string_bytes old.text → new.places.items ≡ old.places.items → new.told.items ≡ old.told.items ++ visit ∷ []
       → Takes stacks sources old line true new
@@ -94,7 +94,7 @@ module _ (stacks : Stacks) (sources : Sources) where
   takes_fits old new number outcome adds fits none = λ lines.
       result_fits number (map place_of old.places.items) (map place_of new.places.items) (told_in old.told.items) (result_of outcome) (string_bytes old.text)
       (string_bytes new.text) lines adds fits
-      ∙ ap (λ (ts : List (Option Seen)). string_bytes new.text ++ explained_from stacks sources (map place_of new.places.items) (told_in ts) lines) (sym none)
+      ∙ ap (λ (ts : List (Option RecordedLine)). string_bytes new.text ++ explained_from stacks sources (map place_of new.places.items) (told_in ts) lines) (sym none)
 
   pub takes_differs : (old new : Explainer) (number : ℕ) (outcome : ReportedOutcome)
       → string_bytes new.text ≡ string_bytes old.text ++ block_text stacks sources number (place_at (map place_of old.places.items) number)
@@ -111,7 +111,7 @@ module _ (stacks : Stacks) (sources : Sources) where
       → refused_text number ≡ called_text stacks sources number func code h vs
   call_refused number func code h vs is = ap (λ (b : Bool). if b then refused_text number else call_text stacks sources number func h (telling vs)) (sym is)
 
-  pub call_goes : (number : ℕ) (func : Func) (code : Code) (h : Held) (told : List (Option Seen))
+  pub call_goes : (number : ℕ) (func : Func) (code : Code) (h : Held) (told : List (Option RecordedLine))
       → is_refused_change func code (visits_told (told_in told)) ≡ false
       → call_text stacks sources number func h (telling (visits_in told)) ≡ called_text stacks sources number func code h (visits_told (told_in told))
   call_goes number func code h told is =

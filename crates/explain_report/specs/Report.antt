@@ -4,9 +4,9 @@ use Rattle.std.specs.Prelude.{◌≡◌, ℕ, if◌then◌else◌, Bool, true, f
 use Rattle.pam_base.specs.declared.code.Code.{Code}
 use Rattle.pam_base.specs.declared.call.Func.{Func}
 use Rattle.service_load.specs.Stacks.{Stacks}
-use Rattle.handler_chain.specs.Retell.{Seen, telling}
+use Rattle.handler_chain.specs.Retell.{RecordedLine, telling}
 use Rattle.pass_replay.specs.dispatch_core.specs.Calls.{Held}
-use Rattle.report_lines.specs.Line.{Told, shows_code, runs, Result, answered, closed_by_program, block_of}
+use Rattle.report_lines.specs.Line.{ToldLine, shows_code, runs, Result, answered, closed_by_program, block_of}
 use Rattle.report_lines.specs.Says.{Says, tells, results, lasts}
 use Rattle.session_audit.specs.Checked.{told_in, place_of}
 use Rattle.session_audit.specs.Fits.{SlotLog, shut, running, place_at, visits_told, is_refused_change, after_block}
@@ -16,13 +16,13 @@ use Rattle.explain_calls.specs.Calls.{call_text, refused_text}
 
 module _ (stacks : Stacks) (sources : Sources) where
   -- a stack call of a transaction, with its code
-  abbrev pub called_text : ℕ → Func → Code → Held → List Seen → List ℕ
+  abbrev pub called_text : ℕ → Func → Code → Held → List RecordedLine → List ℕ
   called_text number func code h vs =
       if is_refused_change func code vs then refused_text number
       else call_text stacks sources number func h (telling vs)
 
   -- a block; only a stack call with a code of an open transaction has a text
-  abbrev pub block_text : ℕ → Option SlotLog → List Seen → Result → List ℕ
+  abbrev pub block_text : ℕ → Option SlotLog → List RecordedLine → Result → List ℕ
   block_text number (Some (running h)) vs (answered (runs func) (shows_code code)) =
       called_text number func code h vs
   block_text number place vs result = []
@@ -32,7 +32,7 @@ module _ (stacks : Stacks) (sources : Sources) where
   text_after (Some places) next = next places
 
   -- the text of some lines, after these slots and the lines of the block that has begun
-  abbrev pub explained_from : List SlotLog → List Told → List (Option Says) → List ℕ
+  abbrev pub explained_from : List SlotLog → List ToldLine → List (Option Says) → List ℕ
   explained_from places told [] = []
   explained_from places told (None ∷ lines) = []
   explained_from places told (Some (lasts last) ∷ lines) = []
@@ -41,7 +41,7 @@ module _ (stacks : Stacks) (sources : Sources) where
   explained_from places told (Some (results number result) ∷ lines) =
       block_text number (place_at places number) (visits_told told) result
       ++ text_after (after_block stacks places (block_of number told result))
-      (λ past_end. explained_from past_end [] lines)
+      (λ new_logs. explained_from new_logs [] lines)
 
   -- what an explainer still has to write for some lines
   abbrev pub left_of : Explainer → List (Option Says) → List ℕ

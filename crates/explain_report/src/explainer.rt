@@ -12,7 +12,7 @@ ghost use Rattle.explain_report.specs.Report.{Takes, block_text, called_text};
 
 use explain_calls::{write_call, write_refused};
 use explain_lines::Sources;
-use handler_chain::Seen;
+use handler_chain::RecordedLine;
 use pam_base::{CallName, Code, Func, NoMemory};
 use pass_replay::held::Held;
 use report_lines::{Form, ReportedAnswer, ReportedOutcome, read_line};
@@ -25,7 +25,7 @@ use std::alloc::Global;
 #[derive(Drop)]
 pub struct Explainer {
     pub places: Vec<SlotLog>,
-    pub told: Vec<Option<Seen>>,
+    pub told: Vec<Option<RecordedLine>>,
     pub text: String,
 }
 
@@ -91,7 +91,7 @@ pub struct Block<'a> {
     pub trees: &'a Trees,
     pub sources: &'a Sources,
     pub number: u32,
-    pub told: &'a [Option<Seen>],
+    pub told: &'a [Option<RecordedLine>],
     pub outcome: ReportedOutcome,
 }
 

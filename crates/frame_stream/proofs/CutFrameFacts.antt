@@ -140,10 +140,10 @@ module _ (settles : FirstFrameSettles) where
     refused_run n c bytes item ended k e s = ap (run_items (step_at answers) n c) e ∙ ap (λ r. after n c r (λ d. come_to [] d (n + 1) None)) s
 
     -- the first frame is complete
-    pub whole_run : (n : ℕ) (c : State) (bytes item past_end : List ℕ) (ended : Bool) → looked n bytes ended ≡ item ∷ looked (n + 1) past_end ended
-        → run_of looked (step_at answers) n c bytes ended ≡ after n c (step_at answers n c item) (λ d. run_of looked (step_at answers) (n + 1) d past_end ended)
+    pub whole_run : (n : ℕ) (c : State) (bytes item followed : List ℕ) (ended : Bool) → looked n bytes ended ≡ item ∷ looked (n + 1) followed ended
+        → run_of looked (step_at answers) n c bytes ended ≡ after n c (step_at answers n c item) (λ d. run_of looked (step_at answers) (n + 1) d followed ended)
     unfolding run_of run_items
-    whole_run n c bytes item past_end ended e = ap (run_items (step_at answers) n c) e
+    whole_run n c bytes item followed ended e = ap (run_items (step_at answers) n c) e
 
     none_run : (n : ℕ) (c : State) (bytes : List ℕ) (kind : FrameFault) → looked n bytes false ≡ [] → (run_of looked (step_at answers) n c bytes false).refused ≡ Some kind → ⊥
     unfolding run_of run_items
@@ -162,16 +162,16 @@ module _ (settles : FirstFrameSettles) where
         → ((size : ℕ) (d : State) → 4 ≤ size → (run_of looked (step_at answers) (n + 1) d (drop size taken) false).refused ≡ Some kind
         → run_of looked (step_at answers) (n + 1) d (drop size taken ++ more) ended ≡ run_of looked (step_at answers) (n + 1) d (drop size taken) false)
         → run_of looked (step_at answers) n c (taken ++ more) ended ≡ run_of looked (step_at answers) n c taken false
-    stay_front n c taken more ended kind Open lt some e r past_end = absurd (none_run n c taken kind (looked-open n taken false lt e some) r)
-    stay_front n c taken more ended kind OutOfRange lt some e r past_end =
+    stay_front n c taken more ended kind Open lt some e r followed = absurd (none_run n c taken kind (looked-open n taken false lt e some) r)
+    stay_front n c taken more ended kind OutOfRange lt some e r followed =
         let o = (out_of taken more e).1 in
         refused_run n c (taken ++ more) _ ended BadFrame (looked-out n (taken ++ more) ended lt o) (step-bad n c (taken ++ more) lt (ap (λ (f : FirstFrame). step_by f (taken ++ more)) o))
         ∙ sym (refused_run n c taken _ false BadFrame (looked-out n taken false lt e) (step-bad n c taken lt (ap (λ (f : FirstFrame). step_by f taken) e)))
-    stay_front n c taken more ended kind (Whole size) lt some e r past_end =
+    stay_front n c taken more ended kind (Whole size) lt some e r followed =
         let i = frame_front n taken size lt e in
         let first = whole_run n c taken (take size taken) (drop size taken) false (looked-whole n taken size false lt e) in
         whole_run n c (taken ++ more) (take size taken) (drop size taken ++ more) ended (i.seen more ended)
-        ∙ after_refused n c (step_at answers n c (take size taken)) _ _ kind (λ x q. past_end size x (whole_of taken size e).some q) (sym (ap (λ (z : Run State FrameFault). z.refused) first) ∙ r)
+        ∙ after_refused n c (step_at answers n c (take size taken)) _ _ kind (λ x q. followed size x (whole_of taken size e).some q) (sym (ap (λ (z : Run State FrameFault). z.refused) first) ∙ r)
         ∙ sym first
 
     stay : (most n : ℕ) (c : State) (taken more : List ℕ) (ended : Bool) (kind : FrameFault) → length taken ≤ most → (run_of looked (step_at answers) n c taken false).refused ≡ Some kind

@@ -126,7 +126,7 @@ module _ (settles : FirstFrameSettles) (reads : ReadsTable) (opens : OpensByTabl
         record {
           frames = record { framed = tt; parts = refl };
           few = omega (arith, le);
-          past_end = subst (λ (j : ℕ). IsPast j bytes ended fault) k h;
+          followed = subst (λ (j : ℕ). IsPast j bytes ended fault) k h;
         },
       )
 
@@ -142,7 +142,7 @@ module _ (settles : FirstFrameSettles) (reads : ReadsTable) (opens : OpensByTabl
             parts = c.parts ∙ ap (λ (z : List ℕ). frame_of step ++ z) sp.frames.parts ∙ sym (append_assoc (frame_of step) (frames_of steps) rest);
           };
           few = omega (arith, sp.few);
-          past_end = subst (λ (j : ℕ). IsPast j rest ended fault) k sp.past_end;
+          followed = subst (λ (j : ℕ). IsPast j rest ended fault) k sp.followed;
         },
       )
 
@@ -243,7 +243,7 @@ module _ (settles : FirstFrameSettles) (reads : ReadsTable) (opens : OpensByTabl
         → run_of looked (step_at answers) n s bytes ended ≡ come_to (answers_to answers n s steps) (state_past answers n s steps) (n + length steps) fault
     run_steps [] n s bytes ended rest fault all sp =
         ap (λ (z : List ℕ). run_of looked (step_at answers) n s z ended) sp.frames.parts
-        ∙ last_run n (n + length {A = Step} []) s rest ended fault (omega arith) (All-same (λ b. b < 256) rest bytes (sym sp.frames.parts) all) sp.past_end
+        ∙ last_run n (n + length {A = Step} []) s rest ended fault (omega arith) (All-same (λ b. b < 256) rest bytes (sym sp.frames.parts) all) sp.followed
     run_steps (step ∷ steps) n s bytes ended rest fault all sp =
         let more = frames_of steps ++ rest in
         let parts : bytes ≡ frame_of step ++ more = sp.frames.parts ∙ append_assoc (frame_of step) (frames_of steps) rest in
@@ -253,7 +253,7 @@ module _ (settles : FirstFrameSettles) (reads : ReadsTable) (opens : OpensByTabl
         let ok : step_at answers n s (frame_of step) ≡ Ok (answers n s step) = step-ok n s (frame_of step) step lt ((reads (frame_of step) step).0 (record { within = has; bytes_are = refl })) in
         let k : n + length (step ∷ steps) ≡ (n + 1) + length steps = omega arith in
         let next = run_steps steps (n + 1) (answers n s step).0 more ended rest fault (bytes_after bytes step more parts all)
-        (record { frames = record { framed = sp.frames.framed.1; parts = refl }; few = omega (arith, sp.few); past_end = subst (λ (j : ℕ). IsPast j rest ended fault) k sp.past_end }) in
+        (record { frames = record { framed = sp.frames.framed.1; parts = refl }; few = omega (arith, sp.few); followed = subst (λ (j : ℕ). IsPast j rest ended fault) k sp.followed }) in
         whole_run settles answers n s bytes (frame_of step) more ended seen
         ∙ ap (λ (r : Result (State × List ℕ) FrameFault). after n s r (λ d. run_of looked (step_at answers) (n + 1) d more ended)) ok
         ∙ ap (with_text (answers n s step).1) next
@@ -324,9 +324,9 @@ module _ (settles : FirstFrameSettles) (reads : ReadsTable) (opens : OpensByTabl
         ap (λ (x : State). come_to r.text x r.items r.refused) a ∙ ap (λ (x : ℕ). come_to r.text t x r.refused) b ∙ ap (λ (x : Option FrameFault). come_to r.text t m x) c
 
     -- the first one, and those after it
-    front_more : (n m : ℕ) (s t : State) (bytes item : List ℕ) (ended : Bool) (step : Step) (more : List ℕ) (items past_end : List (List ℕ)) (text others : List ℕ) → item ≡ frame_of step → IsCut bytes step more → text ≡ (answers n s step).1 ++ others
-        → PrefixIsOfSteps answers (n + 1) m (answers n s step).0 t more ended items past_end others → PrefixIsOfSteps answers n m s t bytes ended (item ∷ items) past_end text
-    front_more n m s t bytes item ended step more items past_end text others i c e f = record {
+    front_more : (n m : ℕ) (s t : State) (bytes item : List ℕ) (ended : Bool) (step : Step) (more : List ℕ) (items followed : List (List ℕ)) (text others : List ℕ) → item ≡ frame_of step → IsCut bytes step more → text ≡ (answers n s step).1 ++ others
+        → PrefixIsOfSteps answers (n + 1) m (answers n s step).0 t more ended items followed others → PrefixIsOfSteps answers n m s t bytes ended (item ∷ items) followed text
+    front_more n m s t bytes item ended step more items followed text others i c e f = record {
       steps = step ∷ f.steps;
       rest = f.rest;
       frames = record {
@@ -342,30 +342,30 @@ module _ (settles : FirstFrameSettles) (reads : ReadsTable) (opens : OpensByTabl
     }
 
     abbrev Served : List (List ℕ) → Type 0
-    Served items = (n m : ℕ) (s t : State) (bytes : List ℕ) (ended : Bool) (past_end : List (List ℕ)) (text : List ℕ) → n ≤ 65536 → AreBytes bytes → looked n bytes ended ≡ items ++ past_end
-        → run_items (step_at answers) n s items ≡ come_to text t m None → PrefixIsOfSteps answers n m s t bytes ended items past_end text
+    Served items = (n m : ℕ) (s t : State) (bytes : List ℕ) (ended : Bool) (followed : List (List ℕ)) (text : List ℕ) → n ≤ 65536 → AreBytes bytes → looked n bytes ended ≡ items ++ followed
+        → run_items (step_at answers) n s items ≡ come_to text t m None → PrefixIsOfSteps answers n m s t bytes ended items followed text
 
-    served_by : (items : List (List ℕ)) → Served items → (n m : ℕ) (s t : State) (bytes item : List ℕ) (ended : Bool) (past_end : List (List ℕ)) (text : List ℕ) (r : Result (State × List ℕ) FrameFault)
-        → AreBytes bytes → looked n bytes ended ≡ item ∷ (items ++ past_end) → step_at answers n s item ≡ r → after n s r (λ d. run_items (step_at answers) (n + 1) d items) ≡ come_to text t m None
-        → PrefixIsOfSteps answers n m s t bytes ended (item ∷ items) past_end text
-    served_by items next n m s t bytes item ended past_end text (Err kind) all seen is e =
+    served_by : (items : List (List ℕ)) → Served items → (n m : ℕ) (s t : State) (bytes item : List ℕ) (ended : Bool) (followed : List (List ℕ)) (text : List ℕ) (r : Result (State × List ℕ) FrameFault)
+        → AreBytes bytes → looked n bytes ended ≡ item ∷ (items ++ followed) → step_at answers n s item ≡ r → after n s r (λ d. run_items (step_at answers) (n + 1) d items) ≡ come_to text t m None
+        → PrefixIsOfSteps answers n m s t bytes ended (item ∷ items) followed text
+    served_by items next n m s t bytes item ended followed text (Err kind) all seen is e =
         let no : ◌≡◌ {A = Option FrameFault} (Some kind) None = ap (λ (z : Run State FrameFault). z.refused) e in
         absurd cc
-    served_by items next n m s t bytes item ended past_end text (Ok x) all seen is e =
+    served_by items next n m s t bytes item ended followed text (Ok x) all seen is e =
         let a = accepted n s item x is in
-        let f = item_in n bytes item ended a.step (items ++ past_end) a.few all seen a.read in
+        let f = item_in n bytes item ended a.step (items ++ followed) a.few all seen a.read in
         let r : Run State FrameFault = run_items (step_at answers) (n + 1) x.0 items in
         let run : r ≡ come_to r.text t m None =
         rebuilt r t m (ap (λ (z : Run State FrameFault). z.last) e) (ap (λ (z : Run State FrameFault). z.items) e) (ap (λ (z : Run State FrameFault). z.refused) e) in
         let is_text : text ≡ x.1 ++ r.text = sym (ap (λ (z : Run State FrameFault). z.text) e) in
         let does : x ≡ answers n s a.step = a.does in
-        front_more n m s t bytes item ended a.step f.more items past_end text r.text f.item_is f.cut (is_text ∙ ap (λ (z : State × List ℕ). z.1 ++ r.text) does)
-        (next (n + 1) m (answers n s a.step).0 t f.more ended past_end r.text (omega (arith, a.few)) (bytes_after bytes a.step f.more f.cut.parts all) f.seen
+        front_more n m s t bytes item ended a.step f.more items followed text r.text f.item_is f.cut (is_text ∙ ap (λ (z : State × List ℕ). z.1 ++ r.text) does)
+        (next (n + 1) m (answers n s a.step).0 t f.more ended followed r.text (omega (arith, a.few)) (bytes_after bytes a.step f.more f.cut.parts all) f.seen
         (ap (λ (z : State × List ℕ). run_items (step_at answers) (n + 1) z.0 items) (sym does) ∙ run))
 
     served_all : (items : List (List ℕ)) → Served items
     unfolding run_items
-    served_all [] = λ n m s t bytes ended past_end text few all seen e.
+    served_all [] = λ n m s t bytes ended followed text few all seen e.
         let number : n ≡ m = ap (λ (z : Run State FrameFault). z.items) e in
         record {
           steps = [];
@@ -378,8 +378,8 @@ module _ (settles : FirstFrameSettles) (reads : ReadsTable) (opens : OpensByTabl
           text_is = sym (ap (λ (z : Run State FrameFault). z.text) e);
           state_is = sym (ap (λ (z : Run State FrameFault). z.last) e);
         }
-    served_all (item ∷ items) = λ n m s t bytes ended past_end text few all seen e.
-        served_by items (served_all items) n m s t bytes item ended past_end text (step_at answers n s item) all seen refl e
+    served_all (item ∷ items) = λ n m s t bytes ended followed text few all seen e.
+        served_by items (served_all items) n m s t bytes item ended followed text (step_at answers n s item) all seen refl e
 
     pub served_are_steps : ServedAreSteps answers
-    served_are_steps = λ n m s t bytes ended served past_end text few all seen e. served_all served n m s t bytes ended past_end text few all seen e
+    served_are_steps = λ n m s t bytes ended served followed text few all seen e. served_all served n m s t bytes ended followed text few all seen e

@@ -37,21 +37,21 @@ module _ {State : Type 0} (answers : CallStep State) where
 
   -- some bytes begin with some frames; they are those of steps, which have this result
   pub record PrefixIsOfSteps (n m : ℕ) (s t : State) (bytes : List ℕ) (ended : Bool)
-      (served past_end : List (List ℕ)) (text : List ℕ) : Type 0 where
+      (served followed : List (List ℕ)) (text : List ℕ) : Type 0 where
     pub steps : List Step
     pub rest : List ℕ
     pub frames : AreFramesOf bytes steps rest
     pub served_are : served ≡ map frame_of steps
     pub number : m ≡ n + length steps
     pub few : m ≤ 65536
-    pub others : looked m rest ended ≡ past_end
+    pub others : looked m rest ended ≡ followed
     pub text_is : text ≡ answers_to answers n s steps
     pub state_is : t ≡ state_past answers n s steps
 
   -- items at the beginning of what is read that were not refused are the frames of steps
   abbrev pub ServedAreSteps : Type 0
   ServedAreSteps = (n m : ℕ) (s t : State) (bytes : List ℕ) (ended : Bool)
-      (served past_end : List (List ℕ)) (text : List ℕ) → n ≤ 65536 → AreBytes bytes
-      → looked n bytes ended ≡ served ++ past_end
+      (served followed : List (List ℕ)) (text : List ℕ) → n ≤ 65536 → AreBytes bytes
+      → looked n bytes ended ≡ served ++ followed
       → run_items (step_at answers) n s served ≡ come_to text t m None
-      → PrefixIsOfSteps n m s t bytes ended served past_end text
+      → PrefixIsOfSteps n m s t bytes ended served followed text

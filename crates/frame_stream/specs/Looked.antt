@@ -7,9 +7,9 @@ use Rattle.pam_wire.specs.Read.{first_frame_of, step_of}
 -- A complete frame is read, and then what follows it. A length that no frame has is read with everything after it, and
 -- so is the beginning of a frame when the input has ended.
 abbrev pub looked_by : FirstFrame → List ℕ → Bool → (ℕ → List (List ℕ)) → List (List ℕ)
-looked_by Open bytes ended past_end = if ended then bytes ∷ [] else []
-looked_by OutOfRange bytes ended past_end = bytes ∷ []
-looked_by (Whole size) bytes ended past_end = take size bytes ∷ past_end size
+looked_by Open bytes ended followed = if ended then bytes ∷ [] else []
+looked_by OutOfRange bytes ended followed = bytes ∷ []
+looked_by (Whole size) bytes ended followed = take size bytes ∷ followed size
 
 -- the frames among some bytes after n others; at most `most` of them
 unfoldable pub looked_most : ℕ → ℕ → List ℕ → Bool → List (List ℕ)

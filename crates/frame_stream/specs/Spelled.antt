@@ -23,7 +23,7 @@ pub record SpellsFrom (n : ℕ) (bytes : List ℕ) (ended : Bool) (steps : List 
     (fault : Option FrameFault) : Type 0 where
   pub frames : AreFramesOf bytes steps rest
   pub few : n + length steps ≤ 65536
-  pub past_end : IsPast (n + length steps) rest ended fault
+  pub followed : IsPast (n + length steps) rest ended fault
 
 -- the same from the first byte on
 abbrev pub Spells : List ℕ → Bool → List Step → List ℕ → Option FrameFault → Type 0

@@ -12,7 +12,7 @@ use Rattle.handler_chain.specs.Opinion.{acted, opening}
 use Rattle.handler_chain.specs.Walk.{Served, Walked, walked, halted, Next, after, stop, next_of, new_or_overrun, onward, walk}
 use Rattle.handler_chain.specs.Route.{KeptAnswers}
 use Rattle.handler_chain.specs.Pass.{Visit, Answered, Answering, PassState, pass_state, served_now, served_past, serving}
-use Rattle.handler_chain.specs.Retell.{Seen, seen_at, Telling, telling, strays, answer_told, replaying, Retells}
+use Rattle.handler_chain.specs.Retell.{RecordedLine, seen_at, Telling, telling, strays, answer_told, replaying, Retells}
 
 same_bytes : (xs : List ℕ) → bytes_eq xs xs ≡ true
 same_bytes [] = refl
@@ -21,59 +21,59 @@ same_bytes (x ∷ xs) = ap (λ (b : Bool). b && bytes_eq xs xs) (eq-eqb x x refl
 own_visit : (place : ℕ) (name : List ℕ) → (nat_eq place place && bytes_eq name name) ≡ true
 own_visit place name = ap (λ (b : Bool). b && bytes_eq name name) (eq-eqb place place refl) ∙ same_bytes name
 
-told_again : (rule : Rule) (place : ℕ) (answer : Code) (more : List Seen)
+told_again : (rule : Rule) (place : ℕ) (answer : Code) (more : List RecordedLine)
     → answer_told rule place (seen_at place (name_of_module rule.path) answer ∷ more) ≡ record { answer = answer; state = telling more }
 told_again rule place answer more =
     let name : List ℕ = name_of_module rule.path in
     let yes : Answered Telling = record { answer = answer; state = telling more } in
     ap (λ (b : Bool). if b then yes else strays (seen_at place name answer ∷ more)) (own_visit place name)
 
-abbrev pub served_again : {State : Type 0} → Served (PassState State) → List Seen → Served (PassState Telling)
+abbrev pub served_again : {State : Type 0} → Served (PassState State) → List RecordedLine → Served (PassState Telling)
 served_again v more = record { answer = v.answer; deciding = v.deciding; stopped = v.stopped; state = pass_state v.state.past v.state.visits (telling more) }
 
-abbrev pub walked_again : {State : Type 0} → Walked (PassState State) → List Seen → Walked (PassState Telling)
+abbrev pub walked_again : {State : Type 0} → Walked (PassState State) → List RecordedLine → Walked (PassState Telling)
 walked_again w more = record { opinion = w.opinion; state = pass_state w.state.past w.state.visits (telling more); stopped = w.stopped }
 
-module _ (State : Type 0) (trail : State → List Seen) where
+module _ (State : Type 0) (trail : State → List RecordedLine) where
   -- what a line and a walk add to the trace, and that they are the same when replayed by these
   -- lines
-  pub record ServedTold (v : Served (PassState State)) (before : List Seen) (again : List Seen → Served (PassState Telling)) : Type 0 where
-    pub news : List Seen
+  pub record ServedTold (v : Served (PassState State)) (before : List RecordedLine) (again : List RecordedLine → Served (PassState Telling)) : Type 0 where
+    pub news : List RecordedLine
     pub adds : trail v.state.state ≡ before ++ news
-    pub same : (more : List Seen) → again (news ++ more) ≡ served_again v more
+    pub same : (more : List RecordedLine) → again (news ++ more) ≡ served_again v more
 
-  pub record WalkTold (w : Walked (PassState State)) (before : List Seen) (again : List Seen → Walked (PassState Telling)) : Type 0 where
-    pub news : List Seen
+  pub record WalkTold (w : Walked (PassState State)) (before : List RecordedLine) (again : List RecordedLine → Walked (PassState Telling)) : Type 0 where
+    pub news : List RecordedLine
     pub adds : trail w.state.state ≡ before ++ news
-    pub same : (more : List Seen) → again (news ++ more) ≡ walked_again w more
+    pub same : (more : List RecordedLine) → again (news ++ more) ≡ walked_again w more
 
   nothing_told : (w : Walked (PassState State)) → WalkTold w (trail w.state.state) (walked_again w)
   nothing_told w = record { news = []; adds = sym (append-nil (trail w.state.state)); same = λ more. refl }
 
-  onward_told : (next : Next) (f : ℕ → Walked (PassState State)) (f' : ℕ → List Seen → Walked (PassState Telling)) (w : Walked (PassState State)) (w' : List Seen → Walked (PassState Telling)) (before : List Seen)
+  onward_told : (next : Next) (f : ℕ → Walked (PassState State)) (f' : ℕ → List RecordedLine → Walked (PassState Telling)) (w : Walked (PassState State)) (w' : List RecordedLine → Walked (PassState Telling)) (before : List RecordedLine)
       → ((n : ℕ) → WalkTold (f n) before (f' n)) → WalkTold w before w' → WalkTold (onward next f w) before (λ left. onward next (λ n. f' n left) (w' left))
   onward_told (after n) f f' w w' before each here = each n
   onward_told stop f f' w w' before each here = here
 
-  if_told : (b : Bool) (w v : Walked (PassState State)) (w' v' : List Seen → Walked (PassState Telling)) (before : List Seen)
+  if_told : (b : Bool) (w v : Walked (PassState State)) (w' v' : List RecordedLine → Walked (PassState Telling)) (before : List RecordedLine)
       → WalkTold w before w' → WalkTold v before v' → WalkTold (if b then w else v) before (λ left. if b then w' left else v' left)
   if_told true w v w' v' before one two = one
   if_told false w v w' v' before one two = two
 
-  after_served : (v : Served (PassState State)) (before : List Seen) (again : List Seen → Served (PassState Telling)) (w : Walked (PassState State)) (f : Served (PassState Telling) → Walked (PassState Telling))
+  after_served : (v : Served (PassState State)) (before : List RecordedLine) (again : List RecordedLine → Served (PassState Telling)) (w : Walked (PassState State)) (f : Served (PassState Telling) → Walked (PassState Telling))
       → ServedTold v before again → WalkTold w (trail v.state.state) (λ left. f (served_again v left)) → WalkTold w before (λ left. f (again left))
   after_served v before again w f one two = record {
     news = one.news ++ two.news;
-    adds = two.adds ∙ ap (λ (xs : List Seen). xs ++ two.news) one.adds ∙ append_assoc before one.news two.news;
-    same = λ more. ap (λ (xs : List Seen). f (again xs)) (append_assoc one.news two.news more) ∙ ap f (one.same (two.news ++ more)) ∙ two.same more;
+    adds = two.adds ∙ ap (λ (xs : List RecordedLine). xs ++ two.news) one.adds ∙ append_assoc before one.news two.news;
+    same = λ more. ap (λ (xs : List RecordedLine). f (again xs)) (append_assoc one.news two.news more) ∙ ap f (one.same (two.news ++ more)) ∙ two.same more;
   }
 
-  after_walk : (v : Walked (PassState State)) (before : List Seen) (again : List Seen → Walked (PassState Telling)) (w : Walked (PassState State)) (f : Walked (PassState Telling) → Walked (PassState Telling))
+  after_walk : (v : Walked (PassState State)) (before : List RecordedLine) (again : List RecordedLine → Walked (PassState Telling)) (w : Walked (PassState State)) (f : Walked (PassState Telling) → Walked (PassState Telling))
       → WalkTold v before again → WalkTold w (trail v.state.state) (λ left. f (walked_again v left)) → WalkTold w before (λ left. f (again left))
   after_walk v before again w f one two = record {
     news = one.news ++ two.news;
-    adds = two.adds ∙ ap (λ (xs : List Seen). xs ++ two.news) one.adds ∙ append_assoc before one.news two.news;
-    same = λ more. ap (λ (xs : List Seen). f (again xs)) (append_assoc one.news two.news more) ∙ ap f (one.same (two.news ++ more)) ∙ two.same more;
+    adds = two.adds ∙ ap (λ (xs : List RecordedLine). xs ++ two.news) one.adds ∙ append_assoc before one.news two.news;
+    same = λ more. ap (λ (xs : List RecordedLine). f (again xs)) (append_assoc one.news two.news more) ∙ ap f (one.same (two.news ++ more)) ∙ two.same more;
   }
 
   module _ (kind : PassKind) (kept : KeptAnswers) (answering : Answering State)

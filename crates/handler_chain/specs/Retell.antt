@@ -12,32 +12,32 @@ use Rattle.handler_chain.specs.Walk.{Walked}
 use Rattle.handler_chain.specs.Pass.{Answered, Answering, PassState, answers_of, decides, pass_after, pass_state}
 
 -- a line of a stack that was run: its rule number, its module's name, its return code
-pub record Seen : Type 0 where
+pub record RecordedLine : Type 0 where
   pub place : ℕ
   pub name : List ℕ
   pub answer : Code
 
-abbrev pub seen_at : ℕ → List ℕ → Code → Seen
+abbrev pub seen_at : ℕ → List ℕ → Code → RecordedLine
 seen_at place name answer = record { place = place; name = name; answer = answer }
 
 -- the recorded lines that are left, and whether a line was run that isn't the next of them
 pub record Telling : Type 0 where
-  pub left : List Seen
+  pub left : List RecordedLine
   pub astray : Bool
 
-abbrev pub telling : List Seen → Telling
+abbrev pub telling : List RecordedLine → Telling
 telling left = record { left = left; astray = false }
 
-abbrev pub strays : List Seen → Answered Telling
+abbrev pub strays : List RecordedLine → Answered Telling
 strays left = record { answer = codes.Incomplete; state = record { left = left; astray = true } }
 
 -- a recorded line is that of a rule with this rule number
-abbrev pub is_of : Seen → Rule → ℕ → Bool
+abbrev pub is_of : RecordedLine → Rule → ℕ → Bool
 is_of v rule place = nat_eq v.place place && bytes_eq v.name (name_of_module rule.path)
 
 -- a line returns the code of the next recorded line, if that belongs to this line; else the replay
 -- stops
-abbrev pub answer_told : Rule → ℕ → List Seen → Answered Telling
+abbrev pub answer_told : Rule → ℕ → List RecordedLine → Answered Telling
 answer_told rule place [] = strays []
 answer_told rule place (v ∷ vs) = if is_of v rule place
     then record { answer = v.answer; state = telling vs } else strays (v ∷ vs)
@@ -47,13 +47,13 @@ abbrev pub replaying : Answering Telling
 replaying rule place t = answer_told rule place t.left
 
 -- each line that is run is added to a trace, and nothing else is
-abbrev pub Trails : {State : Type 0} → (State → List Seen) → Answering State → Type 0
+abbrev pub Trails : {State : Type 0} → (State → List RecordedLine) → Answering State → Type 0
 Trails {State} trail answering = (rule : Rule) (place : ℕ) (s : State) →
     trail (answering rule place s).state ≡ trail s
     ++ seen_at place (name_of_module rule.path) (answering rule place s).answer ∷ []
 
 -- the same run over recorded lines, with these left
-abbrev pub told_again : {State : Type 0} → Walked (PassState State) → List Seen
+abbrev pub told_again : {State : Type 0} → Walked (PassState State) → List RecordedLine
     → Walked (PassState Telling)
 told_again w left = record {
   opinion = w.opinion;
@@ -63,14 +63,14 @@ told_again w left = record {
 
 -- A run that records its lines in a trace: replayed by these lines it is the same, and takes no
 -- more lines.
-pub record Retold {State : Type 0} (trail : State → List Seen) (before : List Seen)
-    (w : Walked (PassState State)) (again : List Seen → Walked (PassState Telling)) : Type 0 where
-  pub news : List Seen
+pub record Retold {State : Type 0} (trail : State → List RecordedLine) (before : List RecordedLine)
+    (w : Walked (PassState State)) (again : List RecordedLine → Walked (PassState Telling)) : Type 0 where
+  pub news : List RecordedLine
   pub adds : trail w.state.state ≡ before ++ news
-  pub same : (more : List Seen) → again (news ++ more) ≡ told_again w more
+  pub same : (more : List RecordedLine) → again (news ++ more) ≡ told_again w more
 
 abbrev pub Retells : Type 0 → Type 0
-Retells State = (trail : State → List Seen) (kind : PassKind) (kept : KeptAnswers)
+Retells State = (trail : State → List RecordedLine) (kind : PassKind) (kept : KeptAnswers)
     (answering : Answering State) → Trails trail answering →
     (stack : Stack) (past : List Code) (s : State)
     → Retold trail (trail s) (pass_after kind kept answering stack past s) (λ left.

@@ -20,4 +20,4 @@ pub use chain::{Chain, flatten};
 pub use impression::Impression;
 pub use opinion::Opinion;
 pub use pass_kind::PassKind;
-pub use seen::Seen;
+pub use seen::RecordedLine;

@@ -43,7 +43,7 @@ use Rattle.pam_base.specs.declared.call.AppCall.TheVariants as calls
 use Rattle.cmd_run.specs.State.{RunState, Setting, kept_at}
 use Rattle.cmd_run.specs.Step.{line_step}
 use Rattle.cmd_run.specs.Closings.{world_after}
-use Rattle.report_lines.specs.Line.{Told, told_visit, Shown, Command, Block, AreBytes, IsLong, byte_of, bytes_of, long_of, IsSeen, IsTold}
+use Rattle.report_lines.specs.Line.{ToldLine, told_visit, Shown, Command, Block, AreBytes, IsLong, byte_of, bytes_of, long_of, IsSeen, IsTold}
 use Rattle.report_lines.specs.Line.{IsShown, IsResult, AreBlocks}
 use Rattle.session_audit.specs.Laws.{AreSeen}
 use Rattle.session_audit.specs.Fits.{SlotLog, place_at, with_place, visits_told, is_none, after_result, is_bad_number, with_after}
@@ -54,7 +54,7 @@ use Rattle.laws_audit.specs.Run.{blocks_asked, line_blocks, blocks_on, run_block
 use Rattle.script_lang.proofs.TransactionNumberFacts.{reads_numbers}
 
 -- what is recorded is in its ranges, except for lines run
-abbrev IsToldBut : Told → Type 0
+abbrev IsToldBut : ToldLine → Type 0
 IsToldBut (told_visit v) = Unit {0}
 IsToldBut t = IsTold t
 
@@ -66,7 +66,7 @@ pub record IsBlockBut (b : Block) : Type 0 where
 abbrev pub AreBlocksBut : List Block → Type 0
 AreBlocksBut blocks = AllByRecursion IsBlockBut blocks
 
-told_whole : (told : List Told) → AllByRecursion IsToldBut told → AllByRecursion IsSeen (visits_told told) → AllByRecursion IsTold told
+told_whole : (told : List ToldLine) → AllByRecursion IsToldBut told → AllByRecursion IsSeen (visits_told told) → AllByRecursion IsTold told
 told_whole [] all seen = tt
 told_whole (told_visit v ∷ told) all seen = (seen.0, told_whole told all.1 seen.1)
 told_whole (t ∷ told) all seen = (all.0, told_whole told all.1 seen)
@@ -167,7 +167,7 @@ told_formed names outcome ledger all =
     (all_both IsToldBut (waited_told outcome.wait) _ (waited_formed outcome.wait)
     (all_both IsToldBut (map missing_told outcome.missing) _ (missing_formed outcome.missing) (answer_formed outcome.answer all)))))
 
-by_formed : (number : ℕ) (command : Command) (told : List Told) (shown : Option Shown) → number < 2 ^ 32 → AllByRecursion IsToldBut told → ShownFormed shown
+by_formed : (number : ℕ) (command : Command) (told : List ToldLine) (shown : Option Shown) → number < 2 ^ 32 → AllByRecursion IsToldBut told → ShownFormed shown
     → AreBlocksBut (blocks_by number command told shown)
 by_formed number command told None fits all is = tt
 by_formed number command told (Some shown) fits all is = (record { number = fits; told = all; result = is }, tt)

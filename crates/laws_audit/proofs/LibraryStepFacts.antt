@@ -43,8 +43,8 @@ use Rattle.pam_library.specs.Slots.{PlainSlot, closed, opened, slot_at, with_slo
 use Rattle.pam_library.specs.SlotStep.{SlotStepped, filed_in, told_by, is_refused_for_flags, other_pending, unless_pending, stack_step}
 use Rattle.pam_library.specs.SlotStep.{open_step, closed_step, slot_step, opened_by}
 use Rattle.pam_library.specs.Step.{Stepped, stepped_at, stepped}
-use Rattle.handler_chain.specs.Retell.{Seen, Telling, telling}
-use Rattle.report_lines.specs.Line.{Told, told_visit, Shown, shows_bad_number, Command, starts, runs, sets_item, gets_item, puts_env, Block}
+use Rattle.handler_chain.specs.Retell.{RecordedLine, Telling, telling}
+use Rattle.report_lines.specs.Line.{ToldLine, told_visit, Shown, shows_bad_number, Command, starts, runs, sets_item, gets_item, puts_env, Block}
 use Rattle.report_lines.specs.Line.{block_of, answered as answers_with}
 use Rattle.dispatch_core.specs.Calls.{Held, nothing_held, Went, went, goes}
 use Rattle.pass_replay.specs.Replay.{as_told}
@@ -64,9 +64,9 @@ use Rattle.laws_audit.proofs.CallTraceFacts.{trails}
 
 -- ---- the lines run that a block reports
 
-visits_of-append : (one two : List Told) → visits_told (one ++ two) ≡ visits_told one ++ visits_told two
+visits_of-append : (one two : List ToldLine) → visits_told (one ++ two) ≡ visits_told one ++ visits_told two
 visits_of-append [] two = refl
-visits_of-append (told_visit v ∷ one) two = ap (λ (vs : List Seen). v ∷ vs) (visits_of-append one two)
+visits_of-append (told_visit v ∷ one) two = ap (λ (vs : List RecordedLine). v ∷ vs) (visits_of-append one two)
 visits_of-append (t ∷ one) two = visits_of-append one two
 
 messages_visits : (said : List Message) → visits_told (map message_told said) ≡ []
@@ -75,9 +75,9 @@ messages_visits (m ∷ said) = messages_visits said
 
 visits_visits : (trail : List Visit) → visits_told (map visit_told trail) ≡ map seen_of trail
 visits_visits [] = refl
-visits_visits (v ∷ trail) = ap (λ (vs : List Seen). seen_of v ∷ vs) (visits_visits trail)
+visits_visits (v ∷ trail) = ap (λ (vs : List RecordedLine). seen_of v ∷ vs) (visits_visits trail)
 
-receipt_visits : (names : List (List ℕ)) (receipt : Receipt) (birth : Option Birth) (rest : List Told)
+receipt_visits : (names : List (List ℕ)) (receipt : Receipt) (birth : Option Birth) (rest : List ToldLine)
     → visits_told (receipt_told names receipt birth ++ rest) ≡ visits_told rest
 receipt_visits names receipt (Some birth) rest = refl
 receipt_visits names receipt None rest = refl
@@ -103,17 +103,17 @@ answer_visits : (answer : Answer) → visits_told (variables_told answer) ≡ []
 answer_visits (answers.List variables) = variables_visits variables
 answer_visits answer = refl
 
-none_before : (one two : List Told) (vs : List Seen) → visits_told one ≡ [] → visits_told two ≡ vs → visits_told (one ++ two) ≡ vs
-none_before one two vs is there = visits_of-append one two ∙ ap (λ (xs : List Seen). xs ++ visits_told two) is ∙ there
+none_before : (one two : List ToldLine) (vs : List RecordedLine) → visits_told one ≡ [] → visits_told two ≡ vs → visits_told (one ++ two) ≡ vs
+none_before one two vs is there = visits_of-append one two ∙ ap (λ (xs : List RecordedLine). xs ++ visits_told two) is ∙ there
 
 pub block_visits : (names : List (List ℕ)) (outcome : PlainOutcome) (ledger : PlainLedger)
     → visits_told (all_told names outcome ledger) ≡ map seen_of outcome.trail
 block_visits names outcome ledger =
     none_before (map message_told outcome.said) _ _ (messages_visits outcome.said)
     (visits_of-append (map visit_told outcome.trail) _
-    ∙ ap (λ (xs : List Seen). xs ++ visits_told (cleanups_told names ledger outcome.filed_from
+    ∙ ap (λ (xs : List RecordedLine). xs ++ visits_told (cleanups_told names ledger outcome.filed_from
     ++ (waited_told outcome.wait ++ (map missing_told outcome.missing ++ variables_told outcome.answer)))) (visits_visits outcome.trail)
-    ∙ ap (λ (xs : List Seen). map seen_of outcome.trail ++ xs)
+    ∙ ap (λ (xs : List RecordedLine). map seen_of outcome.trail ++ xs)
     (none_before (cleanups_told names ledger outcome.filed_from) _ [] (filed_visits names ledger.births (drop outcome.filed_from ledger.filed))
     (none_before (waited_told outcome.wait) _ [] (waited_visits outcome.wait)
     (none_before (map missing_told outcome.missing) _ [] (missing_visits outcome.missing) (answer_visits outcome.answer))))
@@ -154,7 +154,7 @@ same_func-refl funcs.ChAuthTok = refl
 
 module _ (stacks : Stacks) where
   -- what a result is shown as leads to a place; what isn't shown leaves it
-  abbrev FitsBy : SlotLog → List Seen → Command → Option Shown → SlotLog → Type 0
+  abbrev FitsBy : SlotLog → List RecordedLine → Command → Option Shown → SlotLog → Type 0
   FitsBy place vs command None next = next ≡ place
   FitsBy place vs command (Some shown) next = after_result stacks place vs (answers_with command shown) ≡ Some next
 
@@ -205,7 +205,7 @@ module _ (stacks : Stacks) where
   not_true true isnt = absurd (isnt refl)
   not_true false isnt = refl
 
-  isnt_refused : (func : Func) (code : Code) (vs : List Seen) (h : Held) (w : Went Telling) → goes as_told stacks func h (telling vs) ≡ w → code ≡ w.code
+  isnt_refused : (func : Func) (code : Code) (vs : List RecordedLine) (h : Held) (w : Went Telling) → goes as_told stacks func h (telling vs) ≡ w → code ≡ w.code
       → w.state.astray ≡ false
       → Asks stacks h h.pending → is_other_pending h.pending func ≡ false → is_refused_change func code vs ≡ false
   isnt_refused funcs.ChAuthTok code [] h w is same straight asks own = not_true (same_code code codes.SystemErr) (λ system.
@@ -221,7 +221,7 @@ module _ (stacks : Stacks) where
   retold_is : (code : Code) (h : Held) → past_call code (went code h (telling [])) ≡ Some (running h)
   retold_is code h = ap (λ (b : Bool). only_if b (running h)) (same_code-refl code)
 
-  call_fits : (func : Func) (code : Code) (vs : List Seen) (h next : Held) → goes as_told stacks func h (telling vs) ≡ went code next (telling [])
+  call_fits : (func : Func) (code : Code) (vs : List RecordedLine) (h next : Held) → goes as_told stacks func h (telling vs) ≡ went code next (telling [])
       → Asks stacks h h.pending → is_other_pending h.pending func ≡ false → at_call stacks func code vs h ≡ Some (running next)
   call_fits func code vs h next is asks own =
       at_call_if (is_refused_change func code vs) (is_other_pending h.pending func) (Some (running h))
@@ -241,10 +241,10 @@ module _ (players : List Player) (number_of : Code → ℕ → ℕ) (stacks : St
       calls_are_retold State trail_in (asking_by players flags) (trails players flags) h.stacks func (held_in h) g.begun in
       let empty : trail_in g.begun ≡ [] = ap (map seen_of) (g.trail ∙ none) in
       let vs : map seen_of c.handle.room.transaction.trail ≡ r.news =
-      ap (map seen_of) g.told ∙ r.adds ∙ ap (λ (xs : List Seen). xs ++ r.news) empty in
+      ap (map seen_of) g.told ∙ r.adds ∙ ap (λ (xs : List RecordedLine). xs ++ r.news) empty in
       let replayed : goes as_told h.stacks func (held_in h) (telling (map seen_of c.handle.room.transaction.trail))
       ≡ went c.code (held_in c.handle) (telling []) =
-      ap (λ (xs : List Seen). goes as_told h.stacks func (held_in h) (telling xs)) (vs ∙ sym (append-nil r.news)) ∙ r.same []
+      ap (λ (xs : List RecordedLine). goes as_told h.stacks func (held_in h) (telling xs)) (vs ∙ sym (append-nil r.news)) ∙ r.same []
       ∙ ap (λ (code : Code). went code (goes (asking_by players flags) h.stacks func (held_in h) g.begun).held (telling [])) (sym g.code)
       ∙ ap (λ (x : Held). went c.code x (telling [])) (sym g.held) in
       call_fits stacks func c.code (map seen_of c.handle.room.transaction.trail) (held_in h) (held_in c.handle)
@@ -331,7 +331,7 @@ module _ (players : List Player) (number_of : Code → ℕ → ℕ) (stacks : St
   on_after places next b is = ap (λ (x : Option (List SlotLog)). fold_on stacks x (λ new_logs. fold stacks new_logs [])) is
 
   -- what is shown of a step on a place that is there
-  shown_fits : (slots : List PlainSlot) (number : ℕ) (call : AppCall) (slot : PlainSlot) (s : SlotStepped) (told : List Told) (shown : Option Shown)
+  shown_fits : (slots : List PlainSlot) (number : ℕ) (call : AppCall) (slot : PlainSlot) (s : SlotStepped) (told : List ToldLine) (shown : Option Shown)
       → slot_at slots number ≡ Some slot → visits_told told ≡ map seen_of s.outcome.trail
       → FitsBy stacks (place_of slot) (map seen_of s.outcome.trail) (command_of call) shown (place_of s.slot)
       → fold stacks (places_of slots) (blocks_by number (command_of call) told shown) ≡ Some (places_of (with_slot slots number s.slot))
@@ -342,7 +342,7 @@ module _ (players : List Player) (number_of : Code → ℕ → ℕ) (stacks : St
       let b : Block = block_of number told (answers_with (command_of call) shown) in
       on_after (places_of slots) (places_of (with_slot slots number s.slot)) b
       (ap (after_at stacks (places_of slots) b) (place_at-of slots number ∙ ap (option_map place_of) there)
-      ∙ ap (with_after stacks (places_of slots) number) (ap (λ (xs : List Seen). after_result stacks (place_of slot) xs
+      ∙ ap (with_after stacks (places_of slots) number) (ap (λ (xs : List RecordedLine). after_result stacks (place_of slot) xs
       (answers_with (command_of call) shown)) vs ∙ is)
       ∙ ap (λ (x : List SlotLog). Some x) (with_place-of slots number s.slot))
 
@@ -372,11 +372,11 @@ module _ (players : List Player) (number_of : Code → ℕ → ℕ) (stacks : St
       fold stacks (places_of slots) (reported (names_of players) step s.outcome s.world.process.ledger) ≡ Some (places_of s.slots))
   found_fits slots w step None there have sound =
       let s : Stepped = stepped_at players number_of slots w step.number step.call None in
-      let told : List Told = all_told (names_of players) s.outcome s.world.process.ledger in
+      let told : List ToldLine = all_told (names_of players) s.outcome s.world.process.ledger in
       let b : Block = block_of step.number told (answers_with (command_of step.call) shows_bad_number) in
       on_after (places_of slots) (places_of slots) b
       (ap (after_at stacks (places_of slots) b) (place_at-of slots step.number ∙ ap (option_map place_of) there)
-      ∙ ap (λ (xs : List Seen). if is_none xs then Some (places_of slots) else None) (block_visits (names_of players) s.outcome s.world.process.ledger))
+      ∙ ap (λ (xs : List RecordedLine). if is_none xs then Some (places_of slots) else None) (block_visits (names_of players) s.outcome s.world.process.ledger))
   found_fits slots w step (Some slot) there have sound =
       let s : SlotStepped = slot_step players number_of step.number slot w step.call in
       shown_fits slots step.number step.call slot s (all_told (names_of players) s.outcome s.world.process.ledger) (shown_of s.outcome.answer) there

@@ -14,8 +14,8 @@ use Rattle.control_words.specs.declared.bracket.ControlFault.{ControlFault}
 use Rattle.control_words.specs.declared.control.Action.{Action}
 use Rattle.control_words.specs.conf_lex.specs.declared.token.Token.{Token}
 use Rattle.laws_audit.proofs.ModuleNameFacts.{OnGood, good_if, kept_good}
-use Rattle.service_load.specs.Files.{Held, absent, faulty, holds, all_fine, entries_of, held, is_in_directory, plain_file, rules_held}
-use Rattle.service_load.specs.FirstFault.{Counts, Stop, absent_file, asked, past_end, checked_rule, going_on, held_file, look}
+use Rattle.service_load.specs.Files.{FileContent, absent, faulty, holds, all_fine, entries_of, held, is_in_directory, plain_file, rules_held}
+use Rattle.service_load.specs.FirstFault.{Counts, Stop, absent_file, asked, take_one, checked_rule, going_on, held_file, look}
 use Rattle.service_load.specs.Order.{Item, Opener, as_last, as_other, as_service, by_rule, checked, content_items, entry_items}
 use Rattle.service_load.specs.Order.{file_items, items, items_of, made, opening, other_opener, tree_items}
 use Rattle.service_load.specs.Tree.{content_nodes, entry_nodes, nodes, nodes_of, serves, tree_from}
@@ -71,9 +71,9 @@ module _ (texts : List ℕ → Option (List ℕ)) (fails : List ℕ) where
   nothing_added c = stays c
 
   -- one item, and those after it
-  item_adds : (i : Item) (is : List Item) (m n : ℕ) → ((c : Counts) → Adds (past_end texts fails c i) c.lines m) → AddsAll is n → AddsAll (i ∷ is) (m + n)
+  item_adds : (i : Item) (is : List Item) (m n : ℕ) → ((c : Counts) → Adds (take_one texts fails c i) c.lines m) → AddsAll is n → AddsAll (i ∷ is) (m + n)
   unfolding look
-  item_adds i is m n one rest c = both_add (past_end texts fails c i) c.lines m n (λ d. look texts fails d is) (one c) rest
+  item_adds i is m n one rest c = both_add (take_one texts fails c i) c.lines m n (λ d. look texts fails d is) (one c) rest
 
   going_along : (first : Result Counts Stop) (xs ys : List Item) → ((c : Counts)
       → look texts fails c (xs ++ ys) ≡ going_on (look texts fails c xs) (λ d. look texts fails d ys))
@@ -84,7 +84,7 @@ module _ (texts : List ℕ → Option (List ℕ)) (fails : List ℕ) where
   look_on : (c : Counts) (xs ys : List Item) → look texts fails c (xs ++ ys) ≡ going_on (look texts fails c xs) (λ d. look texts fails d ys)
   unfolding look
   look_on c [] ys = refl
-  look_on c (x ∷ xs) ys = going_along (past_end texts fails c x) xs ys (λ d. look_on d xs ys)
+  look_on c (x ∷ xs) ys = going_along (take_one texts fails c x) xs ys (λ d. look_on d xs ys)
 
   all_add : (xs ys : List Item) (m n : ℕ) → AddsAll xs m → AddsAll ys n → AddsAll (xs ++ ys) (m + n)
   all_add xs ys m n a b c = rw (look_on c xs ys) (both_add (look texts fails c xs) c.lines m n (λ d. look texts fails d ys) (a c) b)
@@ -100,18 +100,18 @@ module _ (texts : List ℕ → Option (List ℕ)) (fails : List ℕ) where
   absent_adds c (as_last service) = tt
   absent_adds c (by_rule name n) = tt
 
-  held_adds : (c : Counts) (file : _) (opener : Opener) (h : Held) → Adds (held_file c file opener h) c.lines 0
+  held_adds : (c : Counts) (file : _) (opener : Opener) (h : FileContent) → Adds (held_file c file opener h) c.lines 0
   held_adds c file opener absent = absent_adds c opener
   held_adds c file opener (faulty fault) = tt
   held_adds c file opener (holds rules) = stays c
 
-  opening_adds : (file : _) (level : ℕ) (opener : Opener) (c : Counts) → Adds (past_end texts fails c (opening file level opener)) c.lines 0
+  opening_adds : (file : _) (level : ℕ) (opener : Opener) (c : Counts) → Adds (take_one texts fails c (opening file level opener)) c.lines 0
   opening_adds file level opener c =
       adds_if (nat_lt 16 level) _ _ c.lines 0 (λ e. tt)
       (λ e. adds_if (nat_le 256 c.openings) _ _ c.lines 0 (λ f. tt)
       (λ f. adds_if (fails_next c.calls fails) _ _ c.lines 0 (λ g. tt) (λ g. held_adds (asked c) file opener (held texts file))))
 
-  made_adds : (name : List ℕ) (n : ℕ) (c : Counts) → Adds (past_end texts fails c (made name n)) c.lines 1
+  made_adds : (name : List ℕ) (n : ℕ) (c : Counts) → Adds (take_one texts fails c (made name n)) c.lines 1
   made_adds name n c =
       adds_if (nat_le 4096 c.lines) _ _ c.lines 1 (λ e. tt) (λ e. (refl, λ few. let below : c.lines < 4096 = grind (arith, nat_tests) in omega arith))
 

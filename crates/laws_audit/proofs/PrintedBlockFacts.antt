@@ -31,14 +31,14 @@ use Rattle.pam_base.specs.Style.{style_number}
 use Rattle.pam_base.specs.Fault.{fault_number, fault_name}
 use Rattle.conv_port.specs.declared.message.Message.{Message}
 use Rattle.laws_audit.specs.Ranges.{ByRemainders}
-use Rattle.report_lines.specs.Line.{bytes_of, word_of, long_of, number_words, Told, told_cleanup, Shown, command_word, told_text}
+use Rattle.report_lines.specs.Line.{bytes_of, word_of, long_of, number_words, ToldLine, told_cleanup, Shown, command_word, told_text}
 use Rattle.report_lines.specs.Line.{all_told_text, shown_words, code_words, words_text, block_text, blocks_text, status_words, missing_text}
 use Rattle.report_lines.specs.Line.{variable_text}
 use Rattle.laws_audit.specs.Report.{message_told, visit_told, missing_told, variable_told, receipt_told, filed_told, waited_told}
 use Rattle.laws_audit.specs.Report.{variables_told, all_told, command_of, shown_of, reported, blocks_by, closing_reported}
 
 -- two parts before a text
-joined : (n : ℕ) (one two : List Told) (r x y : List ℕ) → all_told_text n one ≡ x → all_told_text n two ++ r ≡ y → all_told_text n (one ++ two) ++ r ≡ x ++ y
+joined : (n : ℕ) (one two : List ToldLine) (r x y : List ℕ) → all_told_text n one ≡ x → all_told_text n two ++ r ≡ y → all_told_text n (one ++ two) ++ r ≡ x ++ y
 joined n one two r x y is_x is_y =
     ap (λ (t : List ℕ). t ++ r) (flat_map-append (told_text n) one two) ∙ append_assoc (all_told_text n one) (all_told_text n two) r
     ∙ ap (λ (t : List ℕ). t ++ (all_told_text n two ++ r)) is_x ∙ ap (λ (t : List ℕ). x ++ t) is_y

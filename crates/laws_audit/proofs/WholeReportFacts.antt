@@ -19,7 +19,7 @@ use Rattle.cmd_run.specs.State.{Setting, RunState}
 use Rattle.cmd_run.specs.Step.{line_step, Fails}
 use Rattle.cmd_run.specs.Closings.{world_after, text_of_end, closings_after, closings, closings_text}
 use Rattle.cmd_run.specs.Whole.{ending_status, last_line}
-use Rattle.handler_chain.specs.Retell.{Seen}
+use Rattle.handler_chain.specs.Retell.{RecordedLine}
 use Rattle.report_lines.specs.Line.{Block, closed_by_program, block_text, blocks_text, last_text, AreBlocks, IsLast}
 use Rattle.session_audit.specs.Fits.{SlotLog, shut, running, with_place, all_shut, fold_on, fold, after_block, after_at, after_result, with_after}
 use Rattle.session_audit.specs.Sound.{ArePrintable, AreSound}
@@ -74,7 +74,7 @@ module _ (players : List Player) (status : Code) (stacks : Stacks) where
       let slots' : List PlainSlot = front ++ opened h ∷ slots in
       let b : Block = closing_reported (names_of players) (length front + 1) status v.process.ledger (length w.process.ledger.filed) in
       ap (after_at stacks (places_of slots') b) (place_at-of slots' (length front + 1) ∙ ap (option_map place_of) (slot_after front (opened h) slots))
-      ∙ ap (λ (vs : List Seen). with_after stacks (places_of slots') (length front + 1)
+      ∙ ap (λ (vs : List RecordedLine). with_after stacks (places_of slots') (length front + 1)
       (after_result stacks (running (held_in h)) vs (closed_by_program status)))
       (filed_visits (names_of players) v.process.ledger.births (drop (length w.process.ledger.filed) v.process.ledger.filed))
       ∙ ap (λ (p : SlotLog). Some (with_place (places_of slots') (length front + 1) p)) (sym is)

@@ -17,41 +17,41 @@ use Rattle.pam_handle.specs.declared.wait.Wait.{Wait}
 use Rattle.pam_library.specs.declared.outcome.Answer.{Answer}
 use Rattle.pam_library.specs.declared.outcome.Answer.TheVariants as answers
 use Rattle.pam_library.specs.Outcome.{PlainOutcome}
-use Rattle.report_lines.specs.Line.{bytes_of, word_of, long_of, Told, told_message, told_visit, told_cleanup, told_wait, told_missing, told_variable, Shown, shows_code, shows_fault, shows_value, shows_count, shows_not_open, shows_already_open, shows_bad_number, shows_pending, Command, starts, ends, runs, sets_item, gets_item, puts_env, gets_env, lists_env, asks_delay, switches_delay, replies, Block, block_of, answered, closed_by_program}
+use Rattle.report_lines.specs.Line.{bytes_of, word_of, long_of, ToldLine, told_message, told_visit, told_cleanup, told_wait, told_missing, told_variable, Shown, shows_code, shows_fault, shows_value, shows_count, shows_not_open, shows_already_open, shows_bad_number, shows_pending, Command, starts, ends, runs, sets_item, gets_item, puts_env, gets_env, lists_env, asks_delay, switches_delay, replies, Block, block_of, answered, closed_by_program}
 use Rattle.laws_audit.specs.Calls.{seen_of}
 
-abbrev pub message_told : Message → Told
+abbrev pub message_told : Message → ToldLine
 message_told message = told_message message.style (bytes_of message.text)
 
-abbrev pub visit_told : Visit → Told
+abbrev pub visit_told : Visit → ToldLine
 visit_told visit = told_visit (seen_of visit)
 
 module _ (names : List (List ℕ)) where
-  abbrev pub receipt_told : Receipt → Option Birth → List Told
+  abbrev pub receipt_told : Receipt → Option Birth → List ToldLine
   receipt_told receipt (Some birth) = told_cleanup (record { id = long_of receipt.id; status = word_of receipt.status; note = long_of receipt.note; owner = bytes_of (unwrap_or (slice_get names birth.owner) []); datum = bytes_of birth.name }) ∷ []
   receipt_told receipt None = []
 
-  abbrev pub filed_told : List Birth → Filed → List Told
+  abbrev pub filed_told : List Birth → Filed → List ToldLine
   filed_told births filed = receipt_told filed.receipt (slice_get births filed.receipt.id)
 
-  abbrev pub cleanups_told : PlainLedger → ℕ → List Told
+  abbrev pub cleanups_told : PlainLedger → ℕ → List ToldLine
   cleanups_told ledger filed_from = flat_map (filed_told ledger.births) (drop filed_from ledger.filed)
 
-abbrev pub waited_told : Option Wait → List Told
+abbrev pub waited_told : Option Wait → List ToldLine
 waited_told (Some wait) = told_wait wait.code (long_of wait.asked) (long_of wait.wait) ∷ []
 waited_told None = []
 
-abbrev pub variable_told : List ℕ → Told
+abbrev pub variable_told : List ℕ → ToldLine
 variable_told variable = told_variable (bytes_of variable)
 
-abbrev pub missing_told : List ℕ → Told
+abbrev pub missing_told : List ℕ → ToldLine
 missing_told name = told_missing (bytes_of name)
 
-abbrev pub variables_told : Answer → List Told
+abbrev pub variables_told : Answer → List ToldLine
 variables_told (answers.List variables) = map variable_told variables
 variables_told answer = []
 
-abbrev pub all_told : List (List ℕ) → PlainOutcome → PlainLedger → List Told
+abbrev pub all_told : List (List ℕ) → PlainOutcome → PlainLedger → List ToldLine
 all_told names outcome ledger =
     map message_told outcome.said
     ++ (map visit_told outcome.trail
@@ -89,7 +89,7 @@ shown_of answers.BadNumber = Some shows_bad_number
 shown_of (answers.Pending func) = Some (shows_pending func)
 shown_of answers.Nothing = None
 
-abbrev pub blocks_by : ℕ → Command → List Told → Option Shown → List Block
+abbrev pub blocks_by : ℕ → Command → List ToldLine → Option Shown → List Block
 blocks_by number command told (Some shown) = block_of number told (answered command shown) ∷ []
 blocks_by number command told None = []
 

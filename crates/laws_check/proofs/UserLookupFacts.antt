@@ -11,7 +11,7 @@ use Rattle.pam_outside.specs.Paths.{path_of}
 use Rattle.conv_port.specs.Conv.{first_text, has_replies, ready_replies, starts_with_mark}
 use Rattle.conv_port.specs.declared.conv.ConvFault.TheVariants as faults
 use Rattle.pam_room.specs.Module.{NamedData, SeenRoom, Sight, answered}
-use Rattle.pam_room.specs.Say.{Asked, asked_by, login_prompt, speak, user_asked, user_or_ask}
+use Rattle.pam_room.specs.Say.{AfterPrompt, asked_by, login_prompt, speak, user_asked, user_or_ask}
 use Rattle.account_db.specs.declared.fault.DbFault.{DbFault}
 use Rattle.account_db.specs.declared.passwd.Passwd.{Passwd}
 use Rattle.account_db.specs.Passwd.{entry_of, passwds_of}
@@ -65,7 +65,7 @@ user_or None room is e =
     filled (user_or_ask None room).room.items.user text (user_by (has_replies room.conv messages) (room.conv.waits || starts_with_mark room.conv.offers) text
     (speak messages room).room e)
 
-by_refused : (code : Code) (G : Type 0) (act : List ℕ → Act) (refused : Bool) (a : Asked) (stage : Stage) → (returns.ConvErr ≡ code → ⊥) → a.refused ≡ refused
+by_refused : (code : Code) (G : Type 0) (act : List ℕ → Act) (refused : Bool) (a : AfterPrompt) (stage : Stage) → (returns.ConvErr ≡ code → ⊥) → a.refused ≡ refused
     → (cond refused (answered returns.ConvErr a.room stage.sight) (act (unwrap_or a.room.items.user []) (in_room a.room stage))).code ≡ code
     → (a.refused ≡ false → (act (unwrap_or a.room.items.user []) (in_room a.room stage)).code ≡ code → G) → G
 by_refused code G act true a stage not is e then_so = absurd (not e)

@@ -5,7 +5,7 @@ use Rattle.pam_base.specs.declared.code.Code.TheVariants as returns
 use Rattle.pam_base.specs.declared.style.Style.{Style}
 use Rattle.pam_room.specs.item_store.specs.Items.{ItemTexts, text_of}
 use Rattle.pam_room.specs.Module.{NamedData, SeenRoom, answered}
-use Rattle.pam_room.specs.Say.{Asked, speak, token_asked, token_of, user_asked}
+use Rattle.pam_room.specs.Say.{AfterPrompt, speak, token_asked, token_of, user_asked}
 use Rattle.account_db.specs.declared.passwd.Passwd.{Passwd}
 use Rattle.account_db.specs.declared.group.Group.{Group}
 use Rattle.module_acts.specs.declared.content.Content.{Content}
@@ -40,7 +40,7 @@ module _ (P : Code → Type 0) where
   unless None act p rest stage = rest stage
   unless (Some code) act p rest stage = answering code p stage
 
-  user_of : (refused : Bool) (a : Asked) (act : List ℕ → Act) (stage : Stage) → P returns.ConvErr → ((user : List ℕ) → Gives P (act user))
+  user_of : (refused : Bool) (a : AfterPrompt) (act : List ℕ → Act) (stage : Stage) → P returns.ConvErr → ((user : List ℕ) → Gives P (act user))
       → P (cond refused (answered returns.ConvErr a.room stage.sight) (act (unwrap_or a.room.items.user []) (in_room a.room stage))).code
   user_of true a act stage p rest = p
   user_of false a act stage p rest = rest (unwrap_or a.room.items.user []) (in_room a.room stage)
@@ -142,7 +142,7 @@ module _ (P : Code → Type 0) where
   unfolding answers_keeping
   keeping datum code p stage = p
 
-  token_of_asked : (refused : Bool) (item : ItemName) (a : Asked) (act : List ℕ → Act) (stage : Stage) → P returns.ConvErr
+  token_of_asked : (refused : Bool) (item : ItemName) (a : AfterPrompt) (act : List ℕ → Act) (stage : Stage) → P returns.ConvErr
       → ((text : List ℕ) → Gives P (act text))
       → P (cond refused (answered returns.ConvErr a.room stage.sight) (act (unwrap_or (text_of a.room.items item) []) (in_room a.room stage))).code
   token_of_asked true item a act stage p rest = p

@@ -10,7 +10,7 @@ use Rattle.sha2.proofs.Facts512.{length-sha512}
 use Rattle.sha_crypt.specs.declared.setting.SettingFault.{SettingFault}
 use Rattle.sha_crypt.specs.declared.setting.SettingFault.TheVariants.{BadRounds, TooManyRounds}
 use Rattle.sha_crypt.specs.Digest.{digest}
-use Rattle.sha_crypt.specs.Setting.{Asked, are_rounds, asked, asked_by, asked_or, begins, past_rounds, field_fault, method_of}
+use Rattle.sha_crypt.specs.Setting.{PlainSetting, are_rounds, asked, asked_by, asked_or, begins, past_rounds, field_fault, method_of}
 use Rattle.sha_crypt.specs.Setting.{names_rounds, rounds_fault, rounds_field, rounds_named, rounds_written, salt_fault, salt_in}
 use Rattle.laws_cost.specs.Digests.{rounds_of}
 use Rattle.laws_cost.specs.Costs.{LengthsByLengths, RoundsAreBounded, size_of}
@@ -19,15 +19,15 @@ use Rattle.laws_cost.proofs.DigestTextFacts.{digests_by_rounds}
 
 -- ---- its rounds
 
-same_ok : (x y : Asked) → ◌≡◌ {A = Result Asked SettingFault} (Ok x) (Ok y) → x ≡ y
+same_ok : (x y : PlainSetting) → ◌≡◌ {A = Result PlainSetting SettingFault} (Ok x) (Ok y) → x ≡ y
 same_ok x y e = first_of (cc, grind arith)
 
 -- a setting without a fault
-record Sound (fault : Option SettingFault) (made s : Asked) : Type 0 where
+record Sound (fault : Option SettingFault) (made s : PlainSetting) : Type 0 where
   none : fault ≡ None
   same : made ≡ s
 
-sound : (fault : Option SettingFault) (made s : Asked) → asked_or fault made ≡ Ok s → Sound fault made s
+sound : (fault : Option SettingFault) (made s : PlainSetting) → asked_or fault made ≡ Ok s → Sound fault made s
 sound None made s e = record { none = refl; same = same_ok made s e }
 sound (Some fault) made s e = absurd cc
 
@@ -70,13 +70,13 @@ unfolding wide.sha512
 first_byte_512 text = first_of_512 _
 
 -- its digests have this size, and it has few rounds
-record Suits (size : ℕ) (s : Asked) : Type 0 where
+record Suits (size : ℕ) (s : PlainSetting) : Type 0 where
   sized : (text : List ℕ) → length (digest s.method text) ≡ size
   first : (text : List ℕ) → slice_index (digest s.method text) 0 < 256
   some : 0 < size
   few : rounds_of s ≤ 1000000
 
-suits_sound : (size : ℕ) (the_rest : List ℕ) (made s : Asked) → ((text : List ℕ) → length (digest made.method text) ≡ size)
+suits_sound : (size : ℕ) (the_rest : List ℕ) (made s : PlainSetting) → ((text : List ℕ) → length (digest made.method text) ≡ size)
     → ((text : List ℕ) → slice_index (digest made.method text) 0 < 256) → 0 < size
     → made.rounds ≡ rounds_named the_rest → asked_or (option_or (rounds_fault the_rest) (salt_fault (salt_in (past_rounds the_rest)))) made ≡ Ok s → Suits size s
 suits_sound size the_rest made s sized first some named e =
@@ -87,14 +87,14 @@ suits_sound size the_rest made s sized first some named e =
     subst (Suits size) d.same (record { sized = sized; first = first; some = some; few = omega (arith, few, same) })
 
 -- by what the setting begins with
-suits_by : (narrow wide : Bool) (setting : List ℕ) (s : Asked)
+suits_by : (narrow wide : Bool) (setting : List ℕ) (s : PlainSetting)
     → asked_by (if narrow then method_of (codes "$5$") else if wide then method_of (codes "$6$") else None) setting ≡ Ok s
     → Suits (if narrow then 32 else 64) s
 suits_by true wide setting s e = suits_sound 32 (drop 3 setting) _ s length-sha256 first_byte_256 (omega arith) refl e
 suits_by false true setting s e = suits_sound 64 (drop 3 setting) _ s length-sha512 first_byte_512 (omega arith) refl e
 suits_by false false setting s e = absurd cc
 
-suits : (setting : List ℕ) (s : Asked) → asked setting ≡ Ok s → Suits (size_of setting) s
+suits : (setting : List ℕ) (s : PlainSetting) → asked setting ≡ Ok s → Suits (size_of setting) s
 suits setting s e = suits_by (begins (codes "$5$") setting) (begins (codes "$6$") setting) setting s e
 
 -- ---- the laws

@@ -6,12 +6,12 @@ use Rattle.sha_crypt.specs.Characters.{groups, groups_text, last_group}
 use Rattle.sha_crypt.specs.Digest.{digest}
 use Rattle.sha_crypt.specs.Hash.{crypted}
 use Rattle.sha_crypt.specs.Mixing.{digest_a, mixed}
-use Rattle.sha_crypt.specs.Setting.{Asked, asked, begins, setting_text}
+use Rattle.sha_crypt.specs.Setting.{PlainSetting, asked, begins, setting_text}
 use Rattle.laws_cost.specs.Digests.{noted_digest, noted_mixed, rounds_of}
 
 -- the hash of a key under a setting without a fault, as `crypt` returns it
 abbrev pub HashIsOfDigests : Type 0
-HashIsOfDigests = (setting key : List ℕ) (s : Asked) → asked setting ≡ Ok s →
+HashIsOfDigests = (setting key : List ℕ) (s : PlainSetting) → asked setting ≡ Ok s →
     crypted setting key ≡ Ok (setting_text s
     ++ groups_text (groups s.method) (last_group s.method) (noted_digest s key).value)
 
@@ -22,11 +22,11 @@ NoDigestIsLeftOut = (H other : List ℕ → List ℕ) (key salt : List ℕ) (rou
     mixed other key salt rounds ≡ mixed H key salt rounds
 
 abbrev pub DigestsByRounds : Type 0
-DigestsByRounds = (s : Asked) (key : List ℕ) →
+DigestsByRounds = (s : PlainSetting) (key : List ℕ) →
     length (noted_digest s key).texts ≡ 4 + rounds_of s
 
 abbrev pub RoundsAreBounded : Type 0
-RoundsAreBounded = (setting key : List ℕ) (s : Asked) → asked setting ≡ Ok s →
+RoundsAreBounded = (setting key : List ℕ) (s : PlainSetting) → asked setting ≡ Ok s →
     length (noted_digest s key).texts ≤ 1000004
 
 -- ---- how long the texts are, by the size of a digest and the lengths of the key and the salt
@@ -57,7 +57,7 @@ abbrev pub size_of : List ℕ → ℕ
 size_of setting = if begins (codes "$5$") setting then 32 else 64
 
 abbrev pub LengthsByLengths : Type 0
-LengthsByLengths = (setting key : List ℕ) (s : Asked) → asked setting ≡ Ok s →
+LengthsByLengths = (setting key : List ℕ) (s : PlainSetting) → asked setting ≡ Ok s →
     let first = slice_index (digest_a (digest s.method) key s.salt) 0 in
     (first < 256) × (map length (noted_digest s key).texts
     ≡ text_lengths (size_of setting) (length key) (length s.salt) first (rounds_of s))

@@ -4,7 +4,7 @@ use Rattle.std.specs.Prelude.{ℕ, zero, suc, ◌+◌, List, [], ◌∷◌, ◌+
 use Rattle.std.specs.List.{repeat}
 use Rattle.sha_crypt.specs.Digest.{digest}
 use Rattle.sha_crypt.specs.Mixing.{by_digits, repeat_to, round_text}
-use Rattle.sha_crypt.specs.Setting.{Asked}
+use Rattle.sha_crypt.specs.Setting.{PlainSetting}
 
 -- a digest, and the texts that have been digested, it included
 pub record Noted : Type 0 where
@@ -38,9 +38,9 @@ module _ (H : List ℕ → List ℕ) where
       (noted a.value q.texts) rounds
 
 -- the rounds that a setting asks for, 5,000 if it doesn't name any
-abbrev pub rounds_of : Asked → ℕ
+abbrev pub rounds_of : PlainSetting → ℕ
 rounds_of s = unwrap_or s.rounds 5000
 
 -- the digest of a key as a setting asks for it
-abbrev pub noted_digest : Asked → List ℕ → Noted
+abbrev pub noted_digest : PlainSetting → List ℕ → Noted
 noted_digest s key = noted_mixed (digest s.method) key s.salt (rounds_of s)

@@ -7,7 +7,7 @@ use Rattle.pam_base.specs.declared.style.Style.{Style}
 use Rattle.pam_base.specs.declared.style.Style.TheVariants.{EchoOff}
 use Rattle.pam_room.specs.Call.{PlainCall}
 use Rattle.pam_room.specs.Module.{NamedData, Played, SeenRoom, answered}
-use Rattle.pam_room.specs.Say.{Asked, asked_by, speak, token_asked, token_of, user_or_ask}
+use Rattle.pam_room.specs.Say.{AfterPrompt, asked_by, speak, token_asked, token_of, user_or_ask}
 use Rattle.pam_room.specs.item_store.specs.Items.{ItemTexts, text_of}
 use Rattle.pam_room.specs.conv_port.specs.declared.conv.ConvFault.{ConvFault}
 use Rattle.pam_room.specs.conv_port.specs.declared.message.Reply.{Reply}
@@ -61,7 +61,7 @@ module _ (user : List ℕ) where
   asked_stays true (Ok (reply ∷ replies)) room is = is
   asked_stays false (Ok (reply ∷ replies)) room is = is
 
-  token_by : (refused old : Bool) (a : Asked) (act : List ℕ → Act) → ((token : List ℕ) → Still (act token)) → (stage : Stage) → a.room.items.user ≡ Some user
+  token_by : (refused old : Bool) (a : AfterPrompt) (act : List ℕ → Act) → ((token : List ℕ) → Still (act token)) → (stage : Stage) → a.room.items.user ≡ Some user
       → LeftAlone user stage.sight
       (cond refused (answered returns.ConvErr a.room stage.sight) (act (unwrap_or (text_of a.room.items (token_of old)) []) (in_room a.room stage)))
   token_by true old a act next stage is = record { user_is = is; files_are = refl }

@@ -21,7 +21,7 @@ use Rattle.pass_replay.specs.dispatch_core.specs.Calls.{Held, Went, answers_held
 use Rattle.pass_replay.specs.dispatch_core.specs.Calls.{goes, held_past, second_pass}
 use Rattle.pass_replay.specs.dispatch_core.specs.Pending.{first_in, is_other_pending, past_in}
 use Rattle.pass_replay.specs.Replay.{as_told}
-use Rattle.report_lines.specs.Line.{Told, answered, block_of, runs, shows_code}
+use Rattle.report_lines.specs.Line.{ToldLine, answered, block_of, runs, shows_code}
 use Rattle.session_audit.specs.Fits.{SlotLog, at_call, after_at, is_none, is_refused_change, is_retold, only_if, running, same_code, visits_told, with_after}
 use Rattle.explain_lines.specs.Origins.{Sources, origins_in}
 use Rattle.explain_calls.specs.Calls.{past_text, call_after_text, call_text, change_text, first_text, refused_text, run_text, second_text}
@@ -107,7 +107,7 @@ retold_code code w is =
     are_same code w.code (and_parts (is_none w.state.left) (same_code code w.code)
     (and_parts (not w.state.astray) (is_none w.state.left && same_code code w.code) is).1).1
 
-code_told : (stacks : Stacks) (func : Func) (code : Code) (told : List Told) (h : Held) → is_refused_change func code (visits_told told) ≡ false
+code_told : (stacks : Stacks) (func : Func) (code : Code) (told : List ToldLine) (h : Held) → is_refused_change func code (visits_told told) ≡ false
     → (at_call stacks func code (visits_told told) h ≡ None → ⊥) → code ≡ (goes as_told stacks func h (telling (visits_told told))).code
 code_told stacks func code told h plain fits =
     let w = goes as_told stacks func h (telling (visits_told told)) in

@@ -11,7 +11,7 @@ use Rattle.control_words.specs.Module.{name_of_module}
 use Rattle.control_words.specs.Stack.{Stack, none, line, sub}
 use Rattle.handler_chain.specs.declared.pass_kind.PassKind.TheVariants as kinds
 use Rattle.handler_chain.specs.Pass.{pass_after}
-use Rattle.handler_chain.specs.Retell.{Seen, replaying, seen_at, telling}
+use Rattle.handler_chain.specs.Retell.{RecordedLine, replaying, seen_at, telling}
 use Rattle.handler_chain.specs.Walk.{code_of}
 use Rattle.explain_lines.specs.declared.row.Row.{Row}
 use Rattle.explain_lines.specs.Text.{end_text}
@@ -24,13 +24,13 @@ controlled control = record { silent = false; control = control; path = codes "p
 abbrev always : Action → List Action
 always action = map (λ (c : Code). action) all_codes
 
-abbrev seen : ℕ → Code → Seen
+abbrev seen : ℕ → Code → RecordedLine
 seen place answer = seen_at place (name_of_module (codes "pam_x.so")) answer
 
-abbrev shown : Stack → List Seen → List Row
+abbrev shown : Stack → List RecordedLine → List Row
 shown stack told = pass_rows kinds.Keep (λ place. None) stack [] (telling told)
 
-abbrev code : Stack → List Seen → Code
+abbrev code : Stack → List RecordedLine → Code
 code stack told = code_of (pass_after kinds.Keep (λ place. None) replaying stack [] (telling told))
 
 abbrev two : Stack

@@ -14,7 +14,7 @@ use Rattle.handler_chain.specs.Route.{KeptAnswers}
 use Rattle.handler_chain.specs.Walk.{code_of}
 use Rattle.pass_replay.specs.dispatch_core.specs.Calls.{Held, goes}
 use Rattle.pass_replay.specs.Replay.{as_told}
-use Rattle.report_lines.specs.Line.{Told, answered, block_of, runs, shows_code}
+use Rattle.report_lines.specs.Line.{ToldLine, answered, block_of, runs, shows_code}
 use Rattle.session_audit.specs.Fits.{SlotLog, after_block, is_refused_change, place_at, running, visits_told}
 use Rattle.explain_lines.specs.Origins.{Sources}
 use Rattle.explain_lines.specs.Text.{pass_text}
@@ -60,7 +60,7 @@ CallsEndWithTheirCode =
 abbrev pub FittingCallsEndWithTheirCode : Type 0
 FittingCallsEndWithTheirCode =
     (stacks : Stacks) (sources : Sources) (places new_logs : List SlotLog) (number : ℕ)
-    (told : List Told) (func : Func) (code : Code) (h : Held) →
+    (told : List ToldLine) (func : Func) (code : Code) (h : Held) →
     let result = answered (runs func) (shows_code code) in
     place_at places number ≡ Some (running h) →
     after_block stacks places (block_of number told result) ≡ Some new_logs →

@@ -12,7 +12,7 @@ use Rattle.pam_outside.specs.Files.{File, file_at, file_put}
 use Rattle.pam_outside.specs.Paths.{path_of}
 use Rattle.pam_room.specs.Call.{PlainCall}
 use Rattle.pam_room.specs.Module.{NamedData, Played, SeenRoom, Sight}
-use Rattle.pam_room.specs.Say.{Asked, user_asked}
+use Rattle.pam_room.specs.Say.{AfterPrompt, user_asked}
 use Rattle.account_db.specs.declared.passwd.Passwd.{Passwd}
 use Rattle.module_acts.specs.declared.content.Content.{Content}
 use Rattle.module_acts.specs.declared.content.Content.TheVariants.{Absent}
@@ -226,14 +226,14 @@ module _ (path : List ℕ) (call : PlainCall) where
       let k = for_named path given task user (is_no_file user) stage in
       (k.room_is, λ other. k.file_is (other user (ap (λ (r : SeenRoom). r.items.user) k.room_is ∙ sym is)))
 
-  asked_by : (a : Asked) (refused : Bool) → a.refused ≡ refused → (task : Task) (room : SeenRoom) (held : List NamedData) (sight : Sight) → a ≡ user_asked room
+  asked_by : (a : AfterPrompt) (refused : Bool) → a.refused ≡ refused → (task : Task) (room : SeenRoom) (held : List NamedData) (sight : Sight) → a ≡ user_asked room
       → Leaves path call room sight (with_user a (λ user. unless_no_file (is_no_file user) task given user)
       (record { room = room; held = held; known = nothing_known; sight = sight }))
-  asked_by a true is task room held sight same = rw is (record { room_is = inr (ap (λ (b : Asked). b.room) same); file_is = λ other. refl })
+  asked_by a true is task room held sight same = rw is (record { room_is = inr (ap (λ (b : AfterPrompt). b.room) same); file_is = λ other. refl })
   asked_by a false is task room held sight same =
       let stage : Stage = record { room = a.room; held = held; known = nothing_known; sight = sight } in
       let b = by_name task a.room.items.user stage refl in
-      rw is (record { room_is = inr (b.0 ∙ ap (λ (c : Asked). c.room) same); file_is = b.1 })
+      rw is (record { room_is = inr (b.0 ∙ ap (λ (c : AfterPrompt). c.room) same); file_is = b.1 })
 
   by_task : (r : Result Task Code) (room : SeenRoom) (held : List NamedData) (sight : Sight)
       → Leaves path call room sight (task_or_code r given (record { room = room; held = held; known = nothing_known; sight = sight }))

@@ -11,7 +11,7 @@ use Rattle.pam_outside.specs.Files.{File, file_at, file_put}
 use Rattle.pam_outside.specs.Paths.{path_of}
 use Rattle.pam_room.specs.item_store.specs.Items.{ItemTexts}
 use Rattle.pam_room.specs.Module.{Played, answered}
-use Rattle.pam_room.specs.Say.{Asked, user_asked}
+use Rattle.pam_room.specs.Say.{AfterPrompt, user_asked}
 use Rattle.account_db.specs.declared.passwd.Passwd.{Passwd}
 use Rattle.module_acts.specs.declared.content.Content.{Content}
 use Rattle.module_acts.specs.Content.{content_of, is_rooted}
@@ -281,7 +281,7 @@ module _ (s : PlainSettings) (user : List ℕ) where
   named true task = answering (tally_name s.folder user) returns.UserUnknown
   named false task = finding (tally_name s.folder user) user (task_for_account task s user) (accounted task)
 
-  by_asking : (task : Task) (refused : Bool) (a : Asked) (stage : Stage) (others : List File) → a.room.items.user ≡ Some user
+  by_asking : (task : Task) (refused : Bool) (a : AfterPrompt) (stage : Stage) (others : List File) → a.room.items.user ≡ Some user
       → Twin (tally_name s.folder user) stage others
       → Same (tally_name s.folder user) stage
       (cond refused (answered returns.ConvErr a.room (record stage.sight { files = others }))

@@ -15,7 +15,7 @@ use Rattle.conv_port.specs.declared.conv.ConvFault.TheVariants as faults
 use Rattle.pam_room.specs.item_store.specs.Items.{ItemTexts}
 use Rattle.pam_room.specs.Call.{PlainCall, has_flag}
 use Rattle.pam_room.specs.Module.{SeenRoom, Sight, answered}
-use Rattle.pam_room.specs.Say.{Asked, asked_by, login_prompt, speak, token_asked, user_asked, user_or_ask}
+use Rattle.pam_room.specs.Say.{AfterPrompt, asked_by, login_prompt, speak, token_asked, user_asked, user_or_ask}
 use Rattle.account_db.specs.declared.fault.DbFault.{DbFault}
 use Rattle.account_db.specs.declared.passwd.Passwd.{Passwd}
 use Rattle.account_db.specs.declared.shadow.Shadow.{Shadow}
@@ -75,7 +75,7 @@ password hash token e = password_by (is_locked hash) (nat_lt 512 (length token))
 
 -- ---- one prompt: a reply is the item, and the user stays
 
-record Filled (before : SeenRoom) (a : Asked) : Type 0 where
+record Filled (before : SeenRoom) (a : AfterPrompt) : Type 0 where
   token_is : a.room.items.auth_tok ≡ Some (unwrap_or a.room.items.auth_tok [])
   user_stays : a.room.items.user ≡ before.items.user
 
@@ -138,7 +138,7 @@ module _ (call : PlainCall) (look : KnownPassword) where
         why = inl (record { token = token; token_is = ap (λ (r : SeenRoom). r.items.auth_tok) k.1 ∙ is; verified_so = sym k.0 ∙ e });
       }
 
-  asked_so : (refused : Bool) (a : Asked) (stage : Stage) → a.refused ≡ refused → (a.refused ≡ false → Filled stage.room a)
+  asked_so : (refused : Bool) (a : AfterPrompt) (stage : Stage) → a.refused ≡ refused → (a.refused ≡ false → Filled stage.room a)
       → (cond refused (answered returns.ConvErr a.room stage.sight) (with_first look (Some (unwrap_or a.room.items.auth_tok [])) keeps_for_setcred (in_room a.room stage))).code ≡ returns.Success
       → Judged stage.room.items (cond refused (answered returns.ConvErr a.room stage.sight) (with_first look (Some (unwrap_or a.room.items.auth_tok [])) keeps_for_setcred (in_room a.room stage))).room.items
   asked_so true a stage is fills e = absurd cc
@@ -352,7 +352,7 @@ module _ (call : PlainCall) (user : List ℕ) where
 ends_well : (call : PlainCall) (root : List ℕ) (files : List File) (user : List ℕ) (before after : ItemTexts) → before.user ≡ Some user → Ends call root files user before after → HasPassword call root files after
 ends_well call root files user before after is d = record { user = user; user_is = d.user_stays ∙ is; hash = d.hash; hash_is = d.hash_is; password = d.password_is }
 
-by_asking : (call : PlainCall) (refused : Bool) (a : Asked) (stage : Stage) → a.refused ≡ refused → (a.refused ≡ false → a.room.items.user ≡ Some (unwrap_or a.room.items.user []))
+by_asking : (call : PlainCall) (refused : Bool) (a : AfterPrompt) (stage : Stage) → a.refused ≡ refused → (a.refused ≡ false → a.room.items.user ≡ Some (unwrap_or a.room.items.user []))
     → (cond refused (answered returns.ConvErr a.room stage.sight) (looks (unwrap_or a.room.items.user []) (judged_by call) (in_room a.room stage))).code ≡ returns.Success
     → HasPassword call stage.sight.root stage.sight.files (cond refused (answered returns.ConvErr a.room stage.sight) (looks (unwrap_or a.room.items.user []) (judged_by call) (in_room a.room stage))).room.items
 by_asking call true a stage is fills e = absurd cc

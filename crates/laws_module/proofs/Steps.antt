@@ -13,7 +13,7 @@ use Rattle.pam_outside.specs.Paths.{path_of}
 use Rattle.pam_outside.specs.Time.{Time}
 use Rattle.pam_room.specs.item_store.specs.Items.{ItemTexts, text_of}
 use Rattle.pam_room.specs.Module.{NamedData, Played, SeenRoom, answered}
-use Rattle.pam_room.specs.Say.{Asked, speak, token_asked, token_of, user_asked}
+use Rattle.pam_room.specs.Say.{AfterPrompt, speak, token_asked, token_of, user_asked}
 use Rattle.account_db.specs.declared.fault.DbFault.{DbFault}
 use Rattle.account_db.specs.declared.passwd.Passwd.{Passwd}
 use Rattle.account_db.specs.Passwd.{entry_of, passwds_of}
@@ -110,7 +110,7 @@ module _ (R : List ℕ → ℕ → List File → List File → Type 0) where
 
   -- ---- what is asked and set
 
-  by_asking : (user : List ℕ) (act : List ℕ → Act) → Alike (act user) → (refused : Bool) (a : Asked) (stage : Stage) (others : List File)
+  by_asking : (user : List ℕ) (act : List ℕ → Act) → Alike (act user) → (refused : Bool) (a : AfterPrompt) (stage : Stage) (others : List File)
       → a.room.items.user ≡ Some user → Agrees stage others
       → SameFrom stage
       (cond refused (answered returns.ConvErr a.room (record stage.sight { files = others })) (act (unwrap_or a.room.items.user []) (in_room a.room (with_files others stage))))
@@ -126,7 +126,7 @@ module _ (R : List ℕ → ℕ → List File → List File → Type 0) where
   unfolding asks_user
   asking user act next stage others is r = by_asking user act next (user_asked stage.room).refused (user_asked stage.room) stage others is r
 
-  token_by : (item : ItemName) (act : List ℕ → Act) → ((token : List ℕ) → Alike (act token)) → (refused : Bool) (a : Asked) (stage : Stage) (others : List File)
+  token_by : (item : ItemName) (act : List ℕ → Act) → ((token : List ℕ) → Alike (act token)) → (refused : Bool) (a : AfterPrompt) (stage : Stage) (others : List File)
       → Agrees stage others
       → SameFrom stage
       (cond refused (answered returns.ConvErr a.room (record stage.sight { files = others })) (act (unwrap_or (text_of a.room.items item) []) (in_room a.room (with_files others stage))))

@@ -21,7 +21,7 @@ use Rattle.pam_outside.specs.Time.{Time}
 use Rattle.pam_room.specs.item_store.specs.Items.{ItemTexts, text_of}
 use Rattle.pam_room.specs.Call.{PlainCall, has_flag, prelim_check}
 use Rattle.pam_room.specs.Module.{NamedData, Played, SeenRoom, answered}
-use Rattle.pam_room.specs.Say.{Asked, asked_by, speak, token_asked, token_of, user_asked}
+use Rattle.pam_room.specs.Say.{AfterPrompt, asked_by, speak, token_asked, token_of, user_asked}
 use Rattle.account_db.specs.declared.fault.DbFault.{DbFault}
 use Rattle.account_db.specs.declared.passwd.Passwd.{Passwd}
 use Rattle.account_db.specs.Passwd.{entry_of, passwds_of}
@@ -110,7 +110,7 @@ module _ (T : ℕ → Type 0) (Q : List ℕ → List File → List File → Type
 
   -- ---- asking and setting
 
-  by_asking : (act : List ℕ → Act) → Spares (act user) → (refused : Bool) (a : Asked) (stage : Stage) → T stage.sight.clock.moment
+  by_asking : (act : List ℕ → Act) → Spares (act user) → (refused : Bool) (a : AfterPrompt) (stage : Stage) → T stage.sight.clock.moment
       → a.room.items.user ≡ Some user
       → Left Q user stage.sight.root stage.sight.files
       (cond refused (answered returns.ConvErr a.room stage.sight) (act (unwrap_or a.room.items.user []) (in_room a.room stage)))
@@ -132,7 +132,7 @@ module _ (T : ℕ → Type 0) (Q : List ℕ → List File → List File → Type
   asked_stays true (Ok (reply ∷ replies)) room is = is
   asked_stays false (Ok (reply ∷ replies)) room is = is
 
-  token_by : (refused old : Bool) (a : Asked) (act : List ℕ → Act) → ((token : List ℕ) → Spares (act token)) → (stage : Stage)
+  token_by : (refused old : Bool) (a : AfterPrompt) (act : List ℕ → Act) → ((token : List ℕ) → Spares (act token)) → (stage : Stage)
       → T stage.sight.clock.moment → a.room.items.user ≡ Some user
       → Left Q user stage.sight.root stage.sight.files
       (cond refused (answered returns.ConvErr a.room stage.sight) (act (unwrap_or (text_of a.room.items (token_of old)) []) (in_room a.room stage)))

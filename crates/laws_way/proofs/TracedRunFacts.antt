@@ -14,14 +14,14 @@ use Rattle.handler_chain.specs.declared.opinion.Opinion.{Opinion}
 use Rattle.handler_chain.specs.declared.pass_kind.PassKind.{PassKind}
 use Rattle.handler_chain.specs.Opinion.{acted, opening}
 use Rattle.handler_chain.specs.Pass.{Answered, PassState, Visit, answers_of, is_incomplete, pass_after, pass_state, served_past, serving, visit}
-use Rattle.handler_chain.specs.Retell.{Seen, Telling, answer_told, is_of, replaying, strays, telling}
+use Rattle.handler_chain.specs.Retell.{RecordedLine, Telling, answer_told, is_of, replaying, strays, telling}
 use Rattle.handler_chain.specs.Route.{KeptAnswers}
 use Rattle.handler_chain.specs.Walk.{Next, Served, Walked, after, halted, new_or_overrun, next_of, onward, stop, walk, walked}
 use Rattle.dispatch_core.specs.Failing.{visits_in}
 use Rattle.dispatch_core.specs.Trail.{seen_in}
 
 -- recorded lines, as those of a walk
-abbrev pub lines_of : List Seen → List Visit
+abbrev pub lines_of : List RecordedLine → List Visit
 lines_of [] = []
 lines_of (v ∷ vs) = visit v.place v.answer ∷ lines_of vs
 
@@ -105,17 +105,17 @@ not_added true x y is = absurd (true≢false is)
 not_added false x y is = refl
 
 module _ (kind : PassKind) (kept : KeptAnswers) where
-  abbrev Line : ℕ → Answered Telling → List Seen → Type 0
+  abbrev Line : ℕ → Answered Telling → List RecordedLine → Type 0
   Line at a left = is_incomplete a.answer ≡ false → lines_of left ≡ visit at a.answer ∷ lines_of a.state.left
 
-  next_told : (b : Bool) (rule : Rule) (at : ℕ) (v : Seen) (vs : List Seen) → is_of v rule at ≡ b
+  next_told : (b : Bool) (rule : Rule) (at : ℕ) (v : RecordedLine) (vs : List RecordedLine) → is_of v rule at ≡ b
       → Line at (if b then record { answer = v.answer; state = telling vs } else strays (v ∷ vs)) (v ∷ vs)
   next_told false rule at v vs is = λ runs. absurd (true≢false runs)
   next_told true rule at v vs is = λ runs.
       let both = and_parts (nat_eq v.place at) (bytes_eq v.name (name_of_module rule.path)) is in
       ap (λ (n : ℕ). visit n v.answer ∷ lines_of vs) (eqb-true v.place at both.0)
 
-  line_told : (left : List Seen) (rule : Rule) (at : ℕ) → Line at (answer_told rule at left) left
+  line_told : (left : List RecordedLine) (rule : Rule) (at : ℕ) → Line at (answer_told rule at left) left
   line_told [] rule at = λ runs. absurd (true≢false runs)
   line_told (v ∷ vs) rule at = next_told (is_of v rule at) rule at v vs refl
 
@@ -180,7 +180,7 @@ module _ (kind : PassKind) (kept : KeptAnswers) where
   run_moves stack past t runs = walk_moves 0 stack 1 opening opening (pass_state past [] t) runs
 
   -- one that isn't resumed
-  pub runs_told : (stack : Stack) (left : List Seen) (t : Telling) → t.left ≡ left → (pass_after kind kept replaying stack [] t).stopped ≡ false
+  pub runs_told : (stack : Stack) (left : List RecordedLine) (t : Telling) → t.left ≡ left → (pass_after kind kept replaying stack [] t).stopped ≡ false
       → (pass_after kind kept replaying stack [] t).state.visits ++ lines_of (pass_after kind kept replaying stack [] t).state.state.left ≡ lines_of left
   runs_told stack left t is runs =
       let w : Walked (PassState Telling) = pass_after kind kept replaying stack [] t in

@@ -151,20 +151,20 @@ value_is_spelled text = pieces_spelled (length text) text
 -- ---- settings
 
 -- a setting, except what its value's marks spell
-pub record Sets (key : Key) (inner text past_end : List Mark) : Type 0 where
+pub record Sets (key : Key) (inner text followed : List Mark) : Type 0 where
   pub white : List Mark
   pub at : List Mark
   pub text_is : text ≡ white ++ (word_of key ++ at)
   pub is_blank : list_all is_white_mark white ≡ true
-  pub form : (value : List Piece) → SpellsValue value inner → SpellsQuoted value at past_end ⊎ SpellsWord value at past_end
-  pub ends : is_end past_end ≡ true
+  pub form : (value : List Piece) → SpellsValue value inner → SpellsQuoted value at followed ⊎ SpellsWord value at followed
+  pub ends : is_end followed ≡ true
 
 abbrev pub SetsNext : conf.Setting → List Mark → Type 0
 SetsNext conf.ended text = list_all is_white_mark text ≡ true
 SetsNext conf.broken text = Unit {0}
-SetsNext (conf.one key inner past_end) text = Sets key inner text past_end
+SetsNext (conf.one key inner followed) text = Sets key inner text followed
 
-ends_as : (past_end : List Mark) → conf.ends_word past_end ≡ is_end past_end
+ends_as : (followed : List Mark) → conf.ends_word followed ≡ is_end followed
 ends_as [] = refl
 ends_as (m ∷ ms) = refl
 
@@ -172,8 +172,8 @@ quoted_by : (ms : List Mark) → quotes ms ≡ true → ms ≡ marks.Byte 34 ∷
 quoted_by [] e = absurd cc
 quoted_by (m ∷ ms) e = ap (λ (n : Mark). n ∷ ms) (is_that 34 m e)
 
-white_ends : (past_end : List Mark) (m : Mark) (ms : List Mark) → past_end ≡ m ∷ ms → is_white_mark m ≡ true → is_end past_end ≡ true
-white_ends past_end m ms is e = rw is e
+white_ends : (followed : List Mark) (m : Mark) (ms : List Mark) → followed ≡ m ∷ ms → is_white_mark m ≡ true → is_end followed ≡ true
+white_ends followed m ms is e = rw is e
 
 module _ (key : Key) (white at text : List Mark) (is : text ≡ white ++ (word_of key ++ at)) (blank : list_all is_white_mark white ≡ true) where
   in_quotes : (n : ℕ) → at ≡ marks.Byte 34 ∷ drop 1 at → FoundAt (is_byte 34) (drop 1 at) n → is_end (drop (suc n) (drop 1 at)) ≡ true
@@ -208,9 +208,9 @@ module _ (key : Key) (white at text : List Mark) (is : text ≡ white ++ (word_o
   quoted_spelled None opens_at e = tt
   quoted_spelled (Some n) opens_at e = closes n opens_at (found_at (is_byte 34) (drop 1 at) n e) (conf.ends_word (drop (n + 1) (drop 1 at))) refl
 
-  as_word : (inner past_end : List Mark) → at ≡ inner ++ past_end → quotes at ≡ false → list_any is_white_mark inner ≡ false → is_end past_end ≡ true
-      → Sets key inner text past_end
-  as_word inner past_end at_is plain whole ends = record {
+  as_word : (inner followed : List Mark) → at ≡ inner ++ followed → quotes at ≡ false → list_any is_white_mark inner ≡ false → is_end followed ≡ true
+      → Sets key inner text followed
+  as_word inner followed at_is plain whole ends = record {
     white = white;
     at = at;
     text_is = is;
@@ -301,9 +301,9 @@ abbrev pub SettlesTo : Values → Option Values → List Mark → Type 0
 SettlesTo values None text = Unit {0}
 SettlesTo values (Some all) text = (given : List Given) × SpellsSettings given text × (values_after given values ≡ all)
 
-whole_setting : (key : Key) (inner text past_end : List Mark) (value : List Piece) → Sets key inner text past_end → SpellsValue value inner
-    → SpellsSetting key value text past_end
-whole_setting key inner text past_end value s spelled = record {
+whole_setting : (key : Key) (inner text followed : List Mark) (value : List Piece) → Sets key inner text followed → SpellsValue value inner
+    → SpellsSetting key value text followed
+whole_setting key inner text followed value s spelled = record {
   white = s.white;
   at = s.at;
   text_is = s.text_is;
@@ -312,23 +312,23 @@ whole_setting key inner text past_end value s spelled = record {
   ends = s.ends;
 }
 
-one_more : (key : Key) (value : List Piece) (text past_end : List Mark) (values : Values) → SpellsSetting key value text past_end
-    → (all : Option Values) → SettlesTo (conf.with_value key value values) all past_end → SettlesTo values all text
-one_more key value text past_end values s None t = tt
-one_more key value text past_end values s (Some all) t = (record { key = key; value = value } ∷ t.0, (past_end, s, t.1), t.2)
+one_more : (key : Key) (value : List Piece) (text followed : List Mark) (values : Values) → SpellsSetting key value text followed
+    → (all : Option Values) → SettlesTo (conf.with_value key value values) all followed → SettlesTo values all text
+one_more key value text followed values s None t = tt
+one_more key value text followed values s (Some all) t = (record { key = key; value = value } ∷ t.0, (followed, s, t.1), t.2)
 
 module _ (more : Values → List Mark → Option Values) (spelled : (values : Values) (rest : List Mark) → SettlesTo values (more values rest) rest) (values : Values) (text : List Mark) where
-  by_value : (key : Key) (inner past_end : List Mark) → Sets key inner text past_end → (value : Option (List Piece)) → SpellsRead value inner
-      → SettlesTo values (conf.values_after_pieces more values key past_end value) text
-  by_value key inner past_end s None t = tt
-  by_value key inner past_end s (Some value) t =
-      one_more key value text past_end values (whole_setting key inner text past_end value s t) (more (conf.with_value key value values) past_end)
-      (spelled (conf.with_value key value values) past_end)
+  by_value : (key : Key) (inner followed : List Mark) → Sets key inner text followed → (value : Option (List Piece)) → SpellsRead value inner
+      → SettlesTo values (conf.values_after_pieces more values key followed value) text
+  by_value key inner followed s None t = tt
+  by_value key inner followed s (Some value) t =
+      one_more key value text followed values (whole_setting key inner text followed value s t) (more (conf.with_value key value values) followed)
+      (spelled (conf.with_value key value values) followed)
 
   by_setting_spelled : (found : conf.Setting) → SetsNext found text → SettlesTo values (conf.values_after_setting more values found) text
   by_setting_spelled conf.ended s = ([], s, refl)
   by_setting_spelled conf.broken s = tt
-  by_setting_spelled (conf.one key inner past_end) s = by_value key inner past_end s (pieces_of inner) (value_is_spelled inner)
+  by_setting_spelled (conf.one key inner followed) s = by_value key inner followed s (pieces_of inner) (value_is_spelled inner)
 
 none_left : (values : Values) (text : List Mark) (is : Bool) → (length (after_white text) == 0) ≡ is → SettlesTo values (cond is (Some values) None) text
 none_left values text true e = ([], only_white text (skipped text) (is_empty (after_white text) e), refl)
@@ -388,21 +388,21 @@ named_by text None e =
     let none = none_at is_white text e in
     let at : position_or_len is_white text ≡ length text = none_before is_white text none in
     let all : before_first is_white text ≡ text = rw at (take-length text) in
-    let past_end : after_first is_white text ≡ [] = rw at (drop_of_length-le text (omega arith)) in
+    let followed : after_first is_white text ≡ [] = rw at (drop_of_length-le text (omega arith)) in
     record {
       tail = [];
       is = sym (ap (λ (t : List ℕ). t ++ []) all ∙ append-nil text);
-      follows = inl (refl, past_end);
+      follows = inl (refl, followed);
       whole = ap (list_any is_white) all ∙ none;
     }
 named_by text (Some n) e =
     let at : position_or_len is_white text ≡ n = grind (arith, nat_tests) in
     let f = found_at is_white text n e in
-    let past_end : after_first is_white text ≡ drop (suc n) text = rw (at, add-one) refl in
+    let followed : after_first is_white text ≡ drop (suc n) text = rw (at, add-one) refl in
     record {
       tail = drop n text;
       is = rw at (f.is ∙ ap (λ (t : List ℕ). take n text ++ t) (sym f.rest));
-      follows = inr (f.at, (f.rest ∙ ap (λ (t : List ℕ). f.at ∷ t) (sym past_end)), f.passes);
+      follows = inr (f.at, (f.rest ∙ ap (λ (t : List ℕ). f.at ∷ t) (sym followed)), f.passes);
       whole = rw at f.none;
     }
 

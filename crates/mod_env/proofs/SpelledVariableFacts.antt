@@ -64,35 +64,35 @@ pub quoted : (ms : List Mark) → begins_with (34 ∷ []) ms ≡ quotes ms
 quoted [] = refl
 quoted (m ∷ ms) = and_true (is_byte 34 m)
 
-after_seam : {A : Type 0} (inner : List A) (m : A) (past_end : List A) → drop (length inner + 1) (inner ++ m ∷ past_end) ≡ past_end
-after_seam [] m past_end = refl
-after_seam (x ∷ inner) m past_end = let e : suc (length inner) + 1 ≡ suc (length inner + 1) = omega arith in rw e (after_seam inner m past_end)
+after_seam : {A : Type 0} (inner : List A) (m : A) (followed : List A) → drop (length inner + 1) (inner ++ m ∷ followed) ≡ followed
+after_seam [] m followed = refl
+after_seam (x ∷ inner) m followed = let e : suc (length inner) + 1 ≡ suc (length inner + 1) = omega arith in rw e (after_seam inner m followed)
 
-by_place : (sigil : ℕ) (inner past_end : List Mark) → is_sigil sigil ≡ true → list_any (is_byte 125) inner ≡ false
-    → next_piece (marks.Byte sigil ∷ marks.Byte 123 ∷ (inner ++ marks.Byte 125 ∷ past_end)) ≡ one (place sigil (text_of inner)) past_end
-by_place sigil inner past_end is none =
-    rw (is, place_after (is_byte 125) inner (marks.Byte 125) past_end none refl)
-    (rw (take-append_seam inner (marks.Byte 125 ∷ past_end), after_seam inner (marks.Byte 125) past_end) refl)
+by_place : (sigil : ℕ) (inner followed : List Mark) → is_sigil sigil ≡ true → list_any (is_byte 125) inner ≡ false
+    → next_piece (marks.Byte sigil ∷ marks.Byte 123 ∷ (inner ++ marks.Byte 125 ∷ followed)) ≡ one (place sigil (text_of inner)) followed
+by_place sigil inner followed is none =
+    rw (is, place_after (is_byte 125) inner (marks.Byte 125) followed none refl)
+    (rw (take-append_seam inner (marks.Byte 125 ∷ followed), after_seam inner (marks.Byte 125) followed) refl)
 
-place_is_read : (sigil : ℕ) (name : List ℕ) (text past_end : List Mark) → is_sigil sigil ≡ true → SpellsPlace sigil name text past_end
-    → next_piece text ≡ one (place sigil name) past_end
-place_is_read sigil name text past_end is s =
-    ap next_piece s.text_is ∙ by_place sigil s.inner past_end is s.is_open ∙ ap (λ (n : List ℕ). one (place sigil n) past_end) (sym s.name_is)
+place_is_read : (sigil : ℕ) (name : List ℕ) (text followed : List Mark) → is_sigil sigil ≡ true → SpellsPlace sigil name text followed
+    → next_piece text ≡ one (place sigil name) followed
+place_is_read sigil name text followed is s =
+    ap next_piece s.text_is ∙ by_place sigil s.inner followed is s.is_open ∙ ap (λ (n : List ℕ). one (place sigil n) followed) (sym s.name_is)
 
-pub piece_is_read : (piece : Piece) (text past_end : List Mark) → SpellsPiece piece text past_end → next_piece text ≡ one piece past_end
-piece_is_read (Byte b) text past_end (inl e) = rw e refl
-piece_is_read (Byte b) text past_end (inr e) = rw (e.0, opened past_end, e.1) refl
-piece_is_read (Variable name) text past_end s = place_is_read 36 name text past_end refl s
-piece_is_read (Item name) text past_end s = place_is_read 64 name text past_end refl s
+pub piece_is_read : (piece : Piece) (text followed : List Mark) → SpellsPiece piece text followed → next_piece text ≡ one piece followed
+piece_is_read (Byte b) text followed (inl e) = rw e refl
+piece_is_read (Byte b) text followed (inr e) = rw (e.0, opened followed, e.1) refl
+piece_is_read (Variable name) text followed s = place_is_read 36 name text followed refl s
+piece_is_read (Item name) text followed s = place_is_read 64 name text followed refl s
 
-place_is_longer : (sigil : ℕ) (name : List ℕ) (text past_end : List Mark) → SpellsPlace sigil name text past_end → length past_end < length text
-place_is_longer sigil name text past_end s = omega (arith, ap length s.text_is, length-append s.inner (marks.Byte 125 ∷ past_end))
+place_is_longer : (sigil : ℕ) (name : List ℕ) (text followed : List Mark) → SpellsPlace sigil name text followed → length followed < length text
+place_is_longer sigil name text followed s = omega (arith, ap length s.text_is, length-append s.inner (marks.Byte 125 ∷ followed))
 
-is_longer : (piece : Piece) (text past_end : List Mark) → SpellsPiece piece text past_end → length past_end < length text
-is_longer (Byte b) text past_end (inl e) = omega (arith, ap length e)
-is_longer (Byte b) text past_end (inr e) = omega (arith, ap length e.0)
-is_longer (Variable name) text past_end s = place_is_longer 36 name text past_end s
-is_longer (Item name) text past_end s = place_is_longer 64 name text past_end s
+is_longer : (piece : Piece) (text followed : List Mark) → SpellsPiece piece text followed → length followed < length text
+is_longer (Byte b) text followed (inl e) = omega (arith, ap length e)
+is_longer (Byte b) text followed (inr e) = omega (arith, ap length e.0)
+is_longer (Variable name) text followed s = place_is_longer 36 name text followed s
+is_longer (Item name) text followed s = place_is_longer 64 name text followed s
 
 value_within : (n : ℕ) (value : List Piece) (text : List Mark) → length text ≤ n → SpellsValue value text → pieces_within n text ≡ Some value
 value_within zero [] text few s = let none : text ≡ [] = s in rw none refl
@@ -127,75 +127,75 @@ at_word : (key : Key) (text : List Mark) → conf.next_setting (word_of key ++ t
 at_word Default text = rw (some_marks (marks.Byte 68)) refl
 at_word Override text = rw (some_marks (marks.Byte 79)) refl
 
-ended_by : (past_end : List Mark) → is_end past_end ≡ true → conf.ends_word past_end ≡ true
+ended_by : (followed : List Mark) → is_end followed ≡ true → conf.ends_word followed ≡ true
 ended_by [] e = refl
 ended_by (m ∷ ms) e = e
 
 -- a value's marks, with which what follows the key begins
-pub record Found (key : Key) (value : List Piece) (text past_end : List Mark) : Type 0 where
+pub record Found (key : Key) (value : List Piece) (text followed : List Mark) : Type 0 where
   pub inner : List Mark
-  pub found : conf.at_value key text ≡ conf.one key inner past_end
+  pub found : conf.at_value key text ≡ conf.one key inner followed
   pub spelled : SpellsValue value inner
 
-by_quote : (key : Key) (inner past_end : List Mark) → list_any (is_byte 34) inner ≡ false → is_end past_end ≡ true
-    → conf.at_value key (marks.Byte 34 ∷ (inner ++ marks.Byte 34 ∷ past_end)) ≡ conf.one key inner past_end
-by_quote key inner past_end none ends =
-    rw (place_after (is_byte 34) inner (marks.Byte 34) past_end none refl)
-    (rw (after_seam inner (marks.Byte 34) past_end, ended_by past_end ends, take-append_seam inner (marks.Byte 34 ∷ past_end)) refl)
+by_quote : (key : Key) (inner followed : List Mark) → list_any (is_byte 34) inner ≡ false → is_end followed ≡ true
+    → conf.at_value key (marks.Byte 34 ∷ (inner ++ marks.Byte 34 ∷ followed)) ≡ conf.one key inner followed
+by_quote key inner followed none ends =
+    rw (place_after (is_byte 34) inner (marks.Byte 34) followed none refl)
+    (rw (after_seam inner (marks.Byte 34) followed, ended_by followed ends, take-append_seam inner (marks.Byte 34 ∷ followed)) refl)
 
-quoted_is_read : (key : Key) (value : List Piece) (text past_end : List Mark) → SpellsQuoted value text past_end → is_end past_end ≡ true
-    → Found key value text past_end
-quoted_is_read key value text past_end s ends = record {
+quoted_is_read : (key : Key) (value : List Piece) (text followed : List Mark) → SpellsQuoted value text followed → is_end followed ≡ true
+    → Found key value text followed
+quoted_is_read key value text followed s ends = record {
   inner = s.inner;
-  found = ap (conf.at_value key) s.text_is ∙ by_quote key s.inner past_end s.is_open ends;
+  found = ap (conf.at_value key) s.text_is ∙ by_quote key s.inner followed s.is_open ends;
   spelled = s.spelled;
 }
 
-by_end : (key : Key) (inner past_end : List Mark) → list_any is_white_mark inner ≡ false → is_end past_end ≡ true
-    → conf.unquoted key (inner ++ past_end) (position is_white_mark (inner ++ past_end)) ≡ conf.one key inner past_end
+by_end : (key : Key) (inner followed : List Mark) → list_any is_white_mark inner ≡ false → is_end followed ≡ true
+    → conf.unquoted key (inner ++ followed) (position is_white_mark (inner ++ followed)) ≡ conf.one key inner followed
 by_end key inner [] none ends = rw (append-nil inner, no_place is_white_mark inner none) refl
 by_end key inner (m ∷ ms) none ends =
     rw (place_after is_white_mark inner m ms none ends, take-append_seam inner (m ∷ ms), drop-append_seam inner (m ∷ ms)) refl
 
-word_is_read : (key : Key) (value : List Piece) (text past_end : List Mark) → SpellsWord value text past_end → is_end past_end ≡ true
-    → Found key value text past_end
-word_is_read key value text past_end s ends =
+word_is_read : (key : Key) (value : List Piece) (text followed : List Mark) → SpellsWord value text followed → is_end followed ≡ true
+    → Found key value text followed
+word_is_read key value text followed s ends =
     let plain : begins_with (34 ∷ []) text ≡ false = quoted text ∙ s.unquoted in
     record {
       inner = s.inner;
-      found = rw plain (ap (λ (t : List Mark). conf.unquoted key t (position is_white_mark t)) s.text_is ∙ by_end key s.inner past_end s.unbroken ends);
+      found = rw plain (ap (λ (t : List Mark). conf.unquoted key t (position is_white_mark t)) s.text_is ∙ by_end key s.inner followed s.unbroken ends);
       spelled = s.spelled;
     }
 
-found_value : (key : Key) (value : List Piece) (text past_end : List Mark) → SpellsQuoted value text past_end ⊎ SpellsWord value text past_end → is_end past_end ≡ true
-    → Found key value text past_end
-found_value key value text past_end (inl s) ends = quoted_is_read key value text past_end s ends
-found_value key value text past_end (inr s) ends = word_is_read key value text past_end s ends
+found_value : (key : Key) (value : List Piece) (text followed : List Mark) → SpellsQuoted value text followed ⊎ SpellsWord value text followed → is_end followed ≡ true
+    → Found key value text followed
+found_value key value text followed (inl s) ends = quoted_is_read key value text followed s ends
+found_value key value text followed (inr s) ends = word_is_read key value text followed s ends
 
-module _ (key : Key) (value : List Piece) (text past_end : List Mark) (s : SpellsSetting key value text past_end) where
-  in_text : Found key value s.at past_end
-  in_text = found_value key value s.at past_end s.spelled s.ends
+module _ (key : Key) (value : List Piece) (text followed : List Mark) (s : SpellsSetting key value text followed) where
+  in_text : Found key value s.at followed
+  in_text = found_value key value s.at followed s.spelled s.ends
 
-  setting_is_read : conf.next_setting text ≡ conf.one key in_text.inner past_end
+  setting_is_read : conf.next_setting text ≡ conf.one key in_text.inner followed
   setting_is_read =
       ap conf.next_setting s.text_is ∙ ap conf.at_key (white_skipped s.white (word_of key ++ s.at) s.is_blank)
       ∙ at_word key s.at ∙ in_text.found
 
 -- a value is no longer than the text that it begins
-module _ (value : List Piece) (text past_end : List Mark) where
-  no_longer : SpellsQuoted value text past_end ⊎ SpellsWord value text past_end → length past_end ≤ length text
-  no_longer (inl s) = omega (arith, ap length s.text_is, length-append s.inner (marks.Byte 34 ∷ past_end))
-  no_longer (inr s) = omega (arith, ap length s.text_is, length-append s.inner past_end)
+module _ (value : List Piece) (text followed : List Mark) where
+  no_longer : SpellsQuoted value text followed ⊎ SpellsWord value text followed → length followed ≤ length text
+  no_longer (inl s) = omega (arith, ap length s.text_is, length-append s.inner (marks.Byte 34 ∷ followed))
+  no_longer (inr s) = omega (arith, ap length s.text_is, length-append s.inner followed)
 
 word_is_some : (key : Key) → 0 < length (word_of key)
 word_is_some Default = omega arith
 word_is_some Override = omega arith
 
-setting_is_longer : (key : Key) (value : List Piece) (text past_end : List Mark) → SpellsSetting key value text past_end → length past_end < length text
-setting_is_longer key value text past_end s =
+setting_is_longer : (key : Key) (value : List Piece) (text followed : List Mark) → SpellsSetting key value text followed → length followed < length text
+setting_is_longer key value text followed s =
     let white = length-append s.white (word_of key ++ s.at) in
     let word = length-append (word_of key) s.at in
-    omega (arith, ap length s.text_is, white, word, word_is_some key, no_longer value s.at past_end s.spelled)
+    omega (arith, ap length s.text_is, white, word, word_is_some key, no_longer value s.at followed s.spelled)
 
 settings_within : (n : ℕ) (given : List Given) (values : Values) (text : List Mark) → length text ≤ n → SpellsSettings given text
     → conf.values_within n values text ≡ Some (values_after given values)
@@ -233,7 +233,7 @@ counted b bs e = rw e refl
 
 entry_by : (text name settings : List ℕ) (values : Values) → before_first is_white text ≡ name → after_first is_white text ≡ settings
     → has_byte 61 name ≡ false → values_of (marks_of settings) ≡ Some values → conf.entry_at text ≡ Some (record { name = name; values = values })
-entry_by text name settings values named past_end none read = rw (named, past_end, none, read) refl
+entry_by text name settings values named followed none read = rw (named, followed, none, read) refl
 
 module _ (entry : EnvLine) (line : List ℕ) (s : SpellsEntry entry line) where
   named :

@@ -17,7 +17,7 @@ use Rattle.mod_env.specs.declared.conf.Values.{Values}
 use Rattle.mod_env.specs.declared.conf.EnvLine.{EnvLine}
 use Rattle.mod_env.specs.declared.conf.Setting.{Setting as LentSetting}
 use Rattle.mod_env.specs.declared.conf.Setting.TheVariants as borrowed
-use Rattle.mod_env.specs.Marks.{begins_with, past_end, after_white, is_byte, is_white_mark, marks_of}
+use Rattle.mod_env.specs.Marks.{begins_with, unspaced, after_white, is_byte, is_white_mark, marks_of}
 use Rattle.mod_env.specs.Value.{pieces_of}
 
 -- ---- the settings of a line
@@ -94,7 +94,7 @@ values_of marks = values_within (length marks) no_values marks
 
 -- a line without leading white space
 abbrev pub without_leading_white : List ℕ → List ℕ
-without_leading_white line = past_end is_white line
+without_leading_white line = unspaced is_white line
 
 -- a line counts unless it is all white space, or a comment
 abbrev pub counts : List ℕ → Bool

@@ -33,12 +33,12 @@ begins_with (c ∷ cs) [] = false
 begins_with (c ∷ cs) (m ∷ ms) = is_byte c m && begins_with cs ms
 
 -- what follows leading white space, of bytes or of marks
-abbrev pub past_end : {X : Type 0} → (X → Bool) → List X → List X
-past_end white [] = []
-past_end white (x ∷ xs) = if white x then past_end white xs else x ∷ xs
+abbrev pub unspaced : {X : Type 0} → (X → Bool) → List X → List X
+unspaced white [] = []
+unspaced white (x ∷ xs) = if white x then unspaced white xs else x ∷ xs
 
 abbrev pub after_white : List Mark → List Mark
-after_white marks = past_end is_white_mark marks
+after_white marks = unspaced is_white_mark marks
 
 -- the bytes themselves
 abbrev pub byte_of : Mark → Option ℕ

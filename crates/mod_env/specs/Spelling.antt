@@ -26,29 +26,29 @@ opens (m ∷ ms) = is_byte 123 m
 
 -- A place, with something after it: a sigil, a brace, a name, and the brace that closes it. No
 -- brace in the name closes it.
-pub record SpellsPlace (sigil : ℕ) (name : List ℕ) (text past_end : List Mark) : Type 0 where
+pub record SpellsPlace (sigil : ℕ) (name : List ℕ) (text followed : List Mark) : Type 0 where
   pub inner : List Mark
-  pub text_is : text ≡ marks.Byte sigil ∷ marks.Byte 123 ∷ (inner ++ marks.Byte 125 ∷ past_end)
+  pub text_is : text ≡ marks.Byte sigil ∷ marks.Byte 123 ∷ (inner ++ marks.Byte 125 ∷ followed)
   pub is_open : list_any (is_byte 125) inner ≡ false
   pub name_is : name ≡ text_of inner
 
 -- A byte is itself if a backslash quoted it, and otherwise if no place begins with it.
 abbrev pub SpellsByte : ℕ → List Mark → List Mark → Type 0
-SpellsByte b text past_end =
-    (text ≡ marks.Plain b ∷ past_end)
-    ⊎ ((text ≡ marks.Byte b ∷ past_end) × ((is_sigil b && opens past_end) ≡ false))
+SpellsByte b text followed =
+    (text ≡ marks.Plain b ∷ followed)
+    ⊎ ((text ≡ marks.Byte b ∷ followed) × ((is_sigil b && opens followed) ≡ false))
 
 -- `$` begins a variable's place, and `@` an item's
 abbrev pub SpellsPiece : Piece → List Mark → List Mark → Type 0
-SpellsPiece (Byte b) text past_end = SpellsByte b text past_end
-SpellsPiece (Variable name) text past_end = SpellsPlace 36 name text past_end
-SpellsPiece (Item name) text past_end = SpellsPlace 64 name text past_end
+SpellsPiece (Byte b) text followed = SpellsByte b text followed
+SpellsPiece (Variable name) text followed = SpellsPlace 36 name text followed
+SpellsPiece (Item name) text followed = SpellsPlace 64 name text followed
 
 -- a value is its pieces, one after another
 abbrev pub SpellsValue : List Piece → List Mark → Type 0
 SpellsValue [] text = text ≡ []
 SpellsValue (piece ∷ pieces) text =
-    (past_end : List Mark) × SpellsPiece piece text past_end × SpellsValue pieces past_end
+    (followed : List Mark) × SpellsPiece piece text followed × SpellsValue pieces followed
 
 -- ---- settings
 
@@ -58,9 +58,9 @@ is_end [] = true
 is_end (m ∷ ms) = is_white_mark m
 
 -- A value within quotes, which may hold white space.
-pub record SpellsQuoted (value : List Piece) (text past_end : List Mark) : Type 0 where
+pub record SpellsQuoted (value : List Piece) (text followed : List Mark) : Type 0 where
   pub inner : List Mark
-  pub text_is : text ≡ marks.Byte 34 ∷ (inner ++ marks.Byte 34 ∷ past_end)
+  pub text_is : text ≡ marks.Byte 34 ∷ (inner ++ marks.Byte 34 ∷ followed)
   pub is_open : list_any (is_byte 34) inner ≡ false
   pub spelled : SpellsValue value inner
 
@@ -70,9 +70,9 @@ quotes [] = false
 quotes (m ∷ ms) = is_byte 34 m
 
 -- Any other value: it doesn't begin with a quote, and holds no white space.
-pub record SpellsWord (value : List Piece) (text past_end : List Mark) : Type 0 where
+pub record SpellsWord (value : List Piece) (text followed : List Mark) : Type 0 where
   pub inner : List Mark
-  pub text_is : text ≡ inner ++ past_end
+  pub text_is : text ≡ inner ++ followed
   pub unquoted : quotes text ≡ false
   pub unbroken : list_any is_white_mark inner ≡ false
   pub spelled : SpellsValue value inner
@@ -82,13 +82,13 @@ word_of Default = map (λ b. marks.Byte b) (codes "DEFAULT=")
 word_of Override = map (λ b. marks.Byte b) (codes "OVERRIDE=")
 
 -- A setting: its key and its value, after white space, and up to the end of a word.
-pub record SpellsSetting (key : Key) (value : List Piece) (text past_end : List Mark) : Type 0 where
+pub record SpellsSetting (key : Key) (value : List Piece) (text followed : List Mark) : Type 0 where
   pub white : List Mark
   pub at : List Mark
   pub text_is : text ≡ white ++ (word_of key ++ at)
   pub is_blank : list_all is_white_mark white ≡ true
-  pub spelled : SpellsQuoted value at past_end ⊎ SpellsWord value at past_end
-  pub ends : is_end past_end ≡ true
+  pub spelled : SpellsQuoted value at followed ⊎ SpellsWord value at followed
+  pub ends : is_end followed ≡ true
 
 -- a key and its value
 pub record Given : Type 0 where
@@ -99,8 +99,8 @@ pub record Given : Type 0 where
 abbrev pub SpellsSettings : List Given → List Mark → Type 0
 SpellsSettings [] text = list_all is_white_mark text ≡ true
 SpellsSettings (given ∷ more) text =
-    (past_end : List Mark) × SpellsSetting given.key given.value text past_end
-    × SpellsSettings more past_end
+    (followed : List Mark) × SpellsSetting given.key given.value text followed
+    × SpellsSettings more followed
 
 -- the values that settings give: for each key the last one, or these values if there is none
 abbrev pub values_after : List Given → Values → Values

@@ -127,10 +127,10 @@ fn values_of(alloc: Global, marks: &[Mark]) -> Result<Option<Values>, NoMemory>
         match next_setting(rest) {
             Setting::Ended => return Ok(Some(values)),
             Setting::Broken => return Ok(None),
-            Setting::One(key, value, past_end) => match pieces_of(alloc, value)? {
+            Setting::One(key, value, followed) => match pieces_of(alloc, value)? {
                 Some(pieces) => {
                     values = with_value(key, pieces, values);
-                    rest = past_end;
+                    rest = followed;
                 }
                 None => return Ok(None),
             },
@@ -225,9 +225,9 @@ fn quoted<'a>(key: Key, marks: &'a [Mark], quote: Option<usize>) -> Setting<'a>
     match quote {
         None => Setting::Broken,
         Some(n) => {
-            let past_end = &marks[n + 1..];
-            if ends_word(past_end) {
-                Setting::One(key, &marks[..n], past_end)
+            let followed = &marks[n + 1..];
+            if ends_word(followed) {
+                Setting::One(key, &marks[..n], followed)
             } else {
                 Setting::Broken
             }

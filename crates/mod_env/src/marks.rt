@@ -1,6 +1,6 @@
 ghost use Rattle.std.specs.Prelude.{◌≡◌, Bool, IfOk};
 ghost use Rattle.pam_base.specs.White.{is_white};
-ghost use Rattle.mod_env.specs.Marks.{begins_with, past_end, is_byte, is_white_mark, marks_of, text_of};
+ghost use Rattle.mod_env.specs.Marks.{begins_with, unspaced, is_byte, is_white_mark, marks_of, text_of};
 
 use pam_base::{NoMemory, Text, is_white};
 use std::alloc::Global;
@@ -110,7 +110,7 @@ pub fn begins_with(word: &[u8], marks: &[Mark]) -> bool
 
 /// What follows leading white space.
 pub(crate) fn after_white<T: MaybeWhite>(text: &[T]) -> &[T]
-    ensures { result.now ≡ past_end T.white text.now }
+    ensures { result.now ≡ unspaced T.white text.now }
 {
     let mut rest = text;
     while let [first, after @ ..] = rest {

@@ -15,7 +15,7 @@ use crate::env_file::assignments_of;
 use crate::setting::{put_all, set_all};
 use conv_port::Conv;
 use module_acts::pam_room::{Call, Transaction};
-use module_acts::{Accounts, Asked, Content, SMALL_FILE_LIMIT, Work, laws, read_named};
+use module_acts::{Accounts, Content, SMALL_FILE_LIMIT, Work, WorkInput, laws, read_named};
 use pam_base::{Code, ConvErr, Func, NoMemory, Refuse, Text};
 use pam_outside::Vault;
 use std::alloc::Global;
@@ -41,7 +41,7 @@ impl Work for EnvWork {
     }
 
     fn work(
-        asked: &Asked,
+        asked: &WorkInput,
         transaction: &mut Transaction,
         _conv: &mut dyn Conv,
         vault: &mut dyn Vault,
@@ -70,7 +70,7 @@ fn at_once(func: Func) -> Option<Code>
 
 // Reads the first file, and goes on.
 fn read_first(
-    asked: &Asked,
+    asked: &WorkInput,
     transaction: &mut Transaction,
     vault: &mut dyn Vault,
 ) -> Result<Code, NoMemory>
@@ -101,7 +101,7 @@ fn read_first(
 
 // Reads the second file unless `readenv=0` is given, and goes on.
 fn read_second(
-    asked: &Asked,
+    asked: &WorkInput,
     conf: &[u8],
     transaction: &mut Transaction,
     vault: &mut dyn Vault,
@@ -130,7 +130,7 @@ fn read_second(
 
 // Sets the variables by the texts of both files.
 fn set_by_texts(
-    asked: &Asked,
+    asked: &WorkInput,
     conf: &[u8],
     env: Option<Text>,
     transaction: &mut Transaction,
@@ -155,7 +155,7 @@ fn set_by_texts(
 
 // Sets the variables by the text of the first file, and then by that of the second.
 fn set_by_conf(
-    asked: &Asked,
+    asked: &WorkInput,
     conf: &[u8],
     env: &[u8],
     transaction: &mut Transaction,

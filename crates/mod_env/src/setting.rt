@@ -15,14 +15,14 @@ use account_db::Passwd;
 use env_list::EnvList;
 use item_store::Items;
 use module_acts::pam_room::{Transaction, get_item};
-use module_acts::{Account, Accounts, Asked, laws};
+use module_acts::{Account, Accounts, WorkInput, laws};
 use pam_base::{ItemName, NoMemory, Refuse, Texts};
 use pam_outside::Vault;
 use std::alloc::Global;
 
 /// Sets the variables in order; false if a value is too long: those before it are set.
 pub(crate) fn set_all(
-    asked: &Asked,
+    asked: &WorkInput,
     entries: &Entries,
     transaction: &mut Transaction,
     accounts: &mut Accounts,
@@ -51,7 +51,7 @@ pub(crate) fn set_all(
 
 // Sets a variable; false if a value is too long.
 fn set_variable(
-    asked: &Asked,
+    asked: &WorkInput,
     entry: &EnvLine,
     transaction: &mut Transaction,
     accounts: &mut Accounts,
@@ -77,7 +77,7 @@ fn set_variable(
 
 // Looks the user's account up, if it is needed and USER is set.
 fn look(
-    asked: &Asked,
+    asked: &WorkInput,
     asks: bool,
     transaction: &Transaction,
     accounts: &mut Accounts,
@@ -104,7 +104,7 @@ fn look(
 
 // Looks the user's account up, if USER is set.
 fn look_user(
-    asked: &Asked,
+    asked: &WorkInput,
     transaction: &Transaction,
     accounts: &mut Accounts,
     vault: &mut dyn Vault,

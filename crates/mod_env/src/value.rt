@@ -40,9 +40,9 @@ pub fn pieces_of(alloc: Global, value: &[Mark]) -> Result<Option<Pieces>, NoMemo
         match next_piece(alloc, rest)? {
             Next::Ended => return Ok(Some(pieces)),
             Next::Broken => return Ok(None),
-            Next::One(piece, past_end) => {
+            Next::One(piece, followed) => {
                 pieces.push(piece)?;
-                rest = past_end;
+                rest = followed;
             }
         }
     }

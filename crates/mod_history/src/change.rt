@@ -14,14 +14,14 @@ use crate::locked::lock_history;
 use crate::refusal::{is_refused, refuse_token};
 use conv_port::Conv;
 use mod_unix::{KnownPassword, look_up, take_token};
-use module_acts::{Asked, laws, read_named, require_user, user_of};
+use module_acts::{WorkInput, laws, read_named, require_user, user_of};
 use pam_base::{Code, ConvErr, MAX_TEXT, NoMemory, Refuse, Text};
 use pam_outside::Vault;
 use pam_room::Transaction;
 
 /// Takes a new token, unless the user has it or had it, and remembers the hash of the present one.
 pub(crate) fn check_token(
-    asked: &Asked,
+    asked: &WorkInput,
     transaction: &mut Transaction,
     conv: &mut dyn Conv,
     vault: &mut dyn Vault,
@@ -48,7 +48,7 @@ pub(crate) fn check_token(
 
 // Continues, depending on what is known of the user's password.
 fn renew_if_known(
-    asked: &Asked,
+    asked: &WorkInput,
     user: &[u8],
     look: &KnownPassword,
     transaction: &mut Transaction,
@@ -86,7 +86,7 @@ fn renew_if_known(
 
 // Takes the new token, and remembers the hash of the present one.
 fn renew(
-    asked: &Asked,
+    asked: &WorkInput,
     user: &[u8],
     hash: &[u8],
     transaction: &mut Transaction,

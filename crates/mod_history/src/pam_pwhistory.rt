@@ -5,7 +5,7 @@ ghost use Rattle.mod_history.specs.Pwhistory.{at_once, checks_token, pwhistory_p
 
 use crate::change::check_token;
 use conv_port::Conv;
-use module_acts::{Asked, Work, laws};
+use module_acts::{Work, WorkInput, laws};
 use pam_base::{Code, ConvErr, Func, PRELIM_CHECK, Refuse};
 use pam_outside::Vault;
 use pam_room::{Call, Transaction};
@@ -31,7 +31,7 @@ impl Work for PwhistoryWork {
     }
 
     fn work(
-        asked: &Asked,
+        asked: &WorkInput,
         transaction: &mut Transaction,
         conv: &mut dyn Conv,
         vault: &mut dyn Vault,

@@ -10,7 +10,7 @@ ghost use Rattle.mod_history.specs.Securetty.{terminal_for_account, terminal_cod
 
 use account_db::without_end;
 use module_acts::{
-    ACCOUNT_LIMIT, Account, Accounts, Check, Content, Seen, account_of, code_unchecked, laws,
+    ACCOUNT_LIMIT, Account, Accounts, Check, CheckInput, Content, account_of, code_unchecked, laws,
     read_named,
 };
 use pam_base::{Code, ItemName, Lines, NoMemory};
@@ -37,7 +37,7 @@ impl Check for SecurettyCheck {
         code_unchecked(call.func, Code::Success)
     }
 
-    fn decide(seen: &Seen, vault: &mut dyn Vault, _moment: u64) -> Result<Code, NoMemory> {
+    fn decide(seen: &CheckInput, vault: &mut dyn Vault, _moment: u64) -> Result<Code, NoMemory> {
         laws::act_steps();
         let mut accounts = Accounts::new();
         let account = account_of(seen, &mut accounts, vault)?;
@@ -59,7 +59,7 @@ impl Check for SecurettyCheck {
 }
 
 // Looks root's terminal up in the list.
-fn check_root(seen: &Seen, vault: &mut dyn Vault) -> Result<Code, NoMemory>
+fn check_root(seen: &CheckInput, vault: &mut dyn Vault) -> Result<Code, NoMemory>
     ensures tells { vault_tells vault.new ≡ vault_tells vault.old }
     ensures files { IsTrue (vault_tells vault.old) →
         (vault_holds vault.new).files ≡ (vault_holds vault.old).files }

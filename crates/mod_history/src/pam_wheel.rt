@@ -5,7 +5,7 @@ ghost use Rattle.module_acts.specs.Uncheck.{code_unchecked};
 ghost use Rattle.mod_history.specs.Wheel.{group_code, member_code, checks_user, code_by_groups, code_by_passwds, group_of_gid, is_passed_over, trusted, wheel_group, wheel_plays};
 
 use account_db::{Group, Groups, Passwd, PasswdFile, entry_of, entry_of_uid, group_of, is_member};
-use module_acts::{Accounts, Check, Seen, code_unchecked, has_argument, laws, user_of};
+use module_acts::{Accounts, Check, CheckInput, code_unchecked, has_argument, laws, user_of};
 use pam_base::{Code, NoMemory, Texts};
 use pam_outside::Vault;
 use pam_room::Call;
@@ -31,7 +31,7 @@ impl Check for WheelCheck {
         code_unchecked(call.func, Code::Success)
     }
 
-    fn decide(seen: &Seen, vault: &mut dyn Vault, _moment: u64) -> Result<Code, NoMemory> {
+    fn decide(seen: &CheckInput, vault: &mut dyn Vault, _moment: u64) -> Result<Code, NoMemory> {
         laws::act_steps();
         let caller = seen.process.caller;
         let mut accounts = Accounts::new();

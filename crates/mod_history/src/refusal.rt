@@ -14,7 +14,7 @@ ghost use Rattle.mod_history.specs.Pwhistory.{has_hash, is_enforced, is_refused,
 use crate::job::Job;
 use conv_port::Conv;
 use item_store::Items;
-use module_acts::{Asked, has_argument, show};
+use module_acts::{WorkInput, has_argument, show};
 use pam_base::{Code, ItemName, MAX_TEXT, NoMemory, Refuse, Style, Text};
 use pam_room::Transaction;
 use sha_crypt::crypt;
@@ -47,7 +47,7 @@ pub(crate) fn is_refused_now(job: &Job, earlier: &[Text], hashes: &[Text]) -> bo
 }
 
 // Whether root, too, may not use a password again.
-fn is_enforced(asked: &Asked) -> bool
+fn is_enforced(asked: &WorkInput) -> bool
     ensures { result ≡ is_enforced asked.now.call.now.args.now asked.now.process.now.caller }
 {
     asked.process.caller != 0 || has_argument(b"enforce_for_root", asked.call.args)

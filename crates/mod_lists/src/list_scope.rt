@@ -8,7 +8,7 @@ ghost use Rattle.mod_lists.specs.Listfile.{applies, applies_in_groups, yes_or_no
 
 use crate::list_settings::Apply;
 use account_db::is_in_group;
-use module_acts::{Accounts, Seen, user_of};
+use module_acts::{Accounts, CheckInput, user_of};
 use pam_base::NoMemory;
 use pam_outside::Vault;
 
@@ -22,7 +22,7 @@ pub enum Applies {
 
 /// Whether the list applies to the user.
 pub(crate) fn list_applies(
-    seen: &Seen,
+    seen: &CheckInput,
     apply: Apply,
     accounts: &mut Accounts,
     vault: &mut dyn Vault,
@@ -66,7 +66,11 @@ fn yes_or_no(holds: bool) -> Applies
 }
 
 // Whether the user is in the group, by files that have been read.
-fn applies_in_groups(seen: &Seen, name: &[u8], accounts: &Accounts) -> Result<Applies, NoMemory>
+fn applies_in_groups(
+    seen: &CheckInput,
+    name: &[u8],
+    accounts: &Accounts,
+) -> Result<Applies, NoMemory>
     requires user { seen.now.transaction.now.items.user ≢ None }
     requires passwds { accounts.now.passwds ≢ None }
     requires groups { accounts.now.groups ≢ None }

@@ -15,7 +15,7 @@ ghost use Rattle.mod_lists.specs.Listfile.{group_values, reads_values, shell_val
 
 use crate::list_settings::ListItem;
 use account_db::group_names;
-use module_acts::{Account, Accounts, Seen, account_of, laws, user_of};
+use module_acts::{Account, Accounts, CheckInput, account_of, laws, user_of};
 use pam_base::{ItemName, NoMemory, Text, Texts};
 use pam_outside::Vault;
 use pam_room::get_item;
@@ -33,7 +33,7 @@ pub enum Values {
 
 /// The values to look for in the list.
 pub(crate) fn values_of(
-    seen: &Seen,
+    seen: &CheckInput,
     item: ListItem,
     accounts: &mut Accounts,
     vault: &mut dyn Vault,
@@ -67,7 +67,7 @@ pub(crate) fn values_of(
 }
 
 // The value of this item of the transaction, if it has one.
-fn item_values(seen: &Seen, item: ListItem, name: ItemName) -> Result<Values, NoMemory>
+fn item_values(seen: &CheckInput, item: ListItem, name: ItemName) -> Result<Values, NoMemory>
     requires { is_refused ModuleGets name ≡ false }
     ensures told { (conv : ConvState) (vault : VaultState) (clock : ClockState) (known : Known) →
         IfOk result (λ values. YieldsWith values
@@ -137,7 +137,7 @@ fn shell_values(alloc: Global, account: Account) -> Result<Values, NoMemory>
 
 // The names of the user's groups.
 fn group_values(
-    seen: &Seen,
+    seen: &CheckInput,
     accounts: &mut Accounts,
     vault: &mut dyn Vault,
 ) -> Result<Values, NoMemory>

@@ -10,7 +10,7 @@ ghost use Rattle.mod_lists.specs.SucceedIf.{at_once, before_user, conditions_in,
 use crate::condition::condition_of;
 use crate::trial::try_words;
 use crate::truth::Truth;
-use module_acts::{Accounts, Check, Seen, laws};
+use module_acts::{Accounts, Check, CheckInput, laws};
 use pam_base::{Code, Func, NoMemory, Text, Texts};
 use pam_outside::Vault;
 use pam_room::Call;
@@ -36,7 +36,7 @@ impl Check for SucceedIfCheck {
         at_once(call.func).or(unsupported(uses_uid(call.args)))
     }
 
-    fn decide(seen: &Seen, vault: &mut dyn Vault, _moment: u64) -> Result<Code, NoMemory> {
+    fn decide(seen: &CheckInput, vault: &mut dyn Vault, _moment: u64) -> Result<Code, NoMemory> {
         let conditions = conditions_in(seen.alloc, seen.call.args)?;
         let code = meet_all(seen, &conditions, vault)?;
         Ok(code)
@@ -97,7 +97,7 @@ fn is_about_log(arg: &[u8]) -> bool
 }
 
 // Takes the conditions in order, up to the first that doesn't hold.
-fn meet_all(seen: &Seen, conditions: &Texts, vault: &mut dyn Vault) -> Result<Code, NoMemory>
+fn meet_all(seen: &CheckInput, conditions: &Texts, vault: &mut dyn Vault) -> Result<Code, NoMemory>
     requires { seen.now.transaction.now.items.user ≢ None }
     ensures tells { vault_tells vault.new ≡ vault_tells vault.old }
     ensures files { IsTrue (vault_tells vault.old) →

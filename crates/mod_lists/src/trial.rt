@@ -15,7 +15,7 @@ use crate::condition::{AccountField, Condition, Field, ItemField, Test};
 use crate::truth::{Truth, in_sense};
 use account_db::{Groups, Passwd, is_in_group};
 use item_store::Items;
-use module_acts::{Account, Accounts, Seen, account_of, laws, user_of};
+use module_acts::{Account, Accounts, CheckInput, account_of, laws, user_of};
 use pam_base::{ItemName, NoMemory, Parts};
 use pam_outside::Vault;
 use pam_room::get_item;
@@ -23,7 +23,7 @@ use std::alloc::Global;
 
 /// Tries the condition of three words, if it is one.
 pub(crate) fn try_words(
-    seen: &Seen,
+    seen: &CheckInput,
     condition: Option<Condition>,
     accounts: &mut Accounts,
     vault: &mut dyn Vault,
@@ -117,7 +117,7 @@ fn on_entry(
 
 // Tries whether the user is in one of some groups.
 fn try_groups(
-    seen: &Seen,
+    seen: &CheckInput,
     sense: bool,
     names: &[u8],
     accounts: &mut Accounts,

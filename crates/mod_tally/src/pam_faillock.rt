@@ -13,7 +13,7 @@ use crate::tally::Failure;
 use crate::tally_file::{hold_tally, is_no_file, lock_name, read_tally, tally_name};
 use crate::task::task_on_failures;
 use module_acts::pam_room::Call;
-use module_acts::{Account, Accounts, Check, Seen, account_of, laws, release, user_of};
+use module_acts::{Account, Accounts, Check, CheckInput, account_of, laws, release, user_of};
 use pam_base::{Code, Func, NoMemory};
 use pam_outside::Vault;
 
@@ -24,7 +24,7 @@ pub struct FaillockCheck;
 /// user's file and of its lock.
 #[derive(Clone, Copy)]
 pub struct Job<'a> {
-    pub seen: &'a Seen<'a>,
+    pub seen: &'a CheckInput<'a>,
     pub task: Task,
     pub settings: TallySettings<'a>,
     pub file: &'a [u8],
@@ -49,7 +49,7 @@ impl Check for FaillockCheck {
         refused(task_of(call.func, task_among(call.args)))
     }
 
-    fn decide(seen: &Seen, vault: &mut dyn Vault, moment: u64) -> Result<Code, NoMemory> {
+    fn decide(seen: &CheckInput, vault: &mut dyn Vault, moment: u64) -> Result<Code, NoMemory> {
         laws::act_steps();
         match task_of(seen.call.func, task_among(seen.call.args)) {
             Ok(task) => {
@@ -90,7 +90,7 @@ fn refused(task: Result<Task, Code>) -> Option<Code>
 
 // Looks the user's account up.
 fn check_user(
-    seen: &Seen,
+    seen: &CheckInput,
     task: Task,
     settings: &TallySettings<'_>,
     vault: &mut dyn Vault,
@@ -145,7 +145,7 @@ fn spared_answer(task: Task) -> Code
 
 // Does the task with the user's file.
 fn check_tally(
-    seen: &Seen,
+    seen: &CheckInput,
     task: Task,
     settings: &TallySettings<'_>,
     vault: &mut dyn Vault,

@@ -8,9 +8,9 @@ ghost use Rattle.mod_tally.specs.Faillock.{failures_in, is_no_file, lock_name, r
 
 use crate::tally::{Failures, read_failures};
 use module_acts::pam_room::Process;
-use module_acts::{Content, Seen, hold_named, is_rooted, laws, read_named, replace_named};
+use module_acts::{CheckInput, Content, hold_named, is_rooted, laws, read_named, replace_named};
 use pam_base::{Code, NoMemory, Text};
-use pam_outside::{Held, LockKind, Vault};
+use pam_outside::{FileLock, LockKind, Vault};
 use std::alloc::Global;
 
 /// The maximum number of bytes of a tally file.
@@ -64,7 +64,7 @@ pub(crate) fn hold_tally(
     process: &Process,
     vault: &mut dyn Vault,
     lock: &[u8],
-) -> Result<Option<Held>, NoMemory>
+) -> Result<Option<FileLock>, NoMemory>
     ensures tells { vault_tells vault.new ≡ vault_tells vault.old }
     ensures told { IsTrue (vault_tells vault.old) →
         IfOk result (λ held. StepsTo (holds_lock lock.now LockKind.Whole) (is_some held)
@@ -109,7 +109,7 @@ fn failures_in(alloc: Global, content: Content) -> Result<Option<Failures>, NoMe
 /// Replaces the file with this name, and returns this code, or SERVICE_ERR if the text is too long
 /// or the file can't be set.
 pub(crate) fn set_text(
-    seen: &Seen,
+    seen: &CheckInput,
     vault: &mut dyn Vault,
     name: &[u8],
     text: &[u8],

@@ -13,7 +13,7 @@ use crate::pam_faillock::Job;
 use crate::settings::Task;
 use crate::tally::{Failure, Failures};
 use crate::tally_file::{hold_tally, set_text};
-use module_acts::{Seen, laws, release};
+use module_acts::{CheckInput, laws, release};
 use pam_base::{Code, NoMemory, Text};
 use pam_outside::Vault;
 use std::alloc::Global;
@@ -96,7 +96,7 @@ fn try_lock(job: &Job, vault: &mut dyn Vault) -> Result<Code, NoMemory>
 
 // Clears the failures, if there are any.
 fn clear(
-    seen: &Seen,
+    seen: &CheckInput,
     name: &[u8],
     failures: &[Failure],
     vault: &mut dyn Vault,
@@ -120,7 +120,7 @@ fn clear(
 
 // Records a failure after those in the file, and drops those that don't count any more.
 fn record_failure(
-    seen: &Seen,
+    seen: &CheckInput,
     interval: u32,
     moment: u64,
     name: &[u8],

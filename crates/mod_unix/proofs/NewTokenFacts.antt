@@ -9,7 +9,7 @@ use Rattle.pam_outside.specs.Files.{File, file_at}
 use Rattle.pam_outside.specs.Time.{Time}
 use Rattle.pam_room.specs.Call.{PlainCall, has_flag, prelim_check}
 use Rattle.pam_room.specs.Module.{NamedData, Played, SeenRoom, Sight, answered}
-use Rattle.pam_room.specs.Say.{Asked, user_asked}
+use Rattle.pam_room.specs.Say.{AfterPrompt, user_asked}
 use Rattle.account_db.specs.declared.shadow.Shadow.{Shadow}
 use Rattle.account_db.specs.Replace.{changed_entries, renewed, with_hash}
 use Rattle.account_db.specs.Shadow.{shadow_of, shadows_of}
@@ -88,7 +88,7 @@ module _ (read : (user hash : List ℕ) (day : ℕ) (text : List ℕ) (entries :
       let w = subst W same d.written in
       inr (subst (λ (u : List ℕ). TokenIsChanged sight.root u sight.files p.room p.files) who (stands user sight.root sight.clock sight.files p.room p.files bound w))
 
-  by_asking : (asked : Asked) (refused : Bool) (call : PlainCall) (stage : Stage) → asked.refused ≡ refused → has_flag call.flags prelim_check ≡ false → stage.sight.clock.moment ≤ 1000000000000
+  by_asking : (asked : AfterPrompt) (refused : Bool) (call : PlainCall) (stage : Stage) → asked.refused ≡ refused → has_flag call.flags prelim_check ≡ false → stage.sight.clock.moment ≤ 1000000000000
       → (cond refused (answered returns.ConvErr asked.room stage.sight) (looks (unwrap_or asked.room.items.user []) (λ look. change_by call (unwrap_or asked.room.items.user []) look answers) (in_room asked.room stage))).code ≡ returns.Success
       → StaysOrIsChanged call stage.sight (cond refused (answered returns.ConvErr asked.room stage.sight) (looks (unwrap_or asked.room.items.user []) (λ look. change_by call (unwrap_or asked.room.items.user []) look answers) (in_room asked.room stage)))
   by_asking asked true call stage r distinct bound e = absurd cc

@@ -24,7 +24,7 @@ use Rattle.pam_room.specs.declared.transaction.Transaction.{Transaction}
 use Rattle.pam_room.specs.Plain.{plain_transaction}
 use Rattle.pam_room.specs.State.{PlainProcess, PlainTransaction, Scene, room_of, scene_of}
 use Rattle.pam_room.specs.Module.{HasSet, NamedData, Played, SeenRoom, births_of, named_data, seen_of, with_played}
-use Rattle.pam_room.specs.Say.{Asked, Asks, Says, asked, speak, token_asked, token_of, user_asked}
+use Rattle.pam_room.specs.Say.{AfterPrompt, Asks, Says, asked, speak, token_asked, token_of, user_asked}
 use Rattle.module_acts.specs.Accounts.{Known}
 use Rattle.module_acts.specs.Act.{Act, Acts, Reaches, Stage, answers, asks_user, in_room, shown, shows, stage_of}
 use Rattle.module_acts.specs.Returns.{Returns, ReturnsWith, Follows, scene_of_parts}
@@ -53,7 +53,7 @@ module _ (known : Known) (s : Scene) (code : Code) (new : Scene) where
 -- ---- the room
 
 -- what was asked for, by its parts
-asked_is : (a : Asked) (refused : Bool) (room : SeenRoom) → (a.refused ≡ refused) × (room ≡ a.room) → a ≡ asked refused room
+asked_is : (a : AfterPrompt) (refused : Bool) (room : SeenRoom) → (a.refused ≡ refused) × (room ≡ a.room) → a ≡ asked refused room
 asked_is a refused room h = ap (λ (b : Bool). asked b a.room) h.0 ∙ ap (asked refused) (sym h.1)
 
 module _ (t u : Transaction) (conv conv' : ConvState) (vault : VaultState) (clock : ClockState) (process : PlainProcess) (others : u ≡ record t { items = u.items; said = u.said; put_off = u.put_off }) where

@@ -15,7 +15,7 @@ use Rattle.pam_room.specs.declared.transaction.Transaction.{Transaction}
 use Rattle.pam_outside.specs.Time.{ClockState}
 use Rattle.conv_port.specs.Conv.{ConvState}
 use Rattle.pam_room.specs.Module.{Locking, NamedData, Played, Plays, SeenRoom, Sight, a_call_later, answered, named_data, seen_of, sight_of, with_played}
-use Rattle.pam_room.specs.Say.{Asked, speak, user_asked}
+use Rattle.pam_room.specs.Say.{AfterPrompt, speak, user_asked}
 use Rattle.account_db.specs.declared.passwd.Passwd.{Passwd}
 use Rattle.account_db.specs.declared.group.Group.{Group}
 use Rattle.module_acts.specs.declared.content.Content.{Content}
@@ -52,7 +52,7 @@ unless_answered None act = act
 -- ---- the user
 
 -- USER is set, or CONV_ERR is returned at once
-abbrev pub with_user : Asked → (List ℕ → Act) → Act
+abbrev pub with_user : AfterPrompt → (List ℕ → Act) → Act
 with_user asked act stage = if asked.refused then answered ConvErr asked.room stage.sight
     else act (unwrap_or asked.room.items.user []) (in_room asked.room stage)
 

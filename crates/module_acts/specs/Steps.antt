@@ -10,13 +10,13 @@ use Rattle.conv_port.specs.declared.message.Reply.{Reply}
 use Rattle.pam_room.specs.fail_delay.specs.Delay.{counted_request}
 use Rattle.pam_outside.specs.Time.{Time}
 use Rattle.pam_room.specs.Module.{NamedData, SeenRoom, answered}
-use Rattle.pam_room.specs.Say.{Asked, speak, token_asked, token_of}
+use Rattle.pam_room.specs.Say.{AfterPrompt, speak, token_asked, token_of}
 use Rattle.module_acts.specs.Act.{Act, in_room}
 
 -- ---- asking
 
 -- the item is there, or CONV_ERR is returned at once
-abbrev pub with_asked : ItemName → Asked → (List ℕ → Act) → Act
+abbrev pub with_asked : ItemName → AfterPrompt → (List ℕ → Act) → Act
 with_asked item asked act stage = if asked.refused then answered ConvErr asked.room stage.sight
     else act (unwrap_or (text_of asked.room.items item) []) (in_room asked.room stage)
 

@@ -3,7 +3,7 @@ use std::alloc::Global;
 
 /// What a module gets and only reads: its call, the process, and the allocator.
 #[derive(Clone, Copy)]
-pub struct Asked<'a> {
+pub struct WorkInput<'a> {
     pub alloc: Global,
     pub call: &'a Call<'a>,
     pub process: &'a Process,

@@ -10,7 +10,7 @@ ghost use Rattle.module_acts.specs.Act.{Act, asks_user, unless_answered};
 ghost use Rattle.module_acts.specs.Returns.{Follows};
 ghost use Rattle.module_acts.specs.Seen.{scene_seen, user_seen};
 
-use crate::seen::Seen;
+use crate::seen::CheckInput;
 use pam_base::{Code, NoMemory};
 use pam_outside::Vault;
 use pam_room::Call;
@@ -38,7 +38,7 @@ pub trait Check {
         ensures { result ≡ at_once (plain_call call.now) };
 
     /// Decides; USER is set. If an allocation fails, the files are as they were.
-    fn decide(seen: &Seen, vault: &mut dyn Vault, moment: u64) -> Result<Code, NoMemory>
+    fn decide(seen: &CheckInput, vault: &mut dyn Vault, moment: u64) -> Result<Code, NoMemory>
         requires { seen.now.transaction.now.items.user ≢ None }
         ensures tells { vault_tells vault.new ≡ vault_tells vault.old }
         ensures err { IsTrue (vault_tells vault.old) →

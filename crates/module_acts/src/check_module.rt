@@ -3,11 +3,11 @@ ghost use Rattle.module_acts.specs.Act.{asks_user};
 ghost use Rattle.module_acts.specs.Returns.{Finishes};
 ghost use Rattle.module_acts.specs.SetsNoData.{SetsNoData};
 
-use crate::asked::Asked;
+use crate::asked::WorkInput;
 use crate::asking::require_user;
 use crate::check::Check;
 use crate::laws::talking;
-use crate::seen::Seen;
+use crate::seen::CheckInput;
 use crate::work::Work;
 use conv_port::Conv;
 use pam_base::{Code, ConvErr, Refuse};
@@ -38,7 +38,7 @@ impl<T: Check> Work for CheckWork<T> {
     }
 
     fn work(
-        asked: &Asked,
+        asked: &WorkInput,
         transaction: &mut Transaction,
         conv: &mut dyn Conv,
         vault: &mut dyn Vault,
@@ -46,7 +46,7 @@ impl<T: Check> Work for CheckWork<T> {
     ) -> Result<Code, Refuse<ConvErr>> {
         talking();
         require_user(asked.alloc, transaction, conv)?;
-        let seen = Seen {
+        let seen = CheckInput {
             alloc: asked.alloc,
             call: asked.call,
             transaction: &*transaction,

@@ -5,7 +5,7 @@ ghost use Rattle.module_acts.specs.Content.{IsWithin, content_at, is_rooted};
 
 use pam_base::{NoMemory, Text};
 use pam_outside::{
-    Held, LockKind, ReplaceFault, Vault, VaultFault, hold_file, let_go, path_of, read_file,
+    FileLock, LockKind, ReplaceFault, Vault, VaultFault, hold_file, let_go, path_of, read_file,
     replace_file,
 };
 use pam_room::Process;
@@ -118,7 +118,7 @@ pub fn hold_named(
     process: &Process,
     name: &[u8],
     kind: LockKind,
-) -> Result<Option<Held>, NoMemory>
+) -> Result<Option<FileLock>, NoMemory>
     ensures held { IfOk result (λ found. IfSome found (λ held. held ≡ is_rooted name.now)) }
     ensures tells { vault_tells vault.new ≡ vault_tells vault.old }
     ensures told { IsTrue (vault_tells vault.old) →
@@ -130,7 +130,7 @@ pub fn hold_named(
     ensures no_fault { result ≢ Ok None → vault_faults vault.new ≡ vault_faults vault.old }
 {
     if !is_rooted(name) {
-        return Ok(Some(Held::nothing()));
+        return Ok(Some(FileLock::nothing()));
     }
     let path = path_of(alloc, process.root.bytes(), name)?;
     match hold_file(vault, alloc, path.bytes(), kind) {
@@ -141,7 +141,7 @@ pub fn hold_named(
 }
 
 /// Lets a lock go.
-pub fn release(vault: &mut dyn Vault, held: Held)
+pub fn release(vault: &mut dyn Vault, held: FileLock)
     ensures tells { vault_tells vault.new ≡ vault_tells vault.old }
     ensures told { IsTrue (vault_tells vault.old) →
         StepsOn (lets_go held) (vault_holds vault.old) (vault_holds vault.new) }

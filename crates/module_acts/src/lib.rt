@@ -23,7 +23,7 @@ mod work_module;
 
 pub use accounts::{ACCOUNT_LIMIT, Account, Accounts, read_shells};
 pub use arguments::has_argument;
-pub use asked::Asked;
+pub use asked::WorkInput;
 pub use asking::{exchange, require_token, require_user};
 pub use changing::{answer_and_keep, request_delay, set_token};
 pub use check::Check;
@@ -34,7 +34,7 @@ pub use content::{
 pub use ending::code_or_conv_err;
 pub use pam_room;
 pub use pam_room::data_cleanup;
-pub use seen::{Seen, account_of};
+pub use seen::{CheckInput, account_of};
 pub use speech::{show, user_of};
 pub use uncheck::code_unchecked;
 pub use work::Work;

@@ -13,7 +13,7 @@ use std::alloc::Global;
 
 /// What a module gets that only decides: its call, the transaction and the process.
 #[derive(Clone, Copy)]
-pub struct Seen<'a> {
+pub struct CheckInput<'a> {
     pub alloc: Global,
     pub call: &'a Call<'a>,
     pub transaction: &'a Transaction,
@@ -22,7 +22,7 @@ pub struct Seen<'a> {
 
 /// The user's account. `/etc/passwd` is read here, unless it was read before.
 pub fn account_of(
-    seen: &Seen,
+    seen: &CheckInput,
     accounts: &mut Accounts,
     vault: &mut dyn Vault,
 ) -> Result<Account, NoMemory>

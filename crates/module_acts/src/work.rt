@@ -9,7 +9,7 @@ ghost use Rattle.module_acts.specs.Act.{Act, scene_at, unless_answered};
 ghost use Rattle.module_acts.specs.Returns.{Finishes, Follows};
 ghost use Rattle.module_acts.specs.SetsNoData.{SetsNoData};
 
-use crate::asked::Asked;
+use crate::asked::WorkInput;
 use conv_port::Conv;
 use pam_base::{Code, ConvErr, Refuse};
 use pam_outside::Vault;
@@ -41,7 +41,7 @@ pub trait Work {
     /// Does the rest of the work. Returns `Named` if the conversation gave no reply; then the
     /// module returns CONV_ERR. After an error the files are as they were.
     fn work(
-        asked: &Asked,
+        asked: &WorkInput,
         transaction: &mut Transaction,
         conv: &mut dyn Conv,
         vault: &mut dyn Vault,

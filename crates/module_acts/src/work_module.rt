@@ -1,7 +1,7 @@
 ghost use Rattle.std.specs.Prelude.{◌≡◌, IsTrue, IfOk};
 ghost use Rattle.pam_room.specs.Module.{keeps_files, length_note};
 
-use crate::asked::Asked;
+use crate::asked::WorkInput;
 use crate::ending::code_or_conv_err;
 use crate::laws;
 use crate::laws::no_data_are_set;
@@ -58,7 +58,7 @@ impl<T: Work> Module for WorkModule<T> {
         match T::at_once(call) {
             Some(code) => Ok(code),
             None => {
-                let asked = Asked {
+                let asked = WorkInput {
                     alloc,
                     call,
                     process: &*process,

@@ -8,7 +8,7 @@ use crate::entries::has_entry;
 use crate::lines::own_lines;
 use crate::paths::{is_of_shadow, is_shadow};
 use pam_base::Text;
-use pam_outside::{Held, LockKind, ReplaceFault, Vault, VaultFault};
+use pam_outside::{FileLock, LockKind, ReplaceFault, Vault, VaultFault};
 use std::alloc::Global;
 use std::marker::Model;
 use std::snapshot::Snapshot;
@@ -193,7 +193,12 @@ impl<V: Vault> Vault for OwnFiles<V> {
     }
 
     /// Failed is returned, and the store below isn't called: a lock would be a file that is made, and would keep others out.
-    fn hold(&mut self, _alloc: Global, _path: &[u8], _kind: LockKind) -> Result<Held, ReplaceFault>
+    fn hold(
+        &mut self,
+        _alloc: Global,
+        _path: &[u8],
+        _kind: LockKind,
+    ) -> Result<FileLock, ReplaceFault>
         ensures held { IfOk result (λ held. held ≡ true) }
         ensures faults { self.old.faults ≤ self.new.faults }
         ensures refused { result ≡ Err ReplaceFault.Failed }
@@ -204,7 +209,7 @@ impl<V: Vault> Vault for OwnFiles<V> {
     }
 
     /// Nothing happens, since no lock was taken here.
-    fn let_go(&mut self, _held: Held)
+    fn let_go(&mut self, _held: FileLock)
         ensures untouched { self.new ≡ self.old }
     {}
 }

@@ -20,7 +20,7 @@ false_true : false ≡ true → ⊥
 false_true e = (cc)
 
 same_went : {T : Type 0} (c d : Code) (f g : Held) (s t : T) → c ≡ d → f ≡ g → s ≡ t → went c f s ≡ went d g t
-same_went {T} c d f g s t code past_end state = ap (λ (x : Code). went x f s) code ∙ ap (λ (x : Held). went d x s) past_end ∙ ap (λ (x : T). went d g x) state
+same_went {T} c d f g s t code new_held state = ap (λ (x : Code). went x f s) code ∙ ap (λ (x : Held). went d x s) new_held ∙ ap (λ (x : T). went d g x) state
 
 -- what is held after the first pass of a call
 held_is : {T : Type 0} (func : Func) (p : calls.Passed T) (h : Held)
@@ -108,20 +108,20 @@ module _ {State : Type 0} (asking : Asking State) (stacks : Stacks) where
   goes_second func past first h s t code later paused is e = absurd (false_true is)
 
   -- a change of token with both passes
-  change_twice : (past : List Code) (h : Held) (s t u : State) (code last : Code) (kept later : Option KeptAnswers) (paused past_end : Option (List Code))
+  change_twice : (past : List Code) (h : Held) (s t u : State) (code last : Code) (kept later : Option KeptAnswers) (paused new_held : Option (List Code))
       → code ≡ Success → paused ≡ None → PassesTo (calls.first_pass asking stacks ChAuthTok past h s) code kept paused t
-      → PassesTo (calls.second_pass asking stacks kept (past_of paused) t) last later past_end u
-      → calls.check asking stacks past h s ≡ went last (held h.authenticated h.opened (pending_after ChAuthTok later past_end)) u
-  change_twice past h s t u code last kept later paused past_end success ended e f =
+      → PassesTo (calls.second_pass asking stacks kept (past_of paused) t) last later new_held u
+      → calls.check asking stacks past h s ≡ went last (held h.authenticated h.opened (pending_after ChAuthTok later new_held)) u
+  change_twice past h s t u code last kept later paused new_held success ended e f =
       checked_as h (calls.first_pass asking stacks ChAuthTok past h s) code kept paused t e
       ∙ ap (λ (k : Code). calls.after_check asking stacks k kept (held h.authenticated h.opened (pending_after ChAuthTok None paused)) t) success
-      ∙ went_second kept [] (held h.authenticated h.opened (pending_after ChAuthTok None paused)) t u last later past_end
-      (subst (λ (o : Option (List Code)). PassesTo (calls.second_pass asking stacks kept (past_of o) t) last later past_end u) ended f)
+      ∙ went_second kept [] (held h.authenticated h.opened (pending_after ChAuthTok None paused)) t u last later new_held
+      (subst (λ (o : Option (List Code)). PassesTo (calls.second_pass asking stacks kept (past_of o) t) last later new_held u) ended f)
 
-  pub goes_twice : (func : Func) (past : List Code) (first : Answers) (h : Held) (s t u : State) (code last : Code) (kept later : Option KeptAnswers) (paused past_end : Option (List Code))
+  pub goes_twice : (func : Func) (past : List Code) (first : Answers) (h : Held) (s t u : State) (code last : Code) (kept later : Option KeptAnswers) (paused new_held : Option (List Code))
       → is_second func first ≡ false → is_followed func code ≡ true → paused ≡ None → PassesTo (calls.first_pass asking stacks func past h s) code kept paused t
-      → PassesTo (calls.second_pass asking stacks kept (past_of paused) t) last later past_end u
-      → calls.call_after asking stacks func past (kept_answers first) h s ≡ went last (held h.authenticated h.opened (pending_after func later past_end)) u
-  goes_twice ChAuthTok past (Some cells) h s t u code last kept later paused past_end begins follows ended e f = absurd (false_true (sym begins))
-  goes_twice ChAuthTok past None h s t u code last kept later paused past_end begins follows ended e f = change_twice past h s t u code last kept later paused past_end (followed ChAuthTok code follows).1 ended e f
-  goes_twice func past first h s t u code last kept later paused past_end begins follows ended e f = absurd (false_true follows)
+      → PassesTo (calls.second_pass asking stacks kept (past_of paused) t) last later new_held u
+      → calls.call_after asking stacks func past (kept_answers first) h s ≡ went last (held h.authenticated h.opened (pending_after func later new_held)) u
+  goes_twice ChAuthTok past (Some cells) h s t u code last kept later paused new_held begins follows ended e f = absurd (false_true (sym begins))
+  goes_twice ChAuthTok past None h s t u code last kept later paused new_held begins follows ended e f = change_twice past h s t u code last kept later paused new_held (followed ChAuthTok code follows).1 ended e f
+  goes_twice func past first h s t u code last kept later paused new_held begins follows ended e f = absurd (false_true follows)

@@ -15,7 +15,7 @@ use Rattle.dispatch_core.specs.pam_room.specs.declared.visits.Visit.{Visit}
 use Rattle.dispatch_core.specs.service_load.specs.Stacks.{Stacks}
 use Rattle.dispatch_core.specs.handler_chain.specs.declared.pass_kind.PassKind.{PassKind}
 use Rattle.dispatch_core.specs.handler_chain.specs.declared.pass_kind.PassKind.TheVariants.{Follow}
-use Rattle.dispatch_core.specs.handler_chain.specs.Retell.{Seen, Telling, telling}
+use Rattle.dispatch_core.specs.handler_chain.specs.Retell.{RecordedLine, Telling, telling}
 use Rattle.dispatch_core.specs.handler_chain.specs.Route.{KeptAnswers}
 use Rattle.pam_handle.specs.Handle.{PlainHandle}
 use Rattle.pam_handle.specs.Pass.{PassesTo, kept_answers}
@@ -59,21 +59,21 @@ trail_second (Ok code) stacks func past first h before after later paused is b =
 
 seen_more : (vs ws : List Visit) → seen_in (vs ++ ws) ≡ seen_in vs ++ seen_in ws
 seen_more [] ws = refl
-seen_more (v ∷ vs) ws = ap (λ (xs : List Seen). seen_of v ∷ xs) (seen_more vs ws)
+seen_more (v ∷ vs) ws = ap (λ (xs : List RecordedLine). seen_of v ∷ xs) (seen_more vs ws)
 
-pub trail_twice : (result : Result Code NoMemory) (stacks : Stacks) (func : Func) (past : List Code) (first : Answers) (h : Held) (before middle after : List Visit) (code : Code) (kept later : Option KeptAnswers) (paused past_end : Option (List Code))
+pub trail_twice : (result : Result Code NoMemory) (stacks : Stacks) (func : Func) (past : List Code) (first : Answers) (h : Held) (before middle after : List Visit) (code : Code) (kept later : Option KeptAnswers) (paused new_held : Option (List Code))
     → is_second func first ≡ false → is_followed func code ≡ true → paused ≡ None → FirstByTrail func stacks past h before middle code kept paused
-    → IfOk result (λ last. PassesByTrail Follow kept stacks.password (past_of paused) middle after last later past_end)
-    → IfOk result (λ last. CallsByTrail (λ s. calls.call_after as_traced stacks func past (kept_answers first) h s) before after last (held h.authenticated h.opened (pending_after func later past_end)))
-trail_twice (Err none) stacks func past first h before middle after code kept later paused past_end begins follows ended b c = tt
-trail_twice (Ok last) stacks func past first h before middle after code kept later paused past_end begins follows ended b c = record {
+    → IfOk result (λ last. PassesByTrail Follow kept stacks.password (past_of paused) middle after last later new_held)
+    → IfOk result (λ last. CallsByTrail (λ s. calls.call_after as_traced stacks func past (kept_answers first) h s) before after last (held h.authenticated h.opened (pending_after func later new_held)))
+trail_twice (Err none) stacks func past first h before middle after code kept later paused new_held begins follows ended b c = tt
+trail_twice (Ok last) stacks func past first h before middle after code kept later paused new_held begins follows ended b c = record {
   more = b.more ++ c.more;
   trail = c.trail ∙ ap (λ (vs : List Visit). vs ++ c.more) b.trail ∙ append_assoc before b.more c.more;
   leads = λ rest.
       let s : Telling = telling (seen_in b.more ++ (seen_in c.more ++ rest)) in
       let t : Telling = telling (seen_in c.more ++ rest) in
-      ap (λ (xs : List Seen). calls.call_after as_traced stacks func past (kept_answers first) h (telling xs)) (ap (λ (xs : List Seen). xs ++ rest) (seen_more b.more c.more) ∙ append_assoc (seen_in b.more) (seen_in c.more) rest)
-      ∙ goes_twice as_traced stacks func past first h s t (telling rest) code last kept later paused past_end begins follows ended
+      ap (λ (xs : List RecordedLine). calls.call_after as_traced stacks func past (kept_answers first) h (telling xs)) (ap (λ (xs : List RecordedLine). xs ++ rest) (seen_more b.more c.more) ∙ append_assoc (seen_in b.more) (seen_in c.more) rest)
+      ∙ goes_twice as_traced stacks func past first h s t (telling rest) code last kept later paused new_held begins follows ended
       (first_passes as_traced stacks func past h s t code kept paused (b.goes (seen_in c.more ++ rest))) (c.goes rest);
 }
 
@@ -94,12 +94,12 @@ goes_after asking stacks func given first q h s g f =
     ∙ ap (λ (past : List Code). calls.call_after asking stacks func past (first_in h.pending) (held h.authenticated h.opened q) s) (sym g)
     ∙ ap (λ (kept : Option KeptAnswers). calls.call_after asking stacks func given kept (held h.authenticated h.opened q) s) (sym f)
 
-pub called_by_trail : (result : Result Code NoMemory) (func : Func) (h new : PlainHandle) (given : List Code) (first : Option KeptAnswers) (q : Option Pending) (before after : List Visit) (past_end : Held)
-    → given ≡ past_in h.pending → first ≡ first_in h.pending → before ≡ h.room.transaction.trail → new.room.transaction.trail ≡ after → held_in new ≡ past_end
-    → IfOk result (λ code. CallsByTrail (λ s. calls.call_after as_traced h.stacks func given first (held h.authenticated h.opened q) s) before after code past_end)
+pub called_by_trail : (result : Result Code NoMemory) (func : Func) (h new : PlainHandle) (given : List Code) (first : Option KeptAnswers) (q : Option Pending) (before after : List Visit) (new_held : Held)
+    → given ≡ past_in h.pending → first ≡ first_in h.pending → before ≡ h.room.transaction.trail → new.room.transaction.trail ≡ after → held_in new ≡ new_held
+    → IfOk result (λ code. CallsByTrail (λ s. calls.call_after as_traced h.stacks func given first (held h.authenticated h.opened q) s) before after code new_held)
     → IfOk result (λ code. CallsByTrail (λ s. calls.goes as_traced h.stacks func (held_in h) s) h.room.transaction.trail new.room.transaction.trail code (held_in new))
-called_by_trail (Err none) func h new given first q before after past_end g f start end is b = tt
-called_by_trail (Ok code) func h new given first q before after past_end g f start end is b = record {
+called_by_trail (Err none) func h new given first q before after new_held g f start end is b = tt
+called_by_trail (Ok code) func h new given first q before after new_held g f start end is b = record {
   more = b.more;
   trail = end ∙ b.trail ∙ ap (λ (vs : List Visit). vs ++ b.more) start;
   leads = λ rest.

@@ -245,7 +245,7 @@ module _ (request : PassRequest) (cells later : Answers) (past : List Code) (pau
 
 -- after the first pass: `own` are the codes that it has cached; `t` is seen after it, and `n` after the call
 pub give_twice : (result : Result Code NoMemory) (func : Func) (flags : ℕ) (first cells kept own later : Answers) (past : List Code)
-    (paused past_end : Option (List Code)) (room : PlainRoom) (s t n : CallSeen) (x y p q : Option KeptAnswers)
+    (paused new_held : Option (List Code)) (room : PlainRoom) (s t n : CallSeen) (x y p q : Option KeptAnswers)
     (J L N M O I K H R : Type 0) (request again : PassRequest) (c d : Answers) (code : Code)
     → is_second func first ≡ false → is_followed func code ≡ true → kept_answers cells ≡ first_kept func (held_in s.handle)
     → request ≡ first_request func flags (kept_answers cells)
@@ -259,9 +259,9 @@ pub give_twice : (result : Result Code NoMemory) (func : Func) (flags : ℕ) (fi
     → GoesSoundly (notes_of s.players) (length s.players) s.handle.room.transaction t.handle.room.transaction s.world.process t.world.process
     → (K → n.world ≡ t.world) → t.players ≡ s.players → t.tells ≡ s.tells → t.world_tells ≡ s.world_tells → t.handle.stacks ≡ s.handle.stacks
     → PassGives request cells kept past paused (Ok code) (over (swapped_in x y s) t J L N)
-    → PassGives again own later (past_of paused) past_end result (over (swapped_in p q t) n I K H)
-    → PassesGive flags (record { func = func; past = past; first = kept_answers first }) (kept_answers later) past_end result (over s n M R O)
-give_twice result ChAuthTok flags first cells kept own later past paused past_end room s t n x y p q J L N M O I K H R request again c d code begins follows
+    → PassGives again own later (past_of paused) new_held result (over (swapped_in p q t) n I K H)
+    → PassesGive flags (record { func = func; past = past; first = kept_answers first }) (kept_answers later) new_held result (over s n M R O)
+give_twice result ChAuthTok flags first cells kept own later past paused new_held room s t n x y p q J L N M O I K H R request again c d code begins follows
     hold asks own_is asks_again is sound same players tells world_tells stacks g e =
     let over_is : paused ≡ None = none_over ChAuthTok code paused follows g.put_off in
     let checked : IsTrue (all_tell s) → PassesTo
@@ -271,25 +271,25 @@ give_twice result ChAuthTok flags first cells kept own later past paused past_en
     let one : PassGives (first_request ChAuthTok flags (kept_answers cells)) cells kept past paused (Ok code) (over (swapped_in x y s) t J L N) =
     subst (λ (r : PassRequest). PassGives r cells kept past paused (Ok code) (over (swapped_in x y s) t J L N)) asks g in
     let m : CallSeen = record n { handle = in_room room s.handle } in
-    let second : PassGives (second_request flags) kept later (past_of paused) past_end result (over (swapped_in p q t) m I K H) =
-    subst (λ (k : PlainHandle). PassGives (second_request flags) kept later (past_of paused) past_end result
+    let second : PassGives (second_request flags) kept later (past_of paused) new_held result (over (swapped_in p q t) m I K H) =
+    subst (λ (k : PlainHandle). PassGives (second_request flags) kept later (past_of paused) new_held result
     (over (swapped_in p q t) (record n { handle = k }) I K H)) is
-    (subst (λ (r : PassRequest). PassGives r kept later (past_of paused) past_end result (over (swapped_in p q t) n I K H)) asks_again
-    (subst (λ (k : Answers). PassGives again k later (past_of paused) past_end result (over (swapped_in p q t) n I K H)) own_is e)) in
-    let two = gives_still (second_request flags) kept later (past_of paused) past_end result s t m p q I K H players tells world_tells stacks second in
-    subst (λ (k : PlainHandle). PassesGive flags (record { func = ChAuthTok; past = past; first = kept_answers first }) (kept_answers later) past_end result
+    (subst (λ (r : PassRequest). PassGives r kept later (past_of paused) new_held result (over (swapped_in p q t) n I K H)) asks_again
+    (subst (λ (k : Answers). PassGives again k later (past_of paused) new_held result (over (swapped_in p q t) n I K H)) own_is e)) in
+    let two = gives_still (second_request flags) kept later (past_of paused) new_held result s t m p q I K H players tells world_tells stacks second in
+    subst (λ (k : PlainHandle). PassesGive flags (record { func = ChAuthTok; past = past; first = kept_answers first }) (kept_answers later) new_held result
     (over s (record n { handle = k }) M R O)) (sym is)
     (record {
       told = λ told. if_ok result
           (λ k. PassesTo (calls.second_pass (asking_by s.players flags) s.handle.stacks (kept_answers kept) (past_of paused) (state_in t)) k
-          (kept_answers later) past_end (state_in m))
+          (kept_answers later) new_held (state_in m))
           (λ k. calls.call_after (asking_by s.players flags) s.handle.stacks ChAuthTok past (kept_answers first) (held_in s.handle) (state_in s) ≡ went k
-          (held s.handle.authenticated s.handle.opened (pending_after ChAuthTok (kept_answers later) past_end)) (state_in m))
+          (held s.handle.authenticated s.handle.opened (pending_after ChAuthTok (kept_answers later) new_held)) (state_in m))
           (λ k r. goes_twice (asking_by s.players flags) s.handle.stacks ChAuthTok past first (held_in s.handle) (state_in s) (state_in t) (state_in m) code k
-          (kept_answers kept) (kept_answers later) paused past_end begins follows over_is (checked told) r) (two.told told);
+          (kept_answers kept) (kept_answers later) paused new_held begins follows over_is (checked told) r) (two.told told);
       by_trail = trail_twice result s.handle.stacks ChAuthTok past first
           (held_in s.handle) s.handle.room.transaction.trail t.handle.room.transaction.trail room.transaction.trail code (kept_answers kept)
-          (kept_answers later) paused past_end begins follows over_is (rw hold at one.by_trail) two.by_trail;
+          (kept_answers later) paused new_held begins follows over_is (rw hold at one.by_trail) two.by_trail;
       put_off = two.put_off;
       paused = two.paused;
       stopped = stops_twice result ChAuthTok flags first past (passing (over s m M R O)) code (kept_answers kept) paused
@@ -300,5 +300,5 @@ give_twice result ChAuthTok flags first cells kept own later past paused past_en
       leaves_opened = refl;
       others = refl;
     })
-give_twice result func flags first cells kept own later past paused past_end room s t n x y p q J L N M O I K H R request again c d code begins follows hold
+give_twice result func flags first cells kept own later past paused new_held room s t n x y p q J L N M O I K H R request again c d code begins follows hold
     asks own_is asks_again is sound same players tells world_tells stacks g e = absurd (false_true follows)

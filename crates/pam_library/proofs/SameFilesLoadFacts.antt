@@ -6,8 +6,8 @@ use Rattle.pam_base.specs.declared.fault.FaultKind.TheVariants.{TooDeep, TooMany
 use Rattle.pam_outside.specs.Counts.{next_count, fails_next}
 use Rattle.pam_outside.specs.Files.{File, VaultState, is_failing, no_locks}
 use Rattle.pam_handle.specs.service_load.specs.Entry.{entry_of, directory_name}
-use Rattle.pam_handle.specs.service_load.specs.Files.{Held, absent, faulty, holds, held, is_in_directory}
-use Rattle.pam_handle.specs.service_load.specs.FirstFault.{Counts, Stop, absent_file, asked, past_end, checked_rule, fault_at, going_on, held_file, look, refused_opening, stop}
+use Rattle.pam_handle.specs.service_load.specs.Files.{FileContent, absent, faulty, holds, held, is_in_directory}
+use Rattle.pam_handle.specs.service_load.specs.FirstFault.{Counts, Stop, absent_file, asked, take_one, checked_rule, fault_at, going_on, held_file, look, refused_opening, stop}
 use Rattle.pam_handle.specs.service_load.specs.Load.{directory_exists, loaded, loaded_from}
 use Rattle.pam_handle.specs.service_load.specs.Loading.{texts_of}
 use Rattle.pam_handle.specs.service_load.specs.Order.{Opener, as_service, as_other, as_last, by_rule, Item, begin, opening, checked, made, order}
@@ -48,14 +48,14 @@ module _ (some others : List ℕ) where
     absent_twins (as_last service) = record { rest = refl; first = first; second = second }
     absent_twins (by_rule name line) = record { rest = refl; first = first; second = second }
 
-    held_twins : (file : _) (opener : Opener) (h : Held) → LookTwins (held_file c file opener h) (held_file (record c { calls = k }) file opener h)
+    held_twins : (file : _) (opener : Opener) (h : FileContent) → LookTwins (held_file c file opener h) (held_file (record c { calls = k }) file opener h)
     held_twins file opener absent = absent_twins opener
     held_twins file opener (faulty fault) = record { rest = refl; first = first; second = second }
     held_twins file opener (holds rules) = record { rest = refl; first = first; second = second }
 
   module _ (texts : List ℕ → Option (List ℕ)) where
     after_twins : (c : Counts) (k : ℕ) → QuietAt some c.calls → QuietAt others k → (i : Item)
-        → LookTwins (past_end texts some c i) (past_end texts others (record c { calls = k }) i)
+        → LookTwins (take_one texts some c i) (take_one texts others (record c { calls = k }) i)
     after_twins c k first second begin = record { rest = refl; first = first; second = second }
     after_twins c k first second (opening file level opener) =
         let d : Counts = record c { calls = k } in
@@ -101,8 +101,8 @@ module _ (some others : List ℕ) where
     unfolding look
     looks [] c d t = t
     looks (i ∷ is) c d t =
-        going_twins (past_end texts some c i) (past_end texts others d i) (λ x. look texts some x is) (λ x. look texts others x is)
-        (subst (λ (x : Counts). LookTwins (past_end texts some c i) (past_end texts others x i)) t.rest (after_twins c d.calls t.first t.second i))
+        going_twins (take_one texts some c i) (take_one texts others d i) (λ x. look texts some x is) (λ x. look texts others x is)
+        (subst (λ (x : Counts). LookTwins (take_one texts some c i) (take_one texts others x i)) t.rest (after_twins c d.calls t.first t.second i))
         (λ x y u. looks is x y u)
 
 -- ---- the load of a service

@@ -15,13 +15,13 @@ pub enum LockKind {
 
 /// A lock on files, held until it is let go or dropped. Contracts know whether a call of `Vault` took it.
 #[derive(Drop)]
-pub struct Held {
+pub struct FileLock {
     // The lock ends when the file is closed, and with the process.
     _file: Option<File>,
     is_taken: bool,
 }
 
-impl Model for Held {
+impl Model for FileLock {
     ghost use Rattle.std.specs.Prelude.{Bool};
 
     ghost Value = { Bool };
@@ -29,12 +29,12 @@ impl Model for Held {
     ghost view = { λ h. h.is_taken };
 }
 
-impl Held {
+impl FileLock {
     /// Nothing is locked, and no call was made.
-    pub fn nothing() -> Held
+    pub fn nothing() -> FileLock
         ensures { result ≡ false }
     {
-        Held {
+        FileLock {
             _file: None,
             is_taken: false,
         }
@@ -42,20 +42,20 @@ impl Held {
 
     /// The lock that a call of a store over real files took on an open file; None if there was nothing to lock. Only
     /// who has the runtime can make one.
-    pub fn of_file(_rt: &HostRuntime, file: Option<File>) -> Held
+    pub fn of_file(_rt: &HostRuntime, file: Option<File>) -> FileLock
         ensures { result ≡ true }
     {
-        Held {
+        FileLock {
             _file: file,
             is_taken: true,
         }
     }
 
     // A lock that a store in memory has noted.
-    pub(crate) fn in_memory() -> Held
+    pub(crate) fn in_memory() -> FileLock
         ensures { result ≡ true }
     {
-        Held {
+        FileLock {
             _file: None,
             is_taken: true,
         }

@@ -20,7 +20,7 @@ mod whole;
 
 pub use clock::{Clock, MAX_MOMENT, Owner, current_moment, random_word, set_moment, set_word};
 pub use fixed_clock::FixedClock;
-pub use held::{Held, LockKind};
+pub use held::{FileLock, LockKind};
 pub use memory_sink::MemSink;
 pub use memory_source::MemSource;
 pub use memory_vault::MemVault;

@@ -4,7 +4,7 @@ ghost use Rattle.std.specs.Str.{bytes_eq};
 ghost use Rattle.pam_outside.specs.Files.{file_at, file_put, is_below, is_directory, no_locks, with_lock};
 
 use crate::calls::Calls;
-use crate::held::{Held, LockKind};
+use crate::held::{FileLock, LockKind};
 use crate::vault::{MAX_FILE, ReplaceFault, Vault, VaultFault};
 use pam_base::{NoMemory, Numbers, Text};
 use std::alloc::Global;
@@ -196,16 +196,21 @@ impl Vault for MemVault {
     }
 
     /// No other process has these files: the lock is only noted.
-    fn hold(&mut self, alloc: Global, path: &[u8], kind: LockKind) -> Result<Held, ReplaceFault> {
+    fn hold(
+        &mut self,
+        alloc: Global,
+        path: &[u8],
+        kind: LockKind,
+    ) -> Result<FileLock, ReplaceFault> {
         if self.calls.next_fails() {
             self.calls.count_fault();
             return Err(ReplaceFault::Failed);
         }
         self.note_lock(alloc, path, kind)?;
-        Ok(Held::in_memory())
+        Ok(FileLock::in_memory())
     }
 
-    fn let_go(&mut self, held: Held) {
+    fn let_go(&mut self, held: FileLock) {
         if held.is_taken() {
             self.let_go = self.calls.made;
         }

@@ -2,7 +2,7 @@ ghost use Rattle.std.specs.Prelude.{◌≡◌, ◌≢◌, ◌≤◌, ℕ, List, 
 ghost use Rattle.pam_outside.specs.Counts.{Rose};
 ghost use Rattle.pam_outside.specs.Files.{VaultState, ReadsFile, TellsDirectory, Replaces, TakesLock, counted, file_at, unlocked};
 
-use crate::held::{Held, LockKind};
+use crate::held::{FileLock, LockKind};
 use pam_base::{NoMemory, Text};
 use std::alloc::Global;
 
@@ -117,7 +117,7 @@ pub trait Vault: Drop {
 
     /// Takes the lock at this path, and holds it until the result is handed to `let_go` or dropped: another process
     /// that takes it waits, for a limited time. The files stay.
-    fn hold(&mut self, alloc: Global, path: &[u8], kind: LockKind) -> Result<Held, ReplaceFault>
+    fn hold(&mut self, alloc: Global, path: &[u8], kind: LockKind) -> Result<FileLock, ReplaceFault>
         ensures held { IfOk result (λ held. held ≡ true) }
         ensures tells { vault_tells self.new ≡ vault_tells self.old }
         ensures told { IsTrue (vault_tells self.old) →
@@ -130,7 +130,7 @@ pub trait Vault: Drop {
 
     /// Lets a lock go. It isn't counted and can't fail; the files stay. A lock that is dropped is let go, too, but
     /// the store doesn't say when.
-    fn let_go(&mut self, held: Held)
+    fn let_go(&mut self, held: FileLock)
         ensures tells { vault_tells self.new ≡ vault_tells self.old }
         ensures told { IsTrue (vault_tells self.old) →
             vault_holds self.new ≡ unlocked held (vault_holds self.old) }
@@ -204,7 +204,7 @@ pub fn hold_file(
     alloc: Global,
     path: &[u8],
     kind: LockKind,
-) -> Result<Held, ReplaceFault>
+) -> Result<FileLock, ReplaceFault>
     ensures held { IfOk result (λ held. held ≡ true) }
     ensures tells { vault_tells vault.new ≡ vault_tells vault.old }
     ensures told { IsTrue (vault_tells vault.old) →
@@ -219,7 +219,7 @@ pub fn hold_file(
 }
 
 /// `Vault::let_go` of a borrowed store.
-pub fn let_go(vault: &mut dyn Vault, held: Held)
+pub fn let_go(vault: &mut dyn Vault, held: FileLock)
     ensures tells { vault_tells vault.new ≡ vault_tells vault.old }
     ensures told { IsTrue (vault_tells vault.old) →
         vault_holds vault.new ≡ unlocked held (vault_holds vault.old) }

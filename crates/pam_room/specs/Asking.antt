@@ -10,7 +10,7 @@ use Rattle.item_store.specs.Items.{text_of, with_text}
 use Rattle.conv_port.specs.Conv.{ConvState}
 use Rattle.pam_room.specs.Module.{SeenRoom}
 use Rattle.pam_room.specs.Plain.{seen_in}
-use Rattle.pam_room.specs.Say.{Asked, Asks, ConvErrIsCounted, RepliedAtMostOnce, signs}
+use Rattle.pam_room.specs.Say.{AfterPrompt, Asks, ConvErrIsCounted, RepliedAtMostOnce, signs}
 use Rattle.pam_room.specs.declared.transaction.Transaction.{Transaction}
 
 -- a transaction and its conversation: whether that is modelled, what it holds, and its counts
@@ -34,7 +34,7 @@ talk_by tells holds faults deferrals transaction conv = record {
 -- One message is sent, unless the item is set already, and the item is set to its reply. What was
 -- asked is exact if the conversation is modelled; all else holds with real objects too.
 pub record AsksOnce {T : Type 0} (result : Result T (Refuse ConvErr)) (item : ItemName)
-    (style : Style) (prompt : List ℕ) (asked : SeenRoom → Asked) (old new : Talk) : Type 0 where
+    (style : Style) (prompt : List ℕ) (asked : SeenRoom → AfterPrompt) (old new : Talk) : Type 0 where
   pub tells : new.tells ≡ old.tells
   pub told : IsTrue old.tells → Asks result (asked (seen_in old.transaction old.holds))
       (seen_in new.transaction new.holds)

@@ -88,11 +88,11 @@ ConvErrIsCounted (Err (refusals.Named e)) old new = Failed old new ⊎ Deferred 
 -- ---- one prompt, whose reply becomes an item
 
 -- whether it ended with CONV_ERR, and the room after it
-pub record Asked : Type 0 where
+pub record AfterPrompt : Type 0 where
   pub refused : Bool
   pub room : SeenRoom
 
-abbrev pub asked : Bool → SeenRoom → Asked
+abbrev pub asked : Bool → SeenRoom → AfterPrompt
 asked refused room = record { refused = refused; room = room }
 
 abbrev pub with_reply : ItemName → List Reply → SeenRoom → SeenRoom
@@ -100,12 +100,12 @@ with_reply item (reply ∷ replies) room =
     record room { items = with_text room.items item (Some reply.text) }
 with_reply item [] room = room
 
-abbrev pub asked_by : ItemName → Result (List Reply) ConvFault → SeenRoom → Asked
+abbrev pub asked_by : ItemName → Result (List Reply) ConvFault → SeenRoom → AfterPrompt
 asked_by item (Ok replies) room = asked false (with_reply item replies room)
 asked_by item (Err fault) room = asked true room
 
 -- one message is sent, and an item set to its reply
-abbrev pub ask_item : ItemName → Style → List ℕ → SeenRoom → Asked
+abbrev pub ask_item : ItemName → Style → List ℕ → SeenRoom → AfterPrompt
 ask_item item style prompt room =
     let spoken = speak (record { style = style; text = prompt } ∷ []) room in
     asked_by item spoken.answer spoken.room
@@ -115,12 +115,12 @@ abbrev pub login_prompt : Option (List ℕ) → List ℕ
 login_prompt (Some prompt) = take 512 prompt
 login_prompt None = codes "login: "
 
-abbrev pub user_or_ask : Option (List ℕ) → SeenRoom → Asked
+abbrev pub user_or_ask : Option (List ℕ) → SeenRoom → AfterPrompt
 user_or_ask (Some user) room = asked false room
 user_or_ask None room = ask_item User EchoOn (login_prompt room.items.user_prompt) room
 
 -- pam_get_user(3): if the user is set, nothing is asked
-abbrev pub user_asked : SeenRoom → Asked
+abbrev pub user_asked : SeenRoom → AfterPrompt
 user_asked room = user_or_ask room.items.user room
 
 abbrev pub token_of : Bool → ItemName
@@ -128,12 +128,12 @@ token_of true = OldAuthTok
 token_of false = AuthTok
 
 -- a token is asked for, hidden, and set
-abbrev pub token_asked : Bool → List ℕ → SeenRoom → Asked
+abbrev pub token_asked : Bool → List ℕ → SeenRoom → AfterPrompt
 token_asked old prompt room = ask_item (token_of old) EchoOff prompt room
 
 -- the result of such a call, if the conversation is modelled; nothing is stated if an allocation
 -- fails
-abbrev pub Asks : {T : Type 0} → Result T (Refuse ConvErr) → Asked → SeenRoom → Type 0
+abbrev pub Asks : {T : Type 0} → Result T (Refuse ConvErr) → AfterPrompt → SeenRoom → Type 0
 Asks (Ok v) a new = (a.refused ≡ false) × (new ≡ a.room)
 Asks (Err (refusals.Named e)) a new = (a.refused ≡ true) × (new ≡ a.room)
 Asks (Err refusals.NoMemory) a new = Unit {0}

@@ -12,14 +12,14 @@ use who_calls::request_in;
 
 /// What the program is called with.
 #[derive(Drop)]
-pub struct Asked {
+pub struct Invocation {
     /// Its arguments: `wire ROOT`, or none; then only the usage line is written.
     pub words: Vec<String>,
     /// The user ID that calls are made for.
     pub caller: u32,
 }
 
-impl Asked {
+impl Invocation {
     /// The directory that files are under.
     pub fn root(&self) -> &[u8] {
         match self.words.as_slice() {
@@ -30,7 +30,7 @@ impl Asked {
 }
 
 /// What these arguments ask of a process with this `/proc/self/status`.
-pub fn asked_of(alloc: Global, words: &[String], status: &Text) -> io::Result<Asked>
+pub fn asked_of(alloc: Global, words: &[String], status: &Text) -> io::Result<Invocation>
     ensures request { IfOk result (λ asked. command_of asked.words.items
         ≡ asked_command (service_request status.now words.now)) }
     ensures caller { IfOk result (λ asked. asked.caller
@@ -38,11 +38,11 @@ pub fn asked_of(alloc: Global, words: &[String], status: &Text) -> io::Result<As
     ensures frames { IfOk result (λ asked. IsOfFrames (command_of asked.words.items)) }
 {
     match request_in(words, status.bytes()) {
-        Some(request) => Ok(Asked {
+        Some(request) => Ok(Invocation {
             words: wire_words(alloc, request.root)?,
             caller: request.caller,
         }),
-        None => Ok(Asked {
+        None => Ok(Invocation {
             words: no_words(alloc),
             caller: NOBODY,
         }),

@@ -17,7 +17,7 @@ ghost use Rattle.frame_service.specs.Service.{IsOfFrames, StatusOf};
 ghost use Rattle.frame_service.specs.Serving.{ServesFrames};
 ghost use Rattle.pam_service.specs.Service.{asked_command, caller_in};
 
-use crate::asked::{Asked, asked_of};
+use crate::asked::{Invocation, asked_of};
 use cmd_all::{Outside, OutsideTold, TimeOfDay};
 use command_line::{NO_STREAMS, exit_status, reserve_streams};
 use frame_service::{
@@ -106,7 +106,7 @@ fn serve_caller<S: Source, K: Sink>(
     alloc: Global,
     words: &[String],
     said: &Text,
-    asked: &Asked,
+    asked: &Invocation,
     talks: Conversations,
     script: &mut S,
     out: &mut K,

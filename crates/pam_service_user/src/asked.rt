@@ -15,7 +15,7 @@ use who_calls::{Ids, ids_in};
 
 /// What the program is called with.
 #[derive(Drop)]
-pub struct Asked {
+pub struct UserInvocation {
     /// `wire /`, or none; then only the usage line is written.
     pub words: Vec<String>,
     /// The user ID that calls are made for: the process's real user.
@@ -25,7 +25,12 @@ pub struct Asked {
 }
 
 /// What these arguments ask of a process with this `/proc/self/status` on a system with this `/etc/passwd`.
-pub fn asked_of(alloc: Global, words: &[String], status: &Text, passwd: Text) -> io::Result<Asked>
+pub fn asked_of(
+    alloc: Global,
+    words: &[String],
+    status: &Text,
+    passwd: Text,
+) -> io::Result<UserInvocation>
     requires { length passwd ≤ 1048576 }
     ensures command { IfOk result (λ asked. command_of asked.words.items
         ≡ own_command words.now) }
@@ -36,7 +41,7 @@ pub fn asked_of(alloc: Global, words: &[String], status: &Text, passwd: Text) ->
         ≡ own_name (ids_in status.now (codes "Uid:")) passwd) }
 {
     let ids = ids_in(status.bytes(), b"Uid:");
-    Ok(Asked {
+    Ok(UserInvocation {
         words: own_words(alloc, words)?,
         caller: real_user(&ids),
         user: own_name(alloc, &ids, passwd)?,

@@ -20,7 +20,7 @@ ghost use Rattle.frame_service.specs.Serving.{ServesFrames};
 ghost use Rattle.pam_service_user.specs.Own.{own_command, own_name};
 ghost use Rattle.own_files.specs.Own.{files_for};
 
-use crate::asked::{Asked, asked_of};
+use crate::asked::{UserInvocation, asked_of};
 use cmd_all::{Outside, OutsideTold, TimeOfDay};
 use command_line::{NO_STREAMS, exit_status, reserve_streams};
 use frame_service::{
@@ -64,7 +64,7 @@ fn run(rt: HostRuntime) -> io::Result<u8> {
     let status = system_text(rt, STATUS, MAX_STATUS);
     let passwd = system_text(rt, PASSWD, MAX_FILE);
     let accounts = Snapshot::of(&passwd);
-    let Asked {
+    let UserInvocation {
         words: command,
         caller,
         user,

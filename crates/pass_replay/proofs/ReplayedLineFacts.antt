@@ -4,7 +4,7 @@ use Rattle.std.specs.List.{slice_get}
 use Rattle.pam_base.specs.declared.code.Code.{Code}
 use Rattle.control_words.specs.declared.nodes.Rule.{Rule}
 use Rattle.handler_chain.specs.declared.pass_kind.PassKind.{PassKind}
-use Rattle.handler_chain.specs.declared.seen.Seen.{Seen}
+use Rattle.handler_chain.specs.declared.seen.RecordedLine.{RecordedLine}
 use Rattle.handler_chain.specs.Route.{KeptAnswers}
 use Rattle.handler_chain.specs.Retell.{Telling, replaying}
 use Rattle.handler_chain.specs.Pass.{Answered, AnswersAs, PassState, Visit, visit, decides, is_incomplete, pass_state, served_now, served_past, serving}
@@ -17,7 +17,7 @@ use Rattle.pass_replay.proofs.ListRestFacts.{drop_next, drop_past}
 use Rattle.pass_replay.proofs.CodeCellFacts.{visits_of-append}
 
 -- the code of an earlier call
-pub given : (kind : PassKind) (kept : KeptAnswers) (rule : Rule) (past : List Code) (told : List (Option Seen))
+pub given : (kind : PassKind) (kept : KeptAnswers) (rule : Rule) (past : List Code) (told : List (Option RecordedLine))
     (old new : Replay) (answer : Code) → slice_get past old.used ≡ Some answer
     → new ≡ record old { used = old.used + 1; visits = old.visits ++ record { place = old.at + 1; answer = answer } ∷ [] }
     → ServedAs (serving kind kept replaying rule (old.at + 1) (state_in past told old)) answer (decides kind kept (old.at + 1) answer) false
@@ -55,7 +55,7 @@ asked_once {State = State} kind kept at visits a answer state s goes =
           ∙ ap (λ (b : Bool). pass_state [] (if b then visits else visits ++ visit at a.answer ∷ []) a.state) (sym on);
     }
 
-pub asked : (kind : PassKind) (kept : KeptAnswers) (rule : Rule) (past : List Code) (told : List (Option Seen))
+pub asked : (kind : PassKind) (kept : KeptAnswers) (rule : Rule) (past : List Code) (told : List (Option RecordedLine))
     (old mid new : Replay) (answer : Code) → slice_get past old.used ≡ None
     → AnswersAs (replaying rule (old.at + 1) (telling_from told old.next old.astray)) answer (telling_from told mid.next mid.astray)
     → mid ≡ record old { next = mid.next; astray = mid.astray } → is_incomplete answer ≡ false

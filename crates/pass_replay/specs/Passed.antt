@@ -3,7 +3,7 @@ use Rattle.std.specs.Prelude.{List, Option, Some, None}
 use Rattle.pam_base.specs.declared.code.Code.{Code}
 use Rattle.pam_base.specs.declared.code.Code.TheVariants.{Incomplete}
 use Rattle.handler_chain.specs.declared.opinion.Opinion.{Opinion}
-use Rattle.handler_chain.specs.declared.seen.Seen.{Seen}
+use Rattle.handler_chain.specs.declared.seen.RecordedLine.{RecordedLine}
 use Rattle.handler_chain.specs.Opinion.{verdict}
 use Rattle.handler_chain.specs.Pass.{Visit, answers_of}
 use Rattle.handler_chain.specs.Retell.{Telling}
@@ -12,7 +12,7 @@ use Rattle.pass_replay.specs.declared.passed.Passed.{Passed}
 use Rattle.pass_replay.specs.Kept.{kept_answers}
 use Rattle.pass_replay.specs.Told.{telling_from}
 
-abbrev pub passed_of : List (Option Seen) → Passed → calls.Passed Telling
+abbrev pub passed_of : List (Option RecordedLine) → Passed → calls.Passed Telling
 passed_of told p = record {
   code = p.code;
   kept = kept_answers p.kept;

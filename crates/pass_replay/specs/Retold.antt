@@ -4,7 +4,7 @@ use Rattle.pam_base.specs.declared.call.Func.{Func}
 use Rattle.control_words.specs.Stack.{stack_of}
 use Rattle.dispatch_core.specs.service_load.specs.Stacks.{Stacks}
 use Rattle.dispatch_core.specs.service_load.specs.Trees.{Trees}
-use Rattle.handler_chain.specs.declared.seen.Seen.{Seen}
+use Rattle.handler_chain.specs.declared.seen.RecordedLine.{RecordedLine}
 use Rattle.handler_chain.specs.Retell.{Telling}
 use Rattle.handler_chain.specs.Route.{KeptAnswers}
 use Rattle.dispatch_core.specs.Calls.{Held, Went, authenticated_with, held, opened_with, went}
@@ -22,7 +22,7 @@ stacks_in trees = record {
   session = stack_of trees.session.vec.items;
 }
 
-abbrev pub went_of : List (Option Seen) → Retold → Went Telling
+abbrev pub went_of : List (Option RecordedLine) → Retold → Went Telling
 went_of told r = went r.code (held_of r.held) (telling_from told r.next r.astray)
 
 -- what is held after a call, by what it caches and what is pending after it

@@ -4,7 +4,7 @@ use Rattle.pam_base.specs.declared.code.Code.{Code}
 use Rattle.control_words.specs.Stack.{Stack}
 use Rattle.handler_chain.specs.declared.opinion.Opinion.{Opinion}
 use Rattle.handler_chain.specs.declared.pass_kind.PassKind.{PassKind}
-use Rattle.handler_chain.specs.declared.seen.Seen.{Seen}
+use Rattle.handler_chain.specs.declared.seen.RecordedLine.{RecordedLine}
 use Rattle.handler_chain.specs.Walk.{Next, after, stop, Serving, Walked, walk, walked, halted}
 use Rattle.handler_chain.specs.Retell.{Telling}
 use Rattle.handler_chain.specs.Pass.{PassState, pass_state}
@@ -14,7 +14,7 @@ use Rattle.pass_replay.specs.Kept.{visits_of}
 use Rattle.pass_replay.specs.Told.{telling_from}
 
 -- how far a pass has got, by the codes of its earlier calls and the recorded lines
-abbrev pub state_in : List Code → List (Option Seen) → Replay → PassState Telling
+abbrev pub state_in : List Code → List (Option RecordedLine) → Replay → PassState Telling
 state_in past told r = pass_state (drop r.used past) (visits_of r.visits) (telling_from told r.next r.astray)
 
 -- how many of the n nodes that are left are skipped where their list goes on; all of them if it

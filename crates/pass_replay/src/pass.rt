@@ -15,7 +15,7 @@ use crate::replay::{Replay, begun};
 use crate::visited::Visited;
 use crate::walk::walk_nodes;
 use control_words::Nodes;
-use handler_chain::{Opinion, PassKind, Seen};
+use handler_chain::{Opinion, PassKind, RecordedLine};
 use pam_base::{Code, NoMemory, Sequence};
 use std::alloc::Global;
 
@@ -26,7 +26,7 @@ pub fn pass(
     kind: PassKind,
     follows: Option<Answers>,
     past: &[Code],
-    told: &[Option<Seen>],
+    told: &[Option<RecordedLine>],
     next: usize,
     astray: bool,
 ) -> Result<Passed, NoMemory>
@@ -50,7 +50,7 @@ fn finish(
     end: Option<Opinion>,
     replay: Replay,
 ) -> Result<Passed, NoMemory>
-    ensures { IfOk result (λ passed. (past : List Code) (told : List (Option Seen))
+    ensures { IfOk result (λ passed. (past : List Code) (told : List (Option RecordedLine))
         (walked : Walked (PassState Telling)) → WalkEnds walked end (state_in past told replay) →
         passed_of told passed ≡ passed_by kind (kept_answers follows) walked) }
 {

@@ -11,7 +11,7 @@ ghost use Rattle.pass_replay.specs.Walk.{state_in};
 use crate::told::{is_of, next_seen};
 use crate::visited::Visited;
 use control_words::Rule;
-use handler_chain::Seen;
+use handler_chain::RecordedLine;
 use pam_base::{Code, NoMemory, Sequence};
 use std::alloc::Global;
 
@@ -47,7 +47,7 @@ pub fn begun(alloc: Global, next: usize, astray: bool) -> Replay
 pub fn next_answer(
     rule: &Rule,
     past: &[Code],
-    told: &[Option<Seen>],
+    told: &[Option<RecordedLine>],
     replay: &mut Replay,
 ) -> Result<Option<Code>, NoMemory>
     requires few { replay.old.at < 4096 }
@@ -95,7 +95,7 @@ fn visit(answer: Code, replay: &mut Replay) -> Result<(), NoMemory>
 
 // The present line returns the next recorded code, if that belongs to this line; else the replay
 // stops.
-fn ask(rule: &Rule, told: &[Option<Seen>], replay: &mut Replay) -> Code
+fn ask(rule: &Rule, told: &[Option<RecordedLine>], replay: &mut Replay) -> Code
     requires few { replay.old.at < 4096 }
     ensures answers { AnswersAs (replaying rule.now (replay.old.at + 1)
         (telling_from told.now replay.old.next replay.old.astray))

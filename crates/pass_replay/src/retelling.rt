@@ -5,7 +5,7 @@ ghost use Rattle.dispatch_core.specs.Calls.{change, check, first_kept, first_sta
 ghost use Rattle.dispatch_core.specs.Pending.{first_in, past_in, pending_after};
 ghost use Rattle.dispatch_core.specs.service_load.specs.Load.{AreBounded};
 ghost use Rattle.handler_chain.specs.Retell.{Telling, telling};
-ghost use Rattle.handler_chain.specs.declared.seen.Seen.{Seen};
+ghost use Rattle.handler_chain.specs.declared.seen.RecordedLine.{RecordedLine};
 ghost use Rattle.pass_replay.specs.Held.{held_of, pending_of};
 ghost use Rattle.pass_replay.specs.Kept.{kept_answers};
 ghost use Rattle.pass_replay.specs.Replay.{as_told};
@@ -21,7 +21,7 @@ use crate::retold::Retold;
 use crate::told::first_left;
 use control_words::Nodes;
 use dispatch_core::service_load::Trees;
-use handler_chain::{PassKind, Seen};
+use handler_chain::{PassKind, RecordedLine};
 use pam_base::{Code, Func, NoMemory, Sequence};
 use std::alloc::Global;
 
@@ -36,7 +36,7 @@ pub fn retell(
     trees: &Trees,
     func: Func,
     held: Held,
-    told: &[Option<Seen>],
+    told: &[Option<RecordedLine>],
 ) -> Result<Retold, NoMemory>
     requires bounded { AreBounded trees.now }
     ensures goes { IfOk result (λ retold. went_of told.now retold
@@ -57,7 +57,7 @@ pub fn retell(
 struct Source<'a> {
     alloc: Global,
     trees: &'a Trees,
-    told: &'a [Option<Seen>],
+    told: &'a [Option<RecordedLine>],
 }
 
 // The same, except that `next` is the line after the last recorded line that was taken.
@@ -184,7 +184,7 @@ fn first_pass(
 
 // The result of a call of one pass: the codes that the call caches are stored.
 fn retold_call(func: Func, passed: Passed, held: Held) -> Retold
-    ensures { (told : List (Option Seen)) → went_of told result ≡ went passed.code
+    ensures { (told : List (Option RecordedLine)) → went_of told result ≡ went passed.code
         (held_past func None (passed_of told passed) (held_of held))
         (telling_from told passed.next passed.astray) }
 {

@@ -11,7 +11,7 @@ use crate::answers::Answers;
 use crate::next_node::{NextNode, next_node_after};
 use crate::replay::{Replay, next_answer};
 use control_words::{Node, Nodes, Rule};
-use handler_chain::{Opinion, PassKind, Seen};
+use handler_chain::{Opinion, PassKind, RecordedLine};
 use pam_base::{Code, NoMemory};
 
 // How many lines a list has, including those of its substacks.
@@ -68,7 +68,7 @@ fn walk_line(
     entry: Opinion,
     opinion: Opinion,
     past: &[Code],
-    told: &[Option<Seen>],
+    told: &[Option<RecordedLine>],
     replay: &mut Replay,
 ) -> Result<Option<NextNode>, NoMemory>
     requires few { replay.old.at < 4096 }
@@ -100,7 +100,7 @@ pub fn walk_nodes(
     follows: &Option<Answers>,
     entry: Opinion,
     past: &[Code],
-    told: &[Option<Seen>],
+    told: &[Option<RecordedLine>],
     replay: &mut Replay,
 ) -> Result<Option<Opinion>, NoMemory>
     requires few { replay.old.at + lines_in (stack_of nodes.now.vec.items) ≤ 4096 }

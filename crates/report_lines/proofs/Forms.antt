@@ -14,8 +14,8 @@ use Rattle.pam_base.specs.Style.{style_number}
 use Rattle.script_lang.specs.Command.{word_of_func}
 use Rattle.service_load.specs.declared.load_fault.LoadFault.{LoadFault}
 use Rattle.service_load.specs.FirstFault.{fault_at}
-use Rattle.handler_chain.specs.Retell.{Seen, seen_at}
-use Rattle.report_lines.specs.Line.{Cleanup, Told, told_message, told_visit, told_cleanup, told_wait, told_missing, told_variable, Shown, shows_code, shows_fault, shows_value, shows_count, shows_not_open, shows_already_open, shows_bad_number, shows_pending, Result, answered, closed_by_program, command_word, number_words, code_words, status_words, shown_words, refused_words, pending_words, told_text, result_text, AreBytes, IsSeen, IsTold, IsShown}
+use Rattle.handler_chain.specs.Retell.{RecordedLine, seen_at}
+use Rattle.report_lines.specs.Line.{Cleanup, ToldLine, told_message, told_visit, told_cleanup, told_wait, told_missing, told_variable, Shown, shows_code, shows_fault, shows_value, shows_count, shows_not_open, shows_already_open, shows_bad_number, shows_pending, Result, answered, closed_by_program, command_word, number_words, code_words, status_words, shown_words, refused_words, pending_words, told_text, result_text, AreBytes, IsSeen, IsTold, IsShown}
 use Rattle.report_lines.specs.Says.{bare_told}
 use Rattle.report_lines.specs.Words.{before_space, after_space, last_word, before_last, guessed_number, guessed_status, unquoted, guessed_code, guessed_style, guessed_fault}
 use Rattle.report_lines.specs.Guess.{guessed_message, guessed_seen, guessed_cleanup, guessed_wait, guessed_told, guessed_by, guessed_shown, answer_by, by_keyword, has_form}
@@ -27,7 +27,7 @@ use Rattle.report_lines.proofs.Known.{KnownCode, known_code, KnownFault, known_f
 -- ---- the words of a form
 
 -- a line before a result: its own word and those after it
-abbrev pub told_word : Told → List ℕ
+abbrev pub told_word : ToldLine → List ℕ
 told_word (told_message style text) = codes "say"
 told_word (told_visit v) = codes "line"
 told_word (told_cleanup c) = codes "clean"
@@ -38,7 +38,7 @@ told_word (told_variable variable) = codes "env"
 abbrev code_part : Code → List ℕ
 code_part code = name_of code ++ 32 ∷ decimal (number_of code)
 
-abbrev pub told_words : Told → List ℕ
+abbrev pub told_words : ToldLine → List ℕ
 told_words (told_message style text) = decimal (style_number style) ++ 32 ∷ quoted_text text
 told_words (told_visit v) = number_words v.place ++ 32 ∷ (quoted_text v.name ++ 32 ∷ (name_of v.answer ++ 32 ∷ decimal (number_of v.answer)))
 told_words (told_cleanup c) = number_words c.id ++ 32 ∷ (status_words c.status ++ 32 ∷ (number_words c.note ++ 32 ∷ (quoted_text c.owner ++ 32 ∷ quoted_text c.datum)))
@@ -50,7 +50,7 @@ told_words (told_variable variable) = quoted_text variable
 abbrev pub line_of : ℕ → List ℕ → List ℕ → List ℕ
 line_of number word words = decimal number ++ 32 ∷ (word ++ 32 ∷ words)
 
-pub told_ends : (number : ℕ) (t : Told) → told_text number t ≡ line_of number (told_word t) (told_words t) ++ 10 ∷ []
+pub told_ends : (number : ℕ) (t : ToldLine) → told_text number t ≡ line_of number (told_word t) (told_words t) ++ 10 ∷ []
 told_ends number (told_message style text) = simp append_assoc
 told_ends number (told_visit v) = simp append_assoc
 told_ends number (told_cleanup c) = simp append_assoc
@@ -77,7 +77,7 @@ message_is style text bytes =
 regrouped : (q w d : List ℕ) → q ++ 32 ∷ (w ++ 32 ∷ d) ≡ (q ++ 32 ∷ w) ++ 32 ∷ d
 regrouped q w d = sym (append_assoc q (32 ∷ w) (32 ∷ d))
 
-seen_is : (v : Seen) → IsSeen v → guessed_seen (told_words (told_visit v)) ≡ v
+seen_is : (v : RecordedLine) → IsSeen v → guessed_seen (told_words (told_visit v)) ≡ v
 seen_is v is =
     let k : KnownCode v.answer = known_code v.answer in
     let p : Numeral v.place (number_words v.place) = numbered v.place is.place in
@@ -167,16 +167,16 @@ wait_is code asked wait is =
 
 -- what is guessed is printed the same, has a form, and is the same except for contents that don't
 -- count
-pub record FoundTold (number : ℕ) (t : Told) : Type 0 where
-  pub found : Told
+pub record FoundTold (number : ℕ) (t : ToldLine) : Type 0 where
+  pub found : ToldLine
   pub is : guessed_told (told_word t) (told_words t) ≡ Some found
   pub formed : has_form found ≡ true
   pub text : told_text number found ≡ told_text number t
   pub same : bare_told found ≡ bare_told t
 
-pub told_is : (number : ℕ) (t : Told) → IsTold t → FoundTold number t
+pub told_is : (number : ℕ) (t : ToldLine) → IsTold t → FoundTold number t
 told_is number (told_message style text) is = record { found = told_message style text; is = ap Some (message_is style text is); formed = refl; text = refl; same = refl }
-told_is number (told_visit v) is = record { found = told_visit v; is = ap (λ (x : Seen). Some (told_visit x)) (seen_is v is); formed = refl; text = refl; same = refl }
+told_is number (told_visit v) is = record { found = told_visit v; is = ap (λ (x : RecordedLine). Some (told_visit x)) (seen_is v is); formed = refl; text = refl; same = refl }
 told_is number (told_cleanup c) is = record { found = told_cleanup (recut c); is = ap (λ (x : Cleanup). Some (told_cleanup x)) (cleanup_is c is); formed = refl; text = recut_text number c; same = refl }
 told_is number (told_wait code asked wait) is = record { found = told_wait code asked wait; is = ap Some (wait_is code asked wait is); formed = refl; text = refl; same = refl }
 told_is number (told_missing name) is = record { found = told_missing name; is = ap (λ (x : List ℕ). Some (told_missing x)) (unquoted-quoted name is); formed = refl; text = refl; same = refl }

@@ -17,7 +17,7 @@ use Rattle.pam_base.specs.Fault.{fault_number, fault_name, script_fault_number, 
 use Rattle.pam_base.specs.Quote.{quoted_text}
 use Rattle.pam_base.specs.Style.{style_number}
 use Rattle.script_lang.specs.Command.{word_of_func}
-use Rattle.report_lines.specs.Line.{Told, told_message, told_visit, told_cleanup, told_wait, told_missing, told_variable, Shown, shows_code, shows_fault, shows_value, shows_count, shows_not_open, shows_already_open, shows_bad_number, shows_pending, Result, answered, closed_by_program, Last, unread, refused_at, command_word, number_words, code_words, status_words, shown_words, script_text, AreBytes, IsSeen, IsVariable, IsTold, IsShown, IsResult, IsLast}
+use Rattle.report_lines.specs.Line.{ToldLine, told_message, told_visit, told_cleanup, told_wait, told_missing, told_variable, Shown, shows_code, shows_fault, shows_value, shows_count, shows_not_open, shows_already_open, shows_bad_number, shows_pending, Result, answered, closed_by_program, Last, unread, refused_at, command_word, number_words, code_words, status_words, shown_words, script_text, AreBytes, IsSeen, IsVariable, IsTold, IsShown, IsResult, IsLast}
 use Rattle.report_lines.specs.Says.{Says, tells, results, lasts, says_text, IsSays, ReadAs, ReadsLines}
 use Rattle.report_lines.specs.Words.{before_space, after_space, before_last, last_word, guessed_number, guessed_code, guessed_script_fault, guessed_func, guessed_command, unquoted}
 use Rattle.report_lines.specs.Guess.{guessed_message, guessed_seen, guessed_cleanup, guessed_wait, guessed_told, guessed_refusal, guessed_answer, by_keyword, guessed_result, guessed_shown, guessed_last, has_form, if_printed, told_or, read_numbered, read_line}
@@ -77,7 +77,7 @@ numbered_line number word words small one =
     ∙ ap (λ (x : List ℕ). read_numbered line number word x) (after_space-word word words one)
     ∙ ap (λ (b : Bool). if b then told_or line number (guessed_told word words) (guessed_result word words) else None) (lt-ltb number (2 ^ 32) small)
 
-told_one : (t : Told) → has_byte 32 (told_word t) ≡ false
+told_one : (t : ToldLine) → has_byte 32 (told_word t) ≡ false
 told_one (told_message style text) = refl
 told_one (told_visit v) = refl
 told_one (told_cleanup c) = refl
@@ -85,14 +85,14 @@ told_one (told_wait code asked wait) = refl
 told_one (told_missing name) = refl
 told_one (told_variable variable) = refl
 
-told_read : (number : ℕ) (t : Told) → number < 2 ^ 32 → IsTold t → ReadAs (read_line (line_of number (told_word t) (told_words t))) (tells number t)
+told_read : (number : ℕ) (t : ToldLine) → number < 2 ^ 32 → IsTold t → ReadAs (read_line (line_of number (told_word t) (told_words t))) (tells number t)
 told_read number t small is =
     let f : FoundTold number t = told_is number t is in
     let line : List ℕ = line_of number (told_word t) (told_words t) in
     record {
       found = tells number f.found;
       is = numbered_line number (told_word t) (told_words t) small (told_one t)
-          ∙ ap (λ (x : Option Told). told_or line number x (guessed_result (told_word t) (told_words t))) f.is
+          ∙ ap (λ (x : Option ToldLine). told_or line number x (guessed_result (told_word t) (told_words t))) f.is
           ∙ ap (λ (b : Bool). if b then if_printed line (tells number f.found) else None) f.formed ∙ printed line (tells number f.found) (f.text ∙ told_ends number t);
       same = ap (tells number) f.same;
     }
@@ -105,7 +105,7 @@ result_read number (answered command shown) small is =
     record {
       found = results number (answered command shown);
       is = numbered_line number (command_word command) words small k.one
-          ∙ ap (λ (x : Option Told). told_or line number x (guessed_result (command_word command) words)) (k.told words)
+          ∙ ap (λ (x : Option ToldLine). told_or line number x (guessed_result (command_word command) words)) (k.told words)
           ∙ ap (λ (x : Result). if_printed line (results number x)) (k.back words ∙ ap (answered command) (shown_is shown is))
           ∙ printed line (results number (answered command shown)) (result_ends number (answered command shown));
       same = refl;
@@ -188,7 +188,7 @@ spaced one two first second = has-append 10 one (32 ∷ two) first second
 code_line : (code : _) → lacks (name_of code ++ 32 ∷ decimal (number_of code))
 code_line code = spaced (name_of code) (decimal (number_of code)) (known_code code).line (small_code code).line
 
-word_line : (t : Told) → lacks (told_word t)
+word_line : (t : ToldLine) → lacks (told_word t)
 word_line (told_message style text) = refl
 word_line (told_visit v) = refl
 word_line (told_cleanup c) = refl
@@ -196,7 +196,7 @@ word_line (told_wait code asked wait) = refl
 word_line (told_missing name) = refl
 word_line (told_variable variable) = refl
 
-told_line : (t : Told) → IsTold t → lacks (told_words t)
+told_line : (t : ToldLine) → IsTold t → lacks (told_words t)
 told_line (told_message style text) is = spaced (decimal (style_number style)) (quoted_text text) (small_style style).line (quoted_line text)
 told_line (told_visit v) is = spaced (number_words v.place) (quoted_text v.name ++ 32 ∷ (name_of v.answer ++ 32 ∷ decimal (number_of v.answer))) (numbered v.place is.place).line
     (spaced (quoted_text v.name) (name_of v.answer ++ 32 ∷ decimal (number_of v.answer)) (quoted_line v.name) (code_line v.answer))
@@ -285,7 +285,7 @@ variable_is text all has = let p : Parts text = parts text has in record { name 
 unquoted_all : (text : List ℕ) → AreBytes (unquoted text)
 unquoted_all text = (unquoted_bytes text).0
 
-some_same : (x t : Told) → Some x ≡ Some t → x ≡ t
+some_same : (x t : ToldLine) → Some x ≡ Some t → x ≡ t
 some_same x t is = cc
 
 cleanup_range : (words : List ℕ) → IsTold (told_cleanup (guessed_cleanup words))
@@ -294,7 +294,7 @@ cleanup_range words =
     let all : AreBytes names = unquoted_all (after_space (after_space (after_space words))) in
     (long (before_space words), fold_short (before_space (after_space words)) 0 (lit< tt), long (before_space (after_space (after_space words))), before_bytes names all, after_bytes names all)
 
-told_by : (words : List ℕ) (a b c d e f : Bool) (t : Told) →
+told_by : (words : List ℕ) (a b c d e f : Bool) (t : ToldLine) →
     (if a then Some (guessed_message words) else if b then Some (told_visit (guessed_seen words)) else if c then Some (told_cleanup (guessed_cleanup words)) else if d then Some (guessed_wait words) else if e then Some (told_missing (unquoted (after_space words))) else if f then Some (told_variable (unquoted words)) else None) ≡ Some t
     → has_form t ≡ true → IsTold t
 told_by words true b c d e f t is formed = subst IsTold (some_same (guessed_message words) t is) (unquoted_all (after_space words))
@@ -309,7 +309,7 @@ told_by words false false false false false true t is formed =
     subst IsTold same (variable_is (unquoted words) (unquoted_all words) (ap has_form same ∙ formed))
 told_by words false false false false false false t is formed = absurd (cc)
 
-told_range : (word words : List ℕ) (t : Told) → guessed_told word words ≡ Some t → has_form t ≡ true → IsTold t
+told_range : (word words : List ℕ) (t : ToldLine) → guessed_told word words ≡ Some t → has_form t ≡ true → IsTold t
 told_range word words t is formed =
     told_by words (bytes_eq word (codes "say")) (bytes_eq word (codes "line")) (bytes_eq word (codes "clean")) (bytes_eq word (codes "wait")) (bytes_eq word (codes "note")) (bytes_eq word (codes "env")) t is formed
 
@@ -350,11 +350,11 @@ sound_from line s found range is =
     let p : Printed line s found = printed_back line s found is in
     record { text = subst (λ (x : Says). says_text x ≡ line ++ 10 ∷ []) p.is p.text; range = subst IsSays p.is range }
 
-form_if : (line : List ℕ) (number : ℕ) (t : Told) (found : Says) (b : Bool) → number < 2 ^ 32 → (b ≡ true → IsTold t) → (if b then if_printed line (tells number t) else None) ≡ Some found → Sound line found
+form_if : (line : List ℕ) (number : ℕ) (t : ToldLine) (found : Says) (b : Bool) → number < 2 ^ 32 → (b ≡ true → IsTold t) → (if b then if_printed line (tells number t) else None) ≡ Some found → Sound line found
 form_if line number t found true small range is = sound_from line (tells number t) found (small, range refl) is
 form_if line number t found false small range is = absurd (cc)
 
-told_or_if : (line : List ℕ) (number : ℕ) (o : Option Told) (r : Result) (found : Says) → number < 2 ^ 32 → ((t : Told) → o ≡ Some t → has_form t ≡ true → IsTold t) → IsResult r → told_or line number o r ≡ Some found → Sound line found
+told_or_if : (line : List ℕ) (number : ℕ) (o : Option ToldLine) (r : Result) (found : Says) → number < 2 ^ 32 → ((t : ToldLine) → o ≡ Some t → has_form t ≡ true → IsTold t) → IsResult r → told_or line number o r ≡ Some found → Sound line found
 told_or_if line number (Some t) r found small told result is = form_if line number t found (has_form t) small (λ f. told t refl f) is
 told_or_if line number None r found small told result is = sound_from line (results number r) found (small, result) is
 

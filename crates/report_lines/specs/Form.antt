@@ -7,7 +7,7 @@ use Rattle.pam_base.specs.declared.call.CallName.TheVariants as names
 use Rattle.pam_base.specs.declared.fault.FaultKind.TheVariants.{OpenBracket}
 use Rattle.pam_base.specs.declared.fault.NoMemory.{NoMemory}
 use Rattle.service_load.specs.FirstFault.{fault_at}
-use Rattle.handler_chain.specs.declared.seen.Seen.{Seen}
+use Rattle.handler_chain.specs.declared.seen.RecordedLine.{RecordedLine}
 use Rattle.handler_chain.specs.Seen.{seen_of}
 use Rattle.report_lines.specs.Line as lines
 use Rattle.report_lines.specs.declared.form.ReportedAnswer.{ReportedAnswer}
@@ -45,7 +45,7 @@ abbrev pub result_of : ReportedOutcome → lines.Result
 result_of (outcomes.Answered command answer) = lines.answered (command_of command) (shown_of answer)
 result_of outcomes.Closed = lines.closed_by_program codes.Success
 
-abbrev pub told_of : Option Seen → lines.Told
+abbrev pub told_of : Option RecordedLine → lines.ToldLine
 told_of None = lines.told_missing []
 told_of (Some v) = lines.told_visit (seen_of v)
 

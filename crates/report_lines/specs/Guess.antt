@@ -7,20 +7,20 @@ use Rattle.std.specs.Str.{bytes_eq}
 use Rattle.pam_base.specs.Bytes.{has_byte}
 use Rattle.service_load.specs.declared.load_fault.LoadFault.{LoadFault}
 use Rattle.service_load.specs.FirstFault.{fault_at}
-use Rattle.handler_chain.specs.Retell.{Seen, seen_at}
-use Rattle.report_lines.specs.Line.{Cleanup, Told, told_message, told_visit, told_cleanup, told_wait, told_missing, told_variable, Shown, shows_code, shows_fault, shows_value, shows_count, shows_not_open, shows_already_open, shows_bad_number, shows_pending, Result, answered, closed_by_program, Last, unread, refused_at}
+use Rattle.handler_chain.specs.Retell.{RecordedLine, seen_at}
+use Rattle.report_lines.specs.Line.{Cleanup, ToldLine, told_message, told_visit, told_cleanup, told_wait, told_missing, told_variable, Shown, shows_code, shows_fault, shows_value, shows_count, shows_not_open, shows_already_open, shows_bad_number, shows_pending, Result, answered, closed_by_program, Last, unread, refused_at}
 use Rattle.report_lines.specs.Says.{Says, tells, results, lasts, says_text}
 use Rattle.report_lines.specs.Words.{before_space, after_space, last_word, before_last, guessed_number, guessed_status, unquoted, guessed_code, guessed_style, guessed_fault, guessed_script_fault, guessed_func, guessed_command}
 
 -- ---- what is reported before a result, after H and the line's word
 
 -- STYLE TEXT
-abbrev pub guessed_message : List ℕ → Told
+abbrev pub guessed_message : List ℕ → ToldLine
 guessed_message words = told_message (guessed_style (guessed_number (before_space words)))
     (unquoted (after_space words))
 
 -- RULE MODULE NAME NUMBER; the module's name may hold spaces, so what follows it is cut off from the end
-abbrev pub guessed_seen : List ℕ → Seen
+abbrev pub guessed_seen : List ℕ → RecordedLine
 guessed_seen words =
     let named = before_last (after_space words) in
     seen_at (guessed_number (before_space words)) (unquoted (before_last named))
@@ -41,14 +41,14 @@ guessed_cleanup words =
     }
 
 -- NAME NUMBER ASKED WAIT
-abbrev pub guessed_wait : List ℕ → Told
+abbrev pub guessed_wait : List ℕ → ToldLine
 guessed_wait words =
     let past_code = after_space (after_space words) in
     told_wait (guessed_code (before_space words)) (guessed_number (before_space past_code))
     (guessed_number (after_space past_code))
 
 -- by the line's word; None if it is the word of a result
-abbrev pub guessed_told : List ℕ → List ℕ → Option Told
+abbrev pub guessed_told : List ℕ → List ℕ → Option ToldLine
 guessed_told word words =
     if bytes_eq word (codes "say") then Some (guessed_message words)
     else if bytes_eq word (codes "line") then Some (told_visit (guessed_seen words))
@@ -117,11 +117,11 @@ unfoldable pub if_printed : List ℕ → Says → Option Says
 if_printed line s = if bytes_eq (says_text s) (line ++ 10 ∷ []) then Some s else None
 
 -- a variable has a `=`; everything else is in its range because of how it is guessed
-abbrev pub has_form : Told → Bool
+abbrev pub has_form : ToldLine → Bool
 has_form (told_variable text) = has_byte 61 text
 has_form t = true
 
-abbrev pub told_or : List ℕ → ℕ → Option Told → Result → Option Says
+abbrev pub told_or : List ℕ → ℕ → Option ToldLine → Result → Option Says
 told_or line number (Some t) result = if has_form t then if_printed line (tells number t) else None
 told_or line number None result = if_printed line (results number result)
 

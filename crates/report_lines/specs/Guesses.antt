@@ -14,7 +14,7 @@ use Rattle.report_lines.specs.declared.shown.ShownGuess.TheVariants as shown
 use Rattle.report_lines.specs.declared.outcome.ResultGuess.{ResultGuess}
 use Rattle.report_lines.specs.declared.outcome.ResultGuess.TheVariants as results
 
-abbrev pub told_in : ToldGuess → lines.Told
+abbrev pub told_in : ToldGuess → lines.ToldLine
 told_in (told.Message style text) = lines.told_message style text
 told_in (told.Visit v) = lines.told_visit (seen_of v)
 told_in (told.Cleanup id status note names) =
@@ -45,7 +45,7 @@ result_in (results.Answered command guess) =
 result_in (results.Closed code) = lines.closed_by_program code
 
 -- unless an allocation failed, this is what the line may say
-abbrev pub IsToldGuess : Result (Option ToldGuess) NoMemory → Option lines.Told → Type 0
+abbrev pub IsToldGuess : Result (Option ToldGuess) NoMemory → Option lines.ToldLine → Type 0
 IsToldGuess result t = IfOk result (λ guess. option_map told_in guess ≡ t)
 
 abbrev pub IsShownGuess : Result ShownGuess NoMemory → lines.Shown → Type 0

@@ -16,7 +16,7 @@ use Rattle.pam_base.specs.Quote.{quoted_text}
 use Rattle.pam_base.specs.Style.{style_number}
 use Rattle.script_lang.specs.Command.{word_of_func}
 use Rattle.service_load.specs.declared.load_fault.LoadFault.{LoadFault}
-use Rattle.handler_chain.specs.Retell.{Seen}
+use Rattle.handler_chain.specs.Retell.{RecordedLine}
 
 -- ---- what a step reports before its result
 
@@ -28,13 +28,13 @@ pub record Cleanup : Type 0 where
   pub owner : List ℕ
   pub datum : List ℕ
 
-pub data Told : Type 0 where
-  told_message : Style → List ℕ → Told
-  told_visit : Seen → Told
-  told_cleanup : Cleanup → Told
-  told_wait : Code → ℕ → ℕ → Told
-  told_missing : List ℕ → Told
-  told_variable : List ℕ → Told
+pub data ToldLine : Type 0 where
+  told_message : Style → List ℕ → ToldLine
+  told_visit : RecordedLine → ToldLine
+  told_cleanup : Cleanup → ToldLine
+  told_wait : Code → ℕ → ℕ → ToldLine
+  told_missing : List ℕ → ToldLine
+  told_variable : List ℕ → ToldLine
 
 -- ---- the result
 
@@ -88,10 +88,10 @@ pub data Result : Type 0 where
 
 pub record Block : Type 0 where
   pub number : ℕ
-  pub told : List Told
+  pub told : List ToldLine
   pub result : Result
 
-abbrev pub block_of : ℕ → List Told → Result → Block
+abbrev pub block_of : ℕ → List ToldLine → Result → Block
 block_of number told result = record { number = number; told = told; result = result }
 
 -- the last line of a run that couldn't go on
@@ -121,7 +121,7 @@ message_text handle style text = decimal handle
     ++ (codes " " ++ (quoted_text text ++ codes "\n"))))
 
 -- line RULE MODULE NAME NUMBER
-abbrev pub visit_text : ℕ → Seen → List ℕ
+abbrev pub visit_text : ℕ → RecordedLine → List ℕ
 visit_text handle v = decimal handle
     ++ (codes " line " ++ (number_words v.place
     ++ (codes " " ++ (quoted_text v.name ++ (codes " " ++ (code_words v.answer ++ codes "\n"))))))
@@ -153,7 +153,7 @@ abbrev pub variable_text : ℕ → List ℕ → List ℕ
 variable_text handle variable = decimal handle
     ++ (codes " env " ++ (quoted_text variable ++ codes "\n"))
 
-abbrev pub told_text : ℕ → Told → List ℕ
+abbrev pub told_text : ℕ → ToldLine → List ℕ
 told_text handle (told_message style text) = message_text handle style text
 told_text handle (told_visit v) = visit_text handle v
 told_text handle (told_cleanup c) = cleanup_text handle c
@@ -161,7 +161,7 @@ told_text handle (told_wait code asked wait) = wait_text handle code asked wait
 told_text handle (told_missing name) = missing_text handle name
 told_text handle (told_variable variable) = variable_text handle variable
 
-abbrev pub all_told_text : ℕ → List Told → List ℕ
+abbrev pub all_told_text : ℕ → List ToldLine → List ℕ
 all_told_text handle told = flat_map (told_text handle) told
 
 -- set TEXT, or unset
@@ -240,7 +240,7 @@ abbrev pub IsLong : ℕ → Type 0
 IsLong n = n < 2 ^ 64
 
 -- a line that was run
-pub record IsSeen (v : Seen) : Type 0 where
+pub record IsSeen (v : RecordedLine) : Type 0 where
   pub place : IsLong v.place
   pub name : AreBytes v.name
 
@@ -251,7 +251,7 @@ pub record IsVariable (text : List ℕ) : Type 0 where
   pub is : text ≡ name ++ 61 ∷ value
   pub bytes : AreBytes text
 
-abbrev pub IsTold : Told → Type 0
+abbrev pub IsTold : ToldLine → Type 0
 IsTold (told_message style text) = AreBytes text
 IsTold (told_visit v) = IsSeen v
 IsTold (told_cleanup c) = IsLong c.id × (c.status < 2 ^ 32) × IsLong c.note × AreBytes c.owner

@@ -4,10 +4,10 @@ use Rattle.pam_base.specs.declared.code.Code.TheVariants as codes
 use Rattle.pam_base.specs.declared.fault.FaultKind.TheVariants.{OpenBracket}
 use Rattle.pam_base.specs.Bytes.{has_byte}
 use Rattle.service_load.specs.FirstFault.{fault_at}
-use Rattle.report_lines.specs.Line.{Told, told_visit, told_missing, Shown, shows_fault, shows_value, shows_count, Result, answered, closed_by_program, Last, unread, told_text, result_text, last_text, IsTold, IsResult, IsLast}
+use Rattle.report_lines.specs.Line.{ToldLine, told_visit, told_missing, Shown, shows_fault, shows_value, shows_count, Result, answered, closed_by_program, Last, unread, told_text, result_text, last_text, IsTold, IsResult, IsLast}
 
 pub data Says : Type 0 where
-  tells : ℕ → Told → Says
+  tells : ℕ → ToldLine → Says
   results : ℕ → Result → Says
   lasts : Last → Says
 
@@ -25,7 +25,7 @@ IsSays (lasts last) = IsLast (Some last)
 
 -- ---- the part of a line that counts: all except contents whose format alone is checked
 
-abbrev pub bare_told : Told → Told
+abbrev pub bare_told : ToldLine → ToldLine
 bare_told (told_visit v) = told_visit v
 bare_told t = told_missing []
 

@@ -1,4 +1,4 @@
-use handler_chain::Seen;
+use handler_chain::RecordedLine;
 use pam_base::{CallName, Code, Func};
 
 /// The result of a command. What is only checked for its format is left out: why a start was
@@ -29,7 +29,7 @@ pub enum Form {
     /// run, or another.
     Told {
         number: u32,
-        visit: Option<Seen>,
+        visit: Option<RecordedLine>,
     },
     Result {
         number: u32,

@@ -14,7 +14,7 @@ use crate::told::{
     write_cleanup, write_missing, write_said, write_variable, write_visit, write_wait,
 };
 use crate::words::{after_space, before_last, before_space, last_word, number_of, status_of};
-use handler_chain::Seen;
+use handler_chain::RecordedLine;
 use pam_base::{Code, NoMemory, Style, Text, first_place};
 use std::alloc::Global;
 
@@ -25,7 +25,7 @@ pub enum ToldGuess {
         style: Style,
         text: Text,
     },
-    Visit(Seen),
+    Visit(RecordedLine),
     /// The names of the module and of its data are one text, with a space between them.
     Cleanup {
         id: u64,
@@ -78,7 +78,7 @@ fn guess_visit(alloc: Global, words: &[u8]) -> Result<Option<ToldGuess>, NoMemor
     ensures { IsToldGuess result (Some (told_visit (guessed_seen words.now))) }
 {
     let named = before_last(after_space(words));
-    Ok(Some(ToldGuess::Visit(Seen {
+    Ok(Some(ToldGuess::Visit(RecordedLine {
         place: number_of(before_space(words)),
         name: unquoted(alloc, before_last(named))?,
         answer: code_in(last_word(named)),
@@ -187,7 +187,7 @@ impl ToldGuess {
     }
 
     // The line of a stack that it says was run.
-    fn into_visit(self) -> Option<Seen>
+    fn into_visit(self) -> Option<RecordedLine>
         ensures { told_of result ≡ bare_told (told_in self) }
     {
         match self {

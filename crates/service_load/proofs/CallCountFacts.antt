@@ -5,8 +5,8 @@ use Rattle.pam_outside.specs.Counts.{fails_next}
 use Rattle.service_load.specs.declared.entry.ConfigEntry.{ConfigEntry}
 use Rattle.service_load.specs.declared.rule_file.RuleFile.{RuleFile}
 use Rattle.service_load.specs.Entry.{entry_of}
-use Rattle.service_load.specs.Files.{Held, absent, faulty, holds, held, is_in_directory}
-use Rattle.service_load.specs.FirstFault.{Counts, Stop, asked, absent_file, held_file, opened, past_end, checked_rule, going_on, look}
+use Rattle.service_load.specs.Files.{FileContent, absent, faulty, holds, held, is_in_directory}
+use Rattle.service_load.specs.FirstFault.{Counts, Stop, asked, absent_file, held_file, opened, take_one, checked_rule, going_on, look}
 use Rattle.service_load.specs.Order.{Item, begin, opening, checked, made, Opener, as_service, as_other, as_last, by_rule, openings_in}
 
 passed : (a b : Counts) → ◌≡◌ {A = Result Counts Stop} (Ok a) (Ok b) → a ≡ b
@@ -23,7 +23,7 @@ absent_passes counts c as_other e = sym (passed counts c e)
 absent_passes counts c (as_last name) e = absurd cc
 absent_passes counts c (by_rule name line) e = absurd cc
 
-held_passes : (counts c : Counts) (file : RuleFile) (opener : Opener) (h : Held) → held_file counts file opener h ≡ Ok c → c ≡ counts
+held_passes : (counts c : Counts) (file : RuleFile) (opener : Opener) (h : FileContent) → held_file counts file opener h ≡ Ok c → c ≡ counts
 held_passes counts c file opener absent e = absent_passes counts c opener e
 held_passes counts c file opener (faulty f) e = absurd cc
 held_passes counts c file opener (holds rules) e = sym (passed counts c e)
@@ -39,7 +39,7 @@ module _ (texts : List ℕ → Option (List ℕ)) (fails : List ℕ) where
   checked_passes counts c name line (Err kind) e = absurd cc
 
   -- what one item counts
-  one_counts : (counts c : Counts) (i : Item) → counts.calls ≤ 2 ^ 64 - 1 → past_end texts fails counts i ≡ Ok c
+  one_counts : (counts c : Counts) (i : Item) → counts.calls ≤ 2 ^ 64 - 1 → take_one texts fails counts i ≡ Ok c
       → (c.calls ≤ 2 ^ 64 - 1) × (c.openings ≡ counts.openings + openings_in (i ∷ [])) × (c.calls ≡ min (counts.calls + openings_in (i ∷ [])) (2 ^ 64 - 1))
   one_counts counts c begin small e = let same = passed _ c e in rw (← same) (small, omega arith, omega (arith, small))
   one_counts counts c (opening file level opener) small e = rw (opened_passes counts c file level opener e) (omega arith, refl, omega arith)
@@ -63,7 +63,7 @@ module _ (texts : List ℕ → Option (List ℕ)) (fails : List ℕ) where
   unfolding look
   look_counts before after [] small e = let same = passed before after e in rw (← same) (omega arith, omega (arith, small))
   look_counts before after (i ∷ is) small e =
-      let step = stepped (past_end texts fails before i) (λ c. look texts fails c is) after e in
+      let step = stepped (take_one texts fails before i) (λ c. look texts fails c is) after e in
       let one = one_counts before step.0 i small step.1 in
       let rest = look_counts step.0 after is one.0 step.2 in
       (omega (arith, one.1, rest.0, openings_on i is), omega (arith, one.2, rest.1, openings_on i is))

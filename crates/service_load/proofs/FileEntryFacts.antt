@@ -17,7 +17,7 @@ use Rattle.service_load.specs.declared.loader.Loader.{Loader}
 use Rattle.service_load.specs.declared.rule_file.RuleFile.{RuleFile}
 use Rattle.service_load.specs.declared.rule_type.RuleType.{RuleType}
 use Rattle.service_load.specs.Files.{plain_file}
-use Rattle.service_load.specs.FirstFault.{Counts, Stop, fault_at, past_end, going_on, look}
+use Rattle.service_load.specs.FirstFault.{Counts, Stop, fault_at, take_one, going_on, look}
 use Rattle.service_load.specs.Loading.{texts_of, counts_of, Looks, OnlyCalls, AddsLine, Opens, Brings, Grows, load_state, entry_items_at, entry_nodes_at, items_at, nodes_at, entries_items, entries_nodes, TakesContent, brought_in}
 use Rattle.service_load.specs.Order.{Item, Opener, by_rule, made, content_items}
 use Rattle.service_load.specs.Tree.{content_nodes}
@@ -114,8 +114,8 @@ module _ (texts : List ℕ → Option (List ℕ)) (fails : List ℕ) where
   unfolding look
   look-append counts [] ys = refl
   look-append counts (x ∷ xs) ys =
-      on-same (past_end texts fails counts x) (λ c. look texts fails c (xs ++ ys)) (λ c. going_on (look texts fails c xs) (λ d. look texts fails d ys)) (λ c. look-append c xs ys)
-      ∙ sym (on-on (past_end texts fails counts x) (λ c. look texts fails c xs) (λ c. look texts fails c ys))
+      on-same (take_one texts fails counts x) (λ c. look texts fails c (xs ++ ys)) (λ c. going_on (look texts fails c xs) (λ d. look texts fails d ys)) (λ c. look-append c xs ys)
+      ∙ sym (on-on (take_one texts fails counts x) (λ c. look texts fails c xs) (λ c. look texts fails c ys))
 
   pub look_past : (counts now : Counts) (xs ys : List Item) → look texts fails counts xs ≡ Ok now → look texts fails counts (xs ++ ys) ≡ look texts fails now ys
   look_past counts now xs ys past = look-append counts xs ys ∙ rw past refl

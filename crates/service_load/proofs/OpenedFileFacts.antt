@@ -22,7 +22,7 @@ use Rattle.service_load.specs.declared.rule_type.RuleType.{RuleType}
 use Rattle.service_load.specs.Answers.{Answers, IsRefusal, result_map}
 use Rattle.service_load.specs.Checking.{with_entry, checked_entries, entries_held, entries_of_type}
 use Rattle.service_load.specs.Entry.{entry_of}
-use Rattle.service_load.specs.Files.{plain_file, Held, absent, faulty, holds, held, held_text, rules_held, is_in_directory, entries_of, all_fine}
+use Rattle.service_load.specs.Files.{plain_file, FileContent, absent, faulty, holds, held, held_text, rules_held, is_in_directory, entries_of, all_fine}
 use Rattle.service_load.specs.FirstFault.{Counts, Stop, fault_at, opening_fault, asked, absent_file, checked_rule, held_file, going_on, look}
 use Rattle.service_load.specs.Loading.{counts_of, opener_of, Opens, IfCalled, opened_answer, items_at, nodes_at, entries_items, entries_nodes}
 use Rattle.service_load.specs.Order.{Item, opening, checked, Opener, file_items, items}
@@ -177,7 +177,7 @@ module _ (texts : List ℕ → Option (List ℕ)) (fails : List ℕ) (file : Rul
       look_failing low few failing = rw (items_are low) (asks _ low few ∙ rw failing refl)
 
       -- it isn't, and the file holds this
-      look_asked : (h : Held) → level ≤ 16 → was.openings < 256 → fails_next was.calls fails ≡ false → held texts file ≡ h
+      look_asked : (h : FileContent) → level ≤ 16 → was.openings < 256 → fails_next was.calls fails ≡ false → held texts file ≡ h
           → look texts fails was (items_at texts level type opener file) ≡ going_on (held_file (asked was) file opener h) (λ c. look texts fails c (file_items (items_at texts (level + 1) type) type file (rules_held h)))
       look_asked h low few fine in_it = rw (items_are low, in_it) (asks (file_items (items_at texts (level + 1) type) type file (rules_held h)) low few ∙ rw (fine, in_it) refl)
 
@@ -202,7 +202,7 @@ module _ (texts : List ℕ → Option (List ℕ)) (fails : List ℕ) (file : Rul
       as_lex (Ok y) x e = let same : y ≡ x = cc in ap Ok same
       as_lex (Err f) x e = absurd cc
 
-      some_by : (b : Bool) (h : Held) (es : List ConfigEntry) → level ≤ 16 → was.openings < 256 → is ≡ asked was → fails_next was.calls fails ≡ b
+      some_by : (b : Bool) (h : FileContent) (es : List ConfigEntry) → level ≤ 16 → was.openings < 256 → is ≡ asked was → fails_next was.calls fails ≡ b
           → held texts file ≡ h → opened_answer b file.name (entries_held (is_in_directory file) h) ≡ Ok (Some es)
           → Opens texts (Ok (Some es)) fails was is level type opener file
       some_by true h es low few same failing in_it e = absurd cc
@@ -225,7 +225,7 @@ module _ (texts : List ℕ → Option (List ℕ)) (fails : List ℕ) (file : Rul
       none_map (Ok es) e = cc
       none_map (Err f) e = cc
 
-      none_by : (b : Bool) (h : Held) → fails_next was.calls fails ≡ b → held texts file ≡ h
+      none_by : (b : Bool) (h : FileContent) → fails_next was.calls fails ≡ b → held texts file ≡ h
           → opened_answer b file.name (entries_held (is_in_directory file) h) ≡ Ok None
           → (fails_next was.calls fails ≡ false) × (held texts file ≡ absent)
       none_by true h failing in_it e = absurd cc
@@ -265,7 +265,7 @@ module _ (texts : List ℕ → Option (List ℕ)) (fails : List ℕ) (file : Rul
       lex_err (Ok y) f e = absurd cc
       lex_err (Err g) f e = (g, refl, sym cc)
 
-      err_held : (h : Held) (g : LexFault) → level ≤ 16 → was.openings < 256 → fails_next was.calls fails ≡ false → held texts file ≡ h
+      err_held : (h : FileContent) (g : LexFault) → level ≤ 16 → was.openings < 256 → fails_next was.calls fails ≡ false → held texts file ≡ h
           → entries_held (is_in_directory file) h ≡ Err g
           → look texts fails was (items_at texts level type opener file) ≡ Err (record { fault = fault_at file.name g.line g.kind; calls = (asked was).calls })
       err_held absent g low few fine in_it e = absurd cc

@@ -9,7 +9,7 @@ use Rattle.service_load.specs.declared.entry.ConfigEntry.{ConfigEntry}
 use Rattle.service_load.specs.declared.rule_type.RuleType.{RuleType}
 use Rattle.service_load.specs.Answers.{result_map}
 use Rattle.service_load.specs.Entry.{entry_of}
-use Rattle.service_load.specs.Files.{Held, absent, faulty, holds}
+use Rattle.service_load.specs.Files.{FileContent, absent, faulty, holds}
 use Rattle.service_load.specs.Tree.{serves}
 
 -- an entry before those of the rules after it, or the fault of the rule in this line
@@ -25,7 +25,7 @@ checked_entries in_directory (r ∷ rs) =
     with_entry r.line (entry_of in_directory r) (checked_entries in_directory rs)
 
 -- what the rules of a file say, if it is there, or its first fault
-abbrev pub entries_held : Bool → Held → Result (Option (List ConfigEntry)) LexFault
+abbrev pub entries_held : Bool → FileContent → Result (Option (List ConfigEntry)) LexFault
 entries_held in_directory absent = Ok None
 entries_held in_directory (faulty fault) = Err fault
 entries_held in_directory (holds rules) = result_map Some (checked_entries in_directory rules)

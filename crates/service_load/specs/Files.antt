@@ -45,43 +45,43 @@ own_rules service rules = flat_map (own_rule service) rules
 
 -- the content of a file: it doesn't exist, its text has a fault, or it has these rules (this
 -- project's own)
-pub data Held : Type 0 where
-  absent : Held
-  faulty : LexFault → Held
-  holds : List RawRule → Held
+pub data FileContent : Type 0 where
+  absent : FileContent
+  faulty : LexFault → FileContent
+  holds : List RawRule → FileContent
 
 -- a service doesn't exist if pam.conf has no rule of it (this project's own)
-abbrev pub held_in_conf : List RawRule → Held
+abbrev pub held_in_conf : List RawRule → FileContent
 held_in_conf [] = absent
 held_in_conf (r ∷ rs) = holds (r ∷ rs)
 
 -- the rules asked for, in a file of the directory or in pam.conf
-abbrev pub held_for : Option (List ℕ) → List RawRule → Held
+abbrev pub held_for : Option (List ℕ) → List RawRule → FileContent
 held_for None rules = holds (own_rules None rules)
 held_for (Some service) rules = held_in_conf (own_rules (Some service) rules)
 
 -- by the result for the text
-abbrev pub held_answer : Option (List ℕ) → Result (List RawRule) LexFault → Held
+abbrev pub held_answer : Option (List ℕ) → Result (List RawRule) LexFault → FileContent
 held_answer service (Ok rules) = held_for service rules
 held_answer service (Err fault) = faulty fault
 
 -- by the text, if the file is there
-abbrev pub held_text : Option (List ℕ) → Option (List ℕ) → Held
+abbrev pub held_text : Option (List ℕ) → Option (List ℕ) → FileContent
 held_text service None = absent
 held_text service (Some text) = held_answer service (answer_to text)
 
 module _ (texts : List ℕ → Option (List ℕ)) where
   -- the content of this file
-  abbrev pub held : RuleFile → Held
+  abbrev pub held : RuleFile → FileContent
   held file = held_text file.service (texts file.name)
 
 -- the rules of the content of a file
-abbrev pub rules_held : Held → List RawRule
+abbrev pub rules_held : FileContent → List RawRule
 rules_held (holds rules) = rules
 rules_held other = []
 
 -- whether there is no content
-abbrev pub is_absent : Held → Bool
+abbrev pub is_absent : FileContent → Bool
 is_absent absent = true
 is_absent other = false
 

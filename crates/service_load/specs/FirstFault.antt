@@ -8,7 +8,7 @@ use Rattle.service_load.specs.declared.entry.ConfigEntry.{ConfigEntry}
 use Rattle.service_load.specs.declared.load_fault.LoadFault.{LoadFault}
 use Rattle.service_load.specs.declared.rule_file.RuleFile.{RuleFile}
 use Rattle.service_load.specs.Entry.{entry_of}
-use Rattle.service_load.specs.Files.{Held, absent, faulty, holds, held, is_in_directory}
+use Rattle.service_load.specs.Files.{FileContent, absent, faulty, holds, held, is_in_directory}
 use Rattle.service_load.specs.Order.{Opener, as_service, as_other, as_last, by_rule, Item, begin, opening, checked, made}
 
 abbrev pub fault_at : List ℕ → ℕ → FaultKind → LoadFault
@@ -45,7 +45,7 @@ absent_file counts (as_last service) = stop counts service 0 NoService
 absent_file counts (by_rule name line) = stop counts name line IncludeAbsent
 
 -- the result of reading the file, and the faults of the text
-abbrev pub held_file : Counts → RuleFile → Opener → Held → Result Counts Stop
+abbrev pub held_file : Counts → RuleFile → Opener → FileContent → Result Counts Stop
 held_file counts file opener absent = absent_file counts opener
 held_file counts file opener (faulty fault) = stop counts file.name fault.line fault.kind
 held_file counts file opener (holds rules) = Ok counts
@@ -78,15 +78,15 @@ module _ (texts : List ℕ → Option (List ℕ)) (fails : List ℕ) where
       else held_file (asked counts) file opener (held texts file)
 
   -- the counts after an item, or its fault
-  abbrev pub past_end : Counts → Item → Result Counts Stop
-  past_end counts begin = Ok (record counts { lines = 0 })
-  past_end counts (opening file level opener) = opened counts file level opener
-  past_end counts (checked file rule) =
+  abbrev pub take_one : Counts → Item → Result Counts Stop
+  take_one counts begin = Ok (record counts { lines = 0 })
+  take_one counts (opening file level opener) = opened counts file level opener
+  take_one counts (checked file rule) =
       checked_rule counts file.name rule.line (entry_of (is_in_directory file) rule)
-  past_end counts (made name line) = if nat_le 4096 counts.lines
+  take_one counts (made name line) = if nat_le 4096 counts.lines
       then stop counts name line TooManyLines else Ok (record counts { lines = counts.lines + 1 })
 
   -- the counts after some items, or the first fault among them
   unfoldable pub look : Counts → List Item → Result Counts Stop
   look counts [] = Ok counts
-  look counts (i ∷ is) = going_on (past_end counts i) (λ c. look c is)
+  look counts (i ∷ is) = going_on (take_one counts i) (λ c. look c is)

@@ -10,8 +10,8 @@ use Rattle.control_words.specs.declared.nodes.Rule.{Rule}
 use Rattle.control_words.specs.Stack.{Stack, none, line, sub, joined, count, depth, lines_in}
 use Rattle.service_load.specs.declared.rule_type.RuleType.{RuleType}
 use Rattle.service_load.specs.Entry.{entry_of}
-use Rattle.service_load.specs.Files.{plain_file, Held, absent, faulty, holds, held, rules_held, all_fine, is_in_directory}
-use Rattle.service_load.specs.FirstFault.{Counts, Stop, going_on, asked, absent_file, held_file, checked_rule, past_end, look}
+use Rattle.service_load.specs.Files.{plain_file, FileContent, absent, faulty, holds, held, rules_held, all_fine, is_in_directory}
+use Rattle.service_load.specs.FirstFault.{Counts, Stop, going_on, asked, absent_file, held_file, checked_rule, take_one, look}
 use Rattle.service_load.specs.Order.{Opener, as_service, as_other, as_last, by_rule, Item, begin, opening, checked, made, items, other_opener, tree_items}
 use Rattle.service_load.specs.Tree.{serves, nodes, tree_of}
 use Rattle.service_print.specs.Printed.{subs_in}
@@ -44,10 +44,10 @@ unfolding look
 nothing_met texts fails before after is = cc
 
 one_met : (texts : List ℕ → Option (List ℕ)) (fails : List ℕ) (before after : Counts) (item : Item) → look texts fails before (item ∷ []) ≡ Ok after
-    → past_end texts fails before item ≡ Ok after
+    → take_one texts fails before item ≡ Ok after
 unfolding look
 one_met texts fails before after item is =
-    let parts = through (past_end texts fails before item) (λ c. Ok c) after is in
+    let parts = through (take_one texts fails before item) (λ c. Ok c) after is in
     let same : parts.0 ≡ after = let e = parts.2 in cc in
     parts.1 ∙ ap Ok same
 
@@ -109,7 +109,7 @@ pub record Made (before after : Counts) : Type 0 where
   pub openings : after.openings ≡ before.openings
 
 line_made : (texts : List ℕ → Option (List ℕ)) (fails : List ℕ) (before after : Counts) (name : List ℕ) (number : ℕ)
-    → past_end texts fails before (made name number) ≡ Ok after → Made before after
+    → take_one texts fails before (made name number) ≡ Ok after → Made before after
 line_made texts fails before after name number is =
     let parts = past (nat_le 4096 before.lines) _ _ after is in
     let same : record before { lines = before.lines + 1 } ≡ after = let e = parts.1 in cc in
@@ -130,13 +130,13 @@ absent_passed counts after as_other is = cc
 absent_passed counts after (as_last service) is = absurd cc
 absent_passed counts after (by_rule name number) is = absurd cc
 
-held_passed : (counts after : Counts) (file : _) (opener : Opener) (found : Held) → held_file counts file opener found ≡ Ok after → counts ≡ after
+held_passed : (counts after : Counts) (file : _) (opener : Opener) (found : FileContent) → held_file counts file opener found ≡ Ok after → counts ≡ after
 held_passed counts after file opener absent is = absent_passed counts after opener is
 held_passed counts after file opener (faulty fault) is = absurd cc
 held_passed counts after file opener (holds rules) is = cc
 
 file_opened : (texts : List ℕ → Option (List ℕ)) (fails : List ℕ) (before after : Counts) (file : _) (level : ℕ) (opener : Opener)
-    → past_end texts fails before (opening file level opener) ≡ Ok after → Opened before after
+    → take_one texts fails before (opening file level opener) ≡ Ok after → Opened before after
 file_opened texts fails before after file level opener is =
     let low = past (nat_lt 16 level) _ _ after is in
     let few = past (nat_le 256 before.openings) _ _ after low.1 in

@@ -11,7 +11,7 @@ use Rattle.service_load.specs.declared.rule_type.RuleType.{RuleType}
 use Rattle.service_load.specs.declared.rule_type.RuleType.TheVariants.{Auth}
 use Rattle.service_load.specs.Entry.{entry_of}
 use Rattle.service_load.specs.Files.{plain_file, holds, held, all_fine}
-use Rattle.service_load.specs.FirstFault.{Counts, Stop, going_on, checked_rule, past_end, look}
+use Rattle.service_load.specs.FirstFault.{Counts, Stop, going_on, checked_rule, take_one, look}
 use Rattle.service_load.specs.Order.{Opener, by_rule, Item, opening, checked, made, items}
 use Rattle.service_load.specs.RuleType.{same_type}
 use Rattle.service_load.specs.Tree.{nodes}
@@ -70,7 +70,7 @@ pub look-append : (texts : List ℕ → Option (List ℕ)) (fails : List ℕ) (b
 unfolding look
 look-append texts fails before [] more = refl
 look-append texts fails before (item ∷ items) more =
-    going_through (past_end texts fails before item) (λ c. look texts fails c items) (λ c. look texts fails c (items ++ more)) (λ c. look texts fails c more) (λ c. look-append texts fails c items more)
+    going_through (take_one texts fails before item) (λ c. look texts fails c items) (λ c. look texts fails c (items ++ more)) (λ c. look texts fails c more) (λ c. look-append texts fails c items more)
 
 pub pass-append : (texts : List ℕ → Option (List ℕ)) (before : Counts) (front more : List Item) (openings lines openings' lines' : ℕ) (one : Passes texts before front openings lines)
     → Passes texts (counts_with one.calls openings lines) more openings' lines' → Passes texts before (front ++ more) openings' lines'

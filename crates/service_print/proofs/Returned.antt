@@ -7,7 +7,7 @@ use Rattle.std.proofs.lemmas.Bool.{cases_Bool, and_right, lt-leb, eqb-true}
 use Rattle.pam_base.specs.Counts.{next_count}
 use Rattle.control_words.specs.Stack.{Stack, none, line, sub, count, depth, lines_in}
 use Rattle.service_load.specs.declared.rule_type.RuleType.{RuleType}
-use Rattle.service_load.specs.Files.{plain_file, Held, is_absent}
+use Rattle.service_load.specs.Files.{plain_file, FileContent, is_absent}
 use Rattle.service_load.specs.FirstFault.{Counts, look}
 use Rattle.service_load.specs.Order.{Opener, as_service, as_other, as_last, Item, begin, items, other_opener, tree_items, order}
 use Rattle.service_load.specs.RuleType.{all_types}
@@ -123,7 +123,7 @@ module _ (texts : List ℕ → Option (List ℕ)) (service : List ℕ) (stack : 
   pass_begin calls openings lines = record { calls = calls; looks = refl }
 
   own_present : Stands texts service stack → other_opener texts (plain_file (in_the_directory service)) ≡ as_other
-  own_present stands = ap (λ (h : Held). cond (is_absent h) (as_last (in_the_directory service)) as_other) stands.file.held_is
+  own_present stands = ap (λ (h : FileContent). cond (is_absent h) (as_last (in_the_directory service)) as_other) stands.file.held_is
 
   abbrev own_file_items : RuleType → List Item
   own_file_items type = items texts 17 type as_service (plain_file (in_the_directory service))

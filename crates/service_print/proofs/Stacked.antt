@@ -8,7 +8,7 @@ use Rattle.conf_lex.specs.Answer.{answer_to}
 use Rattle.control_words.specs.Stack.{Stack, none, line, sub, joined}
 use Rattle.service_load.specs.declared.rule_type.RuleType.{RuleType}
 use Rattle.service_load.specs.Entry.{entry_of}
-use Rattle.service_load.specs.Files.{plain_file, Held, holds, held, own_rules, rules_held, entries_of, all_fine}
+use Rattle.service_load.specs.Files.{plain_file, FileContent, holds, held, own_rules, rules_held, entries_of, all_fine}
 use Rattle.service_load.specs.Order.{Opener, Item, opening, checked, file_items, items}
 use Rattle.service_load.specs.Tree.{nodes_of, nodes}
 use Rattle.service_print.specs.Tokens.{text_of}
@@ -147,11 +147,11 @@ pub file_nodes : (texts : List ℕ → Option (List ℕ)) (levels : ℕ) (type :
     → nodes texts (suc levels) type (plain_file name) ≡ meanings_nodes (λ n. nodes texts levels type (plain_file n)) type meanings
 unfolding nodes
 file_nodes texts levels type name meanings is =
-    ap (λ (h : Held). nodes_of (λ n. nodes texts levels type (plain_file n)) type (entries_of true (rules_held h))) is.held_is ∙ is.mean.nodes (λ n. nodes texts levels type (plain_file n)) type
+    ap (λ (h : FileContent). nodes_of (λ n. nodes texts levels type (plain_file n)) type (entries_of true (rules_held h))) is.held_is ∙ is.mean.nodes (λ n. nodes texts levels type (plain_file n)) type
 
 pub file_met : (texts : List ℕ → Option (List ℕ)) (levels : ℕ) (type : RuleType) (opener : Opener) (name : List ℕ) (meanings : List Meaning) (is : IsFile texts name meanings)
     → items texts (suc levels) type opener (plain_file name) ≡ opening (plain_file name) (16 - levels) opener ∷ (map (checked (plain_file name)) is.rules ++ meanings_items texts levels type name 1 meanings)
 unfolding items
 file_met texts levels type opener name meanings is =
-    ap (λ (h : Held). opening (plain_file name) (16 - levels) opener ∷ file_items (items texts levels type) type (plain_file name) (rules_held h)) is.held_is
+    ap (λ (h : FileContent). opening (plain_file name) (16 - levels) opener ∷ file_items (items texts levels type) type (plain_file name) (rules_held h)) is.held_is
     ∙ rw (is.mean.fine is.meant, is.mean.items texts levels type name) refl

@@ -6,7 +6,7 @@ use Rattle.std.specs.List.{flat_map, AllByRecursion}
 use Rattle.pam_base.specs.Bytes.{has_byte}
 use Rattle.pam_base.specs.Lines.{Cut, onto, cut, cut-line}
 use Rattle.service_load.specs.Stacks.{Stacks}
-use Rattle.report_lines.specs.Line.{Told, Block, Last, all_told_text, result_text, block_text, blocks_text, last_text, IsTold, AreBlocks, IsLast}
+use Rattle.report_lines.specs.Line.{ToldLine, Block, Last, all_told_text, result_text, block_text, blocks_text, last_text, IsTold, AreBlocks, IsLast}
 use Rattle.session_audit.specs.Fits.{Fits, all_shut}
 use Rattle.report_lines.specs.Says.{Says, tells, results, says_text, IsSays, bare, IsLine, ReadAs, ReadsLines}
 use Rattle.session_audit.specs.Differs.{last_lines, told_lines, report_lines, differs, LinesFit}
@@ -36,7 +36,7 @@ cut_joins (b ∷ bs) = ap (λ (t : List ℕ). b ∷ t) (cut_joins bs) ∙ cut_if
 
 -- ---- the text of blocks
 
-told_texts : (number : ℕ) (told : List Told) (rest : List Says) → flat_map says_text (told_lines number told rest)
+told_texts : (number : ℕ) (told : List ToldLine) (rest : List Says) → flat_map says_text (told_lines number told rest)
     ≡ all_told_text number told ++ flat_map says_text rest
 told_texts number [] rest = refl
 told_texts number (t ∷ told) rest = ap (λ (x : List ℕ). says_text (tells number t) ++ x) (told_texts number told rest)
@@ -53,7 +53,7 @@ report_text (b ∷ blocks) last =
 
 -- ---- ranges
 
-told_formed : (number : ℕ) (told : List Told) (rest : List Says) → AllByRecursion IsSays (told_lines number told rest) → AllByRecursion IsTold told
+told_formed : (number : ℕ) (told : List ToldLine) (rest : List Says) → AllByRecursion IsSays (told_lines number told rest) → AllByRecursion IsTold told
     × AllByRecursion IsSays rest
 told_formed number [] rest all = (tt, all)
 told_formed number (t ∷ told) rest all = let more = told_formed number told rest all.1 in ((all.0.1, more.0), more.1)
@@ -64,7 +64,7 @@ blocks_formed (b ∷ blocks) last all =
     let split = told_formed b.number b.told (results b.number b.result ∷ report_lines blocks last) all in
     (record { number = split.1.0.0; told = split.0; result = split.1.0.1 }, blocks_formed blocks last split.1.1)
 
-told_says : (number : ℕ) (told : List Told) (rest : List Says) → number < 2 ^ 32 → AllByRecursion IsTold told → AllByRecursion IsSays rest
+told_says : (number : ℕ) (told : List ToldLine) (rest : List Says) → number < 2 ^ 32 → AllByRecursion IsTold told → AllByRecursion IsSays rest
     → AllByRecursion IsSays (told_lines number told rest)
 told_says number [] rest small all more = more
 told_says number (t ∷ told) rest small all more = ((small, all.0), told_says number told rest small all.1 more)

@@ -5,7 +5,7 @@ use Rattle.pam_base.specs.declared.code.Code.{Code}
 use Rattle.pam_base.specs.declared.call.Func.{Func}
 use Rattle.pam_base.specs.declared.call.Func.TheVariants as funcs
 use Rattle.pam_base.specs.declared.code.Code.TheVariants as codes
-use Rattle.handler_chain.specs.declared.seen.Seen.{Seen}
+use Rattle.handler_chain.specs.declared.seen.RecordedLine.{RecordedLine}
 use Rattle.handler_chain.specs.Seen.{seen_of}
 use Rattle.handler_chain.specs.Retell as retell
 use Rattle.handler_chain.specs.Retell.{telling}
@@ -28,12 +28,12 @@ use Rattle.session_audit.specs.Checked.{told_in, after_quiet, IsCall}
 
 -- ---- lines run among recorded lines
 
-pub visits_are : (told : List (Option Seen)) → visits_told (told_in told) ≡ visits_in told
+pub visits_are : (told : List (Option RecordedLine)) → visits_told (told_in told) ≡ visits_in told
 visits_are [] = refl
 visits_are (None ∷ told) = visits_are told
-visits_are (Some v ∷ told) = ap (λ (vs : List retell.Seen). seen_of v ∷ vs) (visits_are told)
+visits_are (Some v ∷ told) = ap (λ (vs : List retell.RecordedLine). seen_of v ∷ vs) (visits_are told)
 
-pub lines_are : (i : ℕ) (told : List (Option Seen)) → told_lines.lines_before i (told_in told) ≡ lines_before i told
+pub lines_are : (i : ℕ) (told : List (Option RecordedLine)) → told_lines.lines_before i (told_in told) ≡ lines_before i told
 lines_are zero [] = refl
 lines_are (suc i) [] = refl
 lines_are zero (None ∷ told) = ap (λ (n : ℕ). n + 1) (lines_are zero told)
@@ -41,7 +41,7 @@ lines_are (suc i) (None ∷ told) = ap (λ (n : ℕ). n + 1) (lines_are (suc i) 
 lines_are zero (Some v ∷ told) = refl
 lines_are (suc i) (Some v ∷ told) = ap (λ (n : ℕ). n + 1) (lines_are i told)
 
-pub within_all : (i : ℕ) (told : List (Option Seen)) → lines_before i told ≤ length told
+pub within_all : (i : ℕ) (told : List (Option RecordedLine)) → lines_before i told ≤ length told
 within_all zero [] = omega arith
 within_all (suc i) [] = omega arith
 within_all zero (None ∷ told) = omega (arith, within_all zero told)
@@ -50,40 +50,40 @@ within_all zero (Some v ∷ told) = omega arith
 within_all (suc i) (Some v ∷ told) = omega (arith, within_all i told)
 
 -- a line of a block that is named is one of its recorded lines, or the one after them
-pub named_within : (i line : ℕ) (told : List (Option Seen)) → line ≡ told_lines.lines_before i (told_in told) → line ≤ length told
+pub named_within : (i line : ℕ) (told : List (Option RecordedLine)) → line ≡ told_lines.lines_before i (told_in told) → line ≤ length told
 named_within i line told is = omega (arith, lines_are i told, within_all i told)
 
 -- ---- no line run is among recorded lines if and only if all come before the first
 
-skips : (i : ℕ) (told : List (Option Seen)) → lines_before i (None ∷ told) ≡ lines_before i told + 1
+skips : (i : ℕ) (told : List (Option RecordedLine)) → lines_before i (None ∷ told) ≡ lines_before i told + 1
 skips zero told = refl
 skips (suc i) told = refl
 
 -- all lines come before a line run after the last
-all_before : (told : List (Option Seen)) → lines_before (length (visits_in told)) told ≡ length told
+all_before : (told : List (Option RecordedLine)) → lines_before (length (visits_in told)) told ≡ length told
 all_before [] = refl
 all_before (None ∷ told) = omega (arith, skips (length (visits_in told)) told, all_before told)
 all_before (Some v ∷ told) = omega (arith, all_before told)
 
-none_after : (told : List (Option Seen)) → drop (length told) told ≡ []
+none_after : (told : List (Option RecordedLine)) → drop (length told) told ≡ []
 none_after [] = refl
 none_after (t ∷ told) = none_after told
 
-no_visits : (told : List (Option Seen)) → length told ≤ lines_before 0 told → visits_in told ≡ []
+no_visits : (told : List (Option RecordedLine)) → length told ≤ lines_before 0 told → visits_in told ≡ []
 no_visits [] le = refl
 no_visits (None ∷ told) le = no_visits told (omega arith)
 no_visits (Some v ∷ told) le = absurd (omega arith)
 
-a_visit : (told : List (Option Seen)) → lines_before 0 told < length told → is_none (visits_in told) ≡ false
+a_visit : (told : List (Option RecordedLine)) → lines_before 0 told < length told → is_none (visits_in told) ≡ false
 a_visit [] lt = absurd (omega arith)
 a_visit (None ∷ told) lt = a_visit told (omega arith)
 a_visit (Some v ∷ told) lt = refl
 
-none_is : (vs : List retell.Seen) → is_none vs ≡ true → vs ≡ []
+none_is : (vs : List retell.RecordedLine) → is_none vs ≡ true → vs ≡ []
 none_is [] is = refl
 none_is (v ∷ vs) is = absurd (cc)
 
-by_left : (told : List (Option Seen)) (next : ℕ) (left : List retell.Seen) → visits_in (drop next told) ≡ left
+by_left : (told : List (Option RecordedLine)) (next : ℕ) (left : List retell.RecordedLine) → visits_in (drop next told) ≡ left
     → next ≡ lines_before (length (visits_in told) - length left) told → eqb next (length told) ≡ is_none left
 by_left told next [] is at =
     let all : length (visits_in told) - 0 ≡ length (visits_in told) = omega arith in
@@ -93,33 +93,33 @@ by_left told next (v ∷ left) is at =
     let none : v ∷ left ≡ [] = sym is ∙ ap (λ (k : ℕ). visits_in (drop k told)) e ∙ ap visits_in (none_after told) in
     absurd (cc))
 
-pub all_taken : (told : List (Option Seen)) (next : ℕ) → next ≡ lines_before (length (visits_in told) - length (visits_in (drop next told))) told
+pub all_taken : (told : List (Option RecordedLine)) (next : ℕ) → next ≡ lines_before (length (visits_in told) - length (visits_in (drop next told))) told
     → eqb next (length told) ≡ is_none (visits_in (drop next told))
 all_taken told next at = by_left told next (visits_in (drop next told)) refl at
 
 -- ---- what the checker knows
 
-pub told_none : (told : List (Option Seen)) (first : ℕ) → first ≡ lines_before 0 told → length told ≤ first → visits_told (told_in told) ≡ []
+pub told_none : (told : List (Option RecordedLine)) (first : ℕ) → first ≡ lines_before 0 told → length told ≤ first → visits_told (told_in told) ≡ []
 told_none told first is le = visits_are told ∙ no_visits told (omega arith)
 
-pub told_some : (told : List (Option Seen)) (first : ℕ) → first ≡ lines_before 0 told → first < length told → is_none (visits_told (told_in told)) ≡ false
+pub told_some : (told : List (Option RecordedLine)) (first : ℕ) → first ≡ lines_before 0 told → first < length told → is_none (visits_told (told_in told)) ≡ false
 told_some told first is lt = ap is_none (visits_are told) ∙ a_visit told (omega arith)
 
-pub told_first : (told : List (Option Seen)) (first : ℕ) → first ≡ lines_before 0 told → first ≡ told_lines.lines_before 0 (told_in told)
+pub told_first : (told : List (Option RecordedLine)) (first : ℕ) → first ≡ lines_before 0 told → first ≡ told_lines.lines_before 0 (told_in told)
 told_first told first is = is ∙ sym (lines_are 0 told)
 
-pub quiet_told : (vs : List retell.Seen) (x : Option SlotLog) → is_none vs ≡ false → without_visits vs x ≡ None
+pub quiet_told : (vs : List retell.RecordedLine) (x : Option SlotLog) → is_none vs ≡ false → without_visits vs x ≡ None
 quiet_told [] x is = absurd (cc)
 quiet_told (v ∷ vs) x is = refl
 
-pub quiet_as : (vs : List retell.Seen) (x y : Option SlotLog) → vs ≡ [] → y ≡ x → without_visits vs x ≡ y
-quiet_as vs x y none is = ap (λ (w : List retell.Seen). without_visits w x) none ∙ sym is
+pub quiet_as : (vs : List retell.RecordedLine) (x y : Option SlotLog) → vs ≡ [] → y ≡ x → without_visits vs x ≡ y
+quiet_as vs x y none is = ap (λ (w : List retell.RecordedLine). without_visits w x) none ∙ sym is
 
 pub and_no : (a b : Bool) → b ≡ false → (a && b) ≡ false
 and_no true b is = is
 and_no false b is = refl
 
-pub both_are : (a b : Bool) (vs : List retell.Seen) → a ≡ b → vs ≡ [] → (a && is_none vs) ≡ b
+pub both_are : (a b : Bool) (vs : List retell.RecordedLine) → a ≡ b → vs ≡ [] → (a && is_none vs) ≡ b
 both_are true b vs is none = ap is_none none ∙ is
 both_are false b vs is none = is
 
@@ -142,7 +142,7 @@ nothing_more true = refl
 nothing_more false = refl
 
 -- whether a chauthtok was refused: by its code, and because it ran no line
-pub refused_by : (func : Func) (code : Code) (vs : List retell.Seen) → is_refused_change func code vs ≡ (is_refused_change func code [] && is_none vs)
+pub refused_by : (func : Func) (code : Code) (vs : List retell.RecordedLine) → is_refused_change func code vs ≡ (is_refused_change func code [] && is_none vs)
 refused_by funcs.Authenticate code vs = refl
 refused_by funcs.SetCred code vs = refl
 refused_by funcs.AcctMgmt code vs = refl
@@ -152,43 +152,43 @@ refused_by funcs.ChAuthTok code [] = no_more (same_code code codes.SystemErr)
 refused_by funcs.ChAuthTok code (v ∷ vs) = nothing_more (same_code code codes.SystemErr)
 
 module _ (stacks : Stacks) where
-  pub call_refused : (func : Func) (code : Code) (vs : List retell.Seen) (h : Held) → is_refused_change func code vs ≡ true
+  pub call_refused : (func : Func) (code : Code) (vs : List retell.RecordedLine) (h : Held) → is_refused_change func code vs ≡ true
       → at_call stacks func code vs h ≡ Some (running h)
   call_refused func code vs h is = if_true (is_refused_change func code vs) (Some (running h)) _ is
 
-  pub call_aborted : (func : Func) (code : Code) (vs : List retell.Seen) (h : Held) → is_refused_change func code vs ≡ false
+  pub call_aborted : (func : Func) (code : Code) (vs : List retell.RecordedLine) (h : Held) → is_refused_change func code vs ≡ false
       → is_other_pending h.pending func ≡ true → at_call stacks func code vs h ≡ None
   call_aborted func code vs h is other = if_false (is_refused_change func code vs) (Some (running h)) _ is
       ∙ if_true (is_other_pending h.pending func) None _ other
 
-  pub call_goes : (func : Func) (code : Code) (vs : List retell.Seen) (h : Held) → is_refused_change func code vs ≡ false
+  pub call_goes : (func : Func) (code : Code) (vs : List retell.RecordedLine) (h : Held) → is_refused_change func code vs ≡ false
       → is_other_pending h.pending func ≡ false
       → past_call code (goes as_told stacks func h (telling vs)) ≡ at_call stacks func code vs h
   call_goes func code vs h is other = sym (if_false (is_refused_change func code vs) (Some (running h)) _ is
       ∙ if_false (is_other_pending h.pending func) None _ other)
 
-  pub line_aborted : (func : Func) (vs : List retell.Seen) (h : Held) (n : ℕ) → is_other_pending h.pending func ≡ true
+  pub line_aborted : (func : Func) (vs : List retell.RecordedLine) (h : Held) (n : ℕ) → is_other_pending h.pending func ≡ true
       → (if is_other_pending h.pending func then 0 else n) ≡ 0
   line_aborted func vs h n other = if_true (is_other_pending h.pending func) 0 n other
 
-  pub line_goes : (func : Func) (vs : List retell.Seen) (h : Held) (n : ℕ) → is_other_pending h.pending func ≡ false
+  pub line_goes : (func : Func) (vs : List retell.RecordedLine) (h : Held) (n : ℕ) → is_other_pending h.pending func ≡ false
       → n ≡ (if is_other_pending h.pending func then 0 else n)
   line_goes func vs h n other = sym (if_false (is_other_pending h.pending func) 0 n other)
 
 -- the lines that a replayed call took
-pub as_retold : (told : List (Option Seen)) (r : Retold) (code : Code) (w : Went retell.Telling) → went_of told r ≡ w
+pub as_retold : (told : List (Option RecordedLine)) (r : Retold) (code : Code) (w : Went retell.Telling) → went_of told r ≡ w
     → r.next ≡ lines_before (length (visits_in told) - length (visits_in (drop r.next told))) told
     → past_call code w ≡ only_if (not r.astray && (eqb r.next (length told) && same_code code r.code)) (running (held_of r.held))
 as_retold told r code w is at =
     ap (past_call code) (sym is)
     ∙ ap (λ (b : Bool). only_if (not r.astray && (b && same_code code r.code)) (running (held_of r.held))) (sym (all_taken told r.next at))
 
-pub retold_line : (told : List (Option Seen)) (r : Retold) (w : Went retell.Telling) → went_of told r ≡ w
+pub retold_line : (told : List (Option RecordedLine)) (r : Retold) (w : Went retell.Telling) → went_of told r ≡ w
     → r.next ≡ lines_before (length (visits_in told) - length (visits_in (drop r.next told))) told
     → r.next ≡ told_lines.lines_before (length (visits_told (told_in told)) - length w.state.left) (told_in told)
 retold_line told r w is at =
     at ∙ ap (λ (v : Went retell.Telling). lines_before (length (visits_in told) - length v.state.left) told) is
-    ∙ ap (λ (vs : List retell.Seen). lines_before (length vs - length w.state.left) told) (sym (visits_are told))
+    ∙ ap (λ (vs : List retell.RecordedLine). lines_before (length vs - length w.state.left) told) (sym (visits_are told))
     ∙ sym (lines_are (length (visits_told (told_in told)) - length w.state.left) told)
 
 pub only_true : (b : Bool) (p : SlotLog) (x : Option SlotLog) → x ≡ only_if b p → b ≡ true → x ≡ Some p
@@ -201,12 +201,12 @@ only_false false p x is holds = is
 
 -- ---- results that aren't a code of a stack call
 
-none_without : (vs : List retell.Seen) → without_visits vs None ≡ None
+none_without : (vs : List retell.RecordedLine) → without_visits vs None ≡ None
 none_without [] = refl
 none_without (v ∷ vs) = refl
 
 module _ (stacks : Stacks) where
-  quiet_open : (h : Held) (vs : List retell.Seen) (command : Command) (shown : Shown) → IsCall None (answered command shown)
+  quiet_open : (h : Held) (vs : List retell.RecordedLine) (command : Command) (shown : Shown) → IsCall None (answered command shown)
       → after_result stacks (running h) vs (answered command shown) ≡ without_visits vs (after_quiet (running h) (answered command shown))
   quiet_open h vs starts shown is = refl
   quiet_open h vs ends shown is = refl
@@ -227,14 +227,14 @@ module _ (stacks : Stacks) where
   quiet_open h vs switches_delay shown is = refl
   quiet_open h vs replies shown is = refl
 
-  pub quiet_result : (place : SlotLog) (vs : List retell.Seen) (result : Result) → IsCall None result
+  pub quiet_result : (place : SlotLog) (vs : List retell.RecordedLine) (result : Result) → IsCall None result
       → after_result stacks place vs result ≡ without_visits vs (after_quiet place result)
   quiet_result shut vs (answered command shown) is = refl
   quiet_result shut vs (closed_by_program code) is = sym (none_without vs)
   quiet_result (running h) vs (answered command shown) is = quiet_open h vs command shown is
   quiet_result (running h) vs (closed_by_program code) is = refl
 
-  quiet_good-open : (h : Held) (vs : List retell.Seen) (command : Command) (shown : Shown) → IsCall None (answered command shown)
+  quiet_good-open : (h : Held) (vs : List retell.RecordedLine) (command : Command) (shown : Shown) → IsCall None (answered command shown)
       → visits_good stacks (Some (running h)) vs (answered command shown) ≡ 0
   quiet_good-open h vs (runs func) (shows_code code) is = absurd (is func code refl)
   quiet_good-open h vs (runs func) (shows_fault fault) is = refl
@@ -246,12 +246,12 @@ module _ (stacks : Stacks) where
   quiet_good-open h vs (runs func) (shows_pending other) is = refl
   quiet_good-open h vs command shown is = refl
 
-  pub quiet_good : (place : SlotLog) (vs : List retell.Seen) (result : Result) → IsCall None result → visits_good stacks (Some place) vs result ≡ 0
+  pub quiet_good : (place : SlotLog) (vs : List retell.RecordedLine) (result : Result) → IsCall None result → visits_good stacks (Some place) vs result ≡ 0
   quiet_good shut vs result is = refl
   quiet_good (running h) vs (answered command shown) is = quiet_good-open h vs command shown is
   quiet_good (running h) vs (closed_by_program code) is = refl
 
   -- a closed transaction has no such code
-  pub shut_result : (vs : List retell.Seen) (result : Result) → after_result stacks shut vs result ≡ without_visits vs (after_quiet shut result)
+  pub shut_result : (vs : List retell.RecordedLine) (result : Result) → after_result stacks shut vs result ≡ without_visits vs (after_quiet shut result)
   shut_result vs (answered command shown) = refl
   shut_result vs (closed_by_program code) = sym (none_without vs)

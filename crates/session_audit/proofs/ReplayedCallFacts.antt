@@ -15,23 +15,23 @@ use Rattle.service_load.specs.Stacks.{Stacks}
 use Rattle.pass_replay.specs.dispatch_core.specs.Calls.{answers_held, following, Asking, Held, held, Passed, passed_by, Went, went, passes}
 use Rattle.pass_replay.specs.dispatch_core.specs.Calls.{update, after_check, check, change, call_after}
 use Rattle.pass_replay.specs.dispatch_core.specs.Pending.{pending_after, past_in, first_in}
-use Rattle.handler_chain.specs.Retell.{Seen, Telling, telling}
+use Rattle.handler_chain.specs.Retell.{RecordedLine, Telling, telling}
 use Rattle.pass_replay.specs.Replay.{as_told}
 use Rattle.session_audit.specs.Laws.{Trails, Retold, CallsAreRetold}
 use Rattle.handler_chain.proofs.ReplayedWalkFacts.{WalkTold, walk_told}
 
-module _ (State : Type 0) (trail : State → List Seen) (asking : Asking State) (tells : Trails State trail asking) (stacks : Stacks) where
+module _ (State : Type 0) (trail : State → List RecordedLine) (asking : Asking State) (tells : Trails State trail asking) (stacks : Stacks) where
   -- what a pass and a call add to the trace, and that they are the same when replayed by these
   -- lines
-  record PassTold (p : Passed State) (before : List Seen) (again : List Seen → Passed Telling) : Type 0 where
-    news : List Seen
+  record PassTold (p : Passed State) (before : List RecordedLine) (again : List RecordedLine → Passed Telling) : Type 0 where
+    news : List RecordedLine
     adds : trail p.state ≡ before ++ news
-    same : (more : List Seen) → again (news ++ more) ≡ record { code = p.code; kept = p.kept; paused = p.paused; state = telling more }
+    same : (more : List RecordedLine) → again (news ++ more) ≡ record { code = p.code; kept = p.kept; paused = p.paused; state = telling more }
 
-  record CallTold (w : Went State) (before : List Seen) (again : List Seen → Went Telling) : Type 0 where
-    news : List Seen
+  record CallTold (w : Went State) (before : List RecordedLine) (again : List RecordedLine → Went Telling) : Type 0 where
+    news : List RecordedLine
     adds : trail w.state ≡ before ++ news
-    same : (more : List Seen) → again (news ++ more) ≡ went w.code w.held (telling more)
+    same : (more : List RecordedLine) → again (news ++ more) ≡ went w.code w.held (telling more)
 
   pass_told : (func : Func) (second : Bool) (kind : PassKind) (kept : Option KeptAnswers) (stack : Stack) (past : List Code) (s : State)
       → PassTold (passes asking stacks func second kind kept stack past s) (trail s)
@@ -43,7 +43,7 @@ module _ (State : Type 0) (trail : State → List Seen) (asking : Asking State) 
       record { news = told.news; adds = told.adds; same = λ more. ap (passed_by kind kept) (told.same more) }
 
   -- a call that is one pass
-  by_pass : (p : Passed State) (before : List Seen) (again : List Seen → Passed Telling) (h : Option KeptAnswers → Option (List Code) → Held)
+  by_pass : (p : Passed State) (before : List RecordedLine) (again : List RecordedLine → Passed Telling) (h : Option KeptAnswers → Option (List Code) → Held)
       → PassTold p before again → CallTold (went p.code (h p.kept p.paused) p.state) before
       (λ left. went (again left).code (h (again left).kept (again left).paused) (again left).state)
   by_pass p before again h told = record {
@@ -53,13 +53,13 @@ module _ (State : Type 0) (trail : State → List Seen) (asking : Asking State) 
   }
 
   -- what follows a pass
-  after_pass : (p : Passed State) (before : List Seen) (again : List Seen → Passed Telling) (w : Went State) (f : Passed Telling → Went Telling)
+  after_pass : (p : Passed State) (before : List RecordedLine) (again : List RecordedLine → Passed Telling) (w : Went State) (f : Passed Telling → Went Telling)
       → PassTold p before again → CallTold w (trail p.state) (λ left. f (record { code = p.code; kept = p.kept; paused = p.paused; state = telling left }))
       → CallTold w before (λ left. f (again left))
   after_pass p before again w f one two = record {
     news = one.news ++ two.news;
-    adds = two.adds ∙ ap (λ (xs : List Seen). xs ++ two.news) one.adds ∙ append_assoc before one.news two.news;
-    same = λ more. ap (λ (xs : List Seen). f (again xs)) (append_assoc one.news two.news more) ∙ ap f (one.same (two.news ++ more)) ∙ two.same more;
+    adds = two.adds ∙ ap (λ (xs : List RecordedLine). xs ++ two.news) one.adds ∙ append_assoc before one.news two.news;
+    same = λ more. ap (λ (xs : List RecordedLine). f (again xs)) (append_assoc one.news two.news more) ∙ ap f (one.same (two.news ++ more)) ∙ two.same more;
   }
 
   update_told : (first : Option KeptAnswers) (past : List Code) (h : Held) (s : State)

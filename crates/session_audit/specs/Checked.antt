@@ -7,8 +7,8 @@ use Rattle.pam_base.specs.declared.call.Func.{Func}
 use Rattle.service_load.specs.Stacks.{Stacks}
 use Rattle.pass_replay.specs.dispatch_core.specs.Calls.{Held}
 use Rattle.pass_replay.specs.Held.{held_of}
-use Rattle.handler_chain.specs.declared.seen.Seen.{Seen}
-use Rattle.report_lines.specs.Line.{Told, Command, runs, Shown, shows_code, shows_pending, Result, answered, closed_by_program, Block}
+use Rattle.handler_chain.specs.declared.seen.RecordedLine.{RecordedLine}
+use Rattle.report_lines.specs.Line.{ToldLine, Command, runs, Shown, shows_code, shows_pending, Result, answered, closed_by_program, Block}
 use Rattle.report_lines.specs.Form.{told_of}
 use Rattle.report_lines.specs.Guess.{read_line}
 use Rattle.report_lines.specs.Says.{Says, bare}
@@ -29,7 +29,7 @@ abbrev pub place_of : held.SlotLog → SlotLog
 place_of helds.Closed = shut
 place_of (helds.Open h) = running (held_of h)
 
-abbrev pub told_in : List (Option Seen) → List Told
+abbrev pub told_in : List (Option RecordedLine) → List ToldLine
 told_in told = map told_of told
 
 -- the block that is being read
@@ -63,7 +63,7 @@ IsJudged (judged.Fits place) slot_log bad = slot_log ≡ Some (place_of place)
 IsJudged (judged.Differs line) slot_log bad = (slot_log ≡ None) × (line ≡ bad)
 
 -- a block is judged by the state of its transaction
-abbrev pub Judges : Stacks → SlotLog → List Told → Result → Judged → Type 0
+abbrev pub Judges : Stacks → SlotLog → List ToldLine → Result → Judged → Type 0
 Judges stacks place told result j =
     IsJudged j (after_result stacks place (visits_told told) result)
     (lines_before (visits_good stacks (Some place) (visits_told told) result) told)
@@ -78,7 +78,7 @@ IsPlaced stacks old b None new =
     (length new ≡ length old)
 
 -- the same for a number that no transaction has
-abbrev pub IsUnplaced : Option ℕ → List Told → Result → Type 0
+abbrev pub IsUnplaced : Option ℕ → List ToldLine → Result → Type 0
 IsUnplaced None told result =
     (stacks : Stacks) → (is_bad_number stacks result && is_none (visits_told told)) ≡ true
 IsUnplaced (Some line) told result =

@@ -15,7 +15,7 @@ ghost use Rattle.session_audit.specs.Whole.{formless};
 use crate::place::SlotLog;
 use crate::places::{closed_places, judge_at};
 use crate::verdict::Verdict;
-use handler_chain::Seen;
+use handler_chain::RecordedLine;
 use pam_base::NoMemory;
 use report_lines::{Form, ReportedOutcome, read_line};
 use service_load::Trees;
@@ -25,7 +25,7 @@ use std::alloc::Global;
 #[derive(Drop)]
 pub struct Begun {
     pub number: u32,
-    pub told: Vec<Option<Seen>>,
+    pub told: Vec<Option<RecordedLine>>,
 }
 
 /// A checker after n lines of a report: what is known of each transaction, the block that has
@@ -113,7 +113,7 @@ impl Checker {
         &mut self,
         alloc: Global,
         number: u32,
-        visit: Option<Seen>,
+        visit: Option<RecordedLine>,
     ) -> Result<Option<u32>, NoMemory>
         requires is_after { IsAfter self.old self.old.lines }
         requires room { self.old.lines < 2 ^ 32 - 1 }

@@ -9,7 +9,7 @@ ghost use Rattle.session_audit.specs.Differs.{lines_before};
 ghost use Rattle.session_audit.specs.Fits.{is_refused_change, running, same_code, visits_told, without_visits};
 
 use crate::place::{SlotLog, after_quiet};
-use handler_chain::Seen;
+use handler_chain::RecordedLine;
 use pam_base::{CallName, Code, Func, NoMemory};
 use pass_replay::{Held, Retold, first_visit, retell};
 use report_lines::{ReportedAnswer, ReportedOutcome};
@@ -30,7 +30,7 @@ pub fn judge(
     alloc: Global,
     trees: &Trees,
     place: SlotLog,
-    told: &[Option<Seen>],
+    told: &[Option<RecordedLine>],
     outcome: ReportedOutcome,
 ) -> Result<Judged, NoMemory>
     requires { AreBounded trees.now }
@@ -65,7 +65,7 @@ fn stack_call(outcome: ReportedOutcome) -> Option<StackCall>
 }
 
 // Judges a block whose result isn't the code of a stack call: it has no `line` lines.
-fn judge_quiet(place: SlotLog, told: &[Option<Seen>], outcome: ReportedOutcome) -> Judged
+fn judge_quiet(place: SlotLog, told: &[Option<RecordedLine>], outcome: ReportedOutcome) -> Judged
     ensures { IsJudged result
         (without_visits (visits_told (told_in told.now))
         (after_quiet (place_of place) (result_of outcome)))
@@ -87,7 +87,7 @@ fn judge_call(
     held: Held,
     func: Func,
     code: Code,
-    told: &[Option<Seen>],
+    told: &[Option<RecordedLine>],
 ) -> Result<Judged, NoMemory>
     requires { AreBounded trees.now }
     ensures { IfOk result (λ judged. Judges (stacks_in trees.now) (running (held_of held))
@@ -108,7 +108,7 @@ fn judge_call(
 }
 
 /// Whether it is a chauthtok whose flags were refused: then no line is run, and nothing changes.
-pub fn is_refused_change(func: Func, code: Code, told: &[Option<Seen>]) -> bool
+pub fn is_refused_change(func: Func, code: Code, told: &[Option<RecordedLine>]) -> bool
     ensures { result ≡ is_refused_change func code (visits_told (told_in told.now)) }
 {
     if first_visit(told) < told.len() {

@@ -9,7 +9,7 @@ ghost use Rattle.session_audit.specs.Fits.{all_shut, is_bad_number};
 
 use crate::judge::{Judged, judge};
 use crate::place::SlotLog;
-use handler_chain::Seen;
+use handler_chain::RecordedLine;
 use pam_base::NoMemory;
 use pass_replay::first_visit;
 use report_lines::{ReportedAnswer, ReportedOutcome};
@@ -37,7 +37,7 @@ pub fn judge_at(
     trees: &Trees,
     places: &mut Vec<SlotLog>,
     number: u32,
-    told: &[Option<Seen>],
+    told: &[Option<RecordedLine>],
     outcome: ReportedOutcome,
 ) -> Result<Option<usize>, NoMemory>
     requires bounded { AreBounded trees.now }
@@ -66,7 +66,7 @@ fn has_place(number: u32, n: usize) -> bool
 }
 
 // Judges a block of a number that no transaction has.
-fn judge_nowhere(told: &[Option<Seen>], outcome: ReportedOutcome) -> Option<usize>
+fn judge_nowhere(told: &[Option<RecordedLine>], outcome: ReportedOutcome) -> Option<usize>
     ensures { IsUnplaced result (told_in told.now) (result_of outcome) }
 {
     let first = first_visit(told);

@@ -9,7 +9,7 @@ use Rattle.sha_crypt.specs.declared.setting.Method.TheVariants.{Sha256, Sha512}
 use Rattle.sha_crypt.specs.declared.setting.SettingFault.{SettingFault}
 use Rattle.sha_crypt.specs.Characters.{alphabet, characters}
 use Rattle.sha_crypt.specs.Hash.{crypted, hash_or_fault}
-use Rattle.sha_crypt.specs.Setting.{Asked, asked, asked_of, begins, field_fault, is_dollar, is_forbidden, prefix, rounds_text, rounds_written, salt_in}
+use Rattle.sha_crypt.specs.Setting.{PlainSetting, asked, asked_of, begins, field_fault, is_dollar, is_forbidden, prefix, rounds_text, rounds_written, salt_in}
 use Rattle.sha_crypt.proofs.Again.{after_dollar, before, before_dollar, before_is, after_prefix, digits_have_none}
 use Rattle.sha_crypt.proofs.Decimals.{Writes, writes}
 use Rattle.sha_crypt.proofs.Field.{characters_fit, has_forbidden}
@@ -97,9 +97,9 @@ module _ (m : Method) (c : List ℕ) (allowed : list_any is_forbidden (salt_in c
     unfolding field
     word = before_is field ∙ before_dollar c (decimal n) (digits_have_none (decimal n) written.all)
 
-    past_end : after_first is_dollar field ≡ c
+    after_id : after_first is_dollar field ≡ c
     unfolding field
-    past_end = after_dollar c (decimal n) (digits_have_none (decimal n) written.all)
+    after_id = after_dollar c (decimal n) (digits_have_none (decimal n) written.all)
 
     shorter : length (decimal n) < length field
     unfolding field
@@ -111,14 +111,14 @@ module _ (m : Method) (c : List ℕ) (allowed : list_any is_forbidden (salt_in c
         refl
 
     some_fine : is_ok (asked_of m (codes "rounds=" ++ field)) ≡ true
-    some_fine = rw (no_fault, past_end, allowed) refl
+    some_fine = rw (no_fault, after_id, allowed) refl
 
   fine : (rounds : Option ℕ) → IfSome rounds (λ r. r ≤ 1000000) → begins (codes "rounds=") c ≡ false → is_ok (asked_of m (rounds_text rounds ++ c)) ≡ true
   unfolding field
   fine None h none = none_fine none
   fine (Some n) h none = ap (λ (x : List ℕ). is_ok (asked_of m (codes "rounds=" ++ x))) (append_assoc (decimal n) (36 ∷ []) c) ∙ some_fine n h
 
-made_fine : (r : Result Asked SettingFault) (key : List ℕ) → is_ok r ≡ true → is_ok (hash_or_fault r key) ≡ true
+made_fine : (r : Result PlainSetting SettingFault) (key : List ℕ) → is_ok r ≡ true → is_ok (hash_or_fault r key) ≡ true
 made_fine (Ok a) key e = refl
 made_fine (Err fault) key e = e
 
@@ -128,4 +128,4 @@ plain_fine m rounds n number key h =
     let c = characters n number in
     let whole : asked (prefix m ++ rounds_text rounds ++ c) ≡ asked_of m (rounds_text rounds ++ c) = ap asked (append_assoc (prefix m) (rounds_text rounds) c) ∙ after_prefix m (rounds_text rounds ++ c) in
     made_fine (asked (prefix m ++ rounds_text rounds ++ c)) key
-    (ap (λ (r : Result Asked SettingFault). is_ok r) whole ∙ fine m c (salt_fits n number) rounds h (none_named c _ refl (characters_lack n number)))
+    (ap (λ (r : Result PlainSetting SettingFault). is_ok r) whole ∙ fine m c (salt_fits n number) rounds h (none_named c _ refl (characters_lack n number)))

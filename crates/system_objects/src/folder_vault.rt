@@ -11,7 +11,7 @@ use crate::read_at::ReadAt;
 use crate::reader_source::ReaderSource;
 use crate::system::{hold_in, is_full, look_in, replace_in};
 use pam_base::{NoMemory, Text};
-use pam_outside::{Held, LockKind, MAX_FILE, ReplaceFault, Vault, VaultFault, path_of};
+use pam_outside::{FileLock, LockKind, MAX_FILE, ReplaceFault, Vault, VaultFault, path_of};
 use std::alloc::Global;
 use std::fs::Metadata;
 use std::io::{self, ErrorKind};
@@ -149,7 +149,7 @@ impl Vault for FolderVault {
     /// Locks the file at this path, which is made if it doesn't exist, and tries for 15 seconds, at intervals of 5
     /// milliseconds at most. If its directory doesn't exist, nothing is locked. A path that isn't
     /// UTF-8, what isn't a file, and any other error are Failed.
-    fn hold(&mut self, alloc: Global, path: &[u8], kind: LockKind) -> Result<Held, ReplaceFault>
+    fn hold(&mut self, alloc: Global, path: &[u8], kind: LockKind) -> Result<FileLock, ReplaceFault>
         ensures held { IfOk result (λ held. held ≡ true) }
         ensures faults { self.old.faults ≤ self.new.faults }
         ensures fault { result ≡ Err ReplaceFault.Failed →
@@ -165,7 +165,7 @@ impl Vault for FolderVault {
     }
 
     /// Closes the file that is locked. A record lock that isn't let go here ends with the next `hold`, and with the store.
-    fn let_go(&mut self, _held: Held)
+    fn let_go(&mut self, _held: FileLock)
         ensures stays { self.new ≡ self.old }
     {
         self.lock = None;
@@ -231,7 +231,7 @@ impl FolderVault {
         alloc: Global,
         path: &[u8],
         kind: LockKind,
-    ) -> Result<Held, ReplaceFault>
+    ) -> Result<FileLock, ReplaceFault>
         ensures held { IfOk result (λ held. held ≡ true) }
         ensures not_text { ¬ (IsUtf8 path.now) → result ≡ Err ReplaceFault.Failed }
         ensures stays { self.new ≡ self.old }
@@ -245,7 +245,7 @@ impl FolderVault {
         alloc: Global,
         name: &str,
         kind: LockKind,
-    ) -> Result<Held, ReplaceFault>
+    ) -> Result<FileLock, ReplaceFault>
         ensures held { IfOk result (λ held. held ≡ true) }
         ensures stays { self.new ≡ self.old }
     {
@@ -261,9 +261,9 @@ impl FolderVault {
         match locked {
             Ok(Some((file, lock))) => {
                 self.lock = Some(lock);
-                Ok(Held::of_file(&self.rt, Some(file)))
+                Ok(FileLock::of_file(&self.rt, Some(file)))
             }
-            Ok(None) => Ok(Held::of_file(&self.rt, None)),
+            Ok(None) => Ok(FileLock::of_file(&self.rt, None)),
             Err(error) => Err(changing_fault(&error)),
         }
     }

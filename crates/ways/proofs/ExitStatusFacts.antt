@@ -11,12 +11,12 @@ use Rattle.cmd_audit.specs.declared.transcript.Transcript.{Transcript}
 use Rattle.cmd_audit.specs.declared.transcript.Transcript.TheVariants.{Whole, TooLong, Unread}
 use Rattle.ways.specs.Said.{IsOutputBy, IsOutputOf, IsWritten, One, Tells, TellsBy, Written}
 use Rattle.cmd_audit.specs.Transcript.{is_unread}
-use Rattle.ways.specs.Program.{Asked, Causes, Leaves, IsOutputOfInput, IsOutputOfRead, usage_written}
+use Rattle.ways.specs.Program.{PlainTarget, Causes, Leaves, IsOutputOfInput, IsOutputOfRead, usage_written}
 
 module _ (input_before input_now before now : ℕ) where
   -- ---- of an output
 
-  other_status : (place : Asked) (k status : ℕ) → status ≡ k → k ≢ 2 → k ≢ 4 → k ≢ 5 → k ≢ 6 → Causes status (Some place) input_before input_now before now
+  other_status : (place : PlainTarget) (k status : ℕ) → status ≡ k → k ≢ 2 → k ≢ 4 → k ≢ 5 → k ≢ 6 → Causes status (Some place) input_before input_now before now
   other_status place k status is not2 not4 not5 not6 = record {
     usage = λ none. absurd cc;
     no_usage = λ two. absurd (not2 (sym is ∙ two));
@@ -25,7 +25,7 @@ module _ (input_before input_now before now : ℕ) where
     unwritten = λ six. not6 (sym is ∙ six);
   }
 
-  unread_status : (place : Asked) (status : ℕ) → status ≡ 5 → Rose input_before input_now ⊎ Rose before now
+  unread_status : (place : PlainTarget) (status : ℕ) → status ≡ 5 → Rose input_before input_now ⊎ Rose before now
       → Causes status (Some place) input_before input_now before now
   unread_status place status is cause = record {
     usage = λ none. absurd cc;
@@ -44,7 +44,7 @@ module _ (input_before input_now before now : ℕ) where
     unwritten = λ six. omega (arith, is, six);
   }
 
-  said_status : (place : Asked) (e : Output) (w : Written) (table : Result (List Entry) (List ℕ)) (service : List ℕ) (stacks : Stacks) (sources : Sources)
+  said_status : (place : PlainTarget) (e : Output) (w : Written) (table : Result (List Entry) (List ℕ)) (service : List ℕ) (stacks : Stacks) (sources : Sources)
       → e.status ≡ w.status → TellsBy table service stacks sources w → Causes e.status (Some place) input_before input_now before now
   said_status place e w (Ok table) service stacks sources is told =
       other_status place 0 e.status (is ∙ told.0) (λ x. omega (arith, x)) (λ x. omega (arith, x)) (λ x. omega (arith, x)) (λ x. omega (arith, x))
@@ -52,19 +52,19 @@ module _ (input_before input_now before now : ℕ) where
       other_status place 13 e.status (is ∙ ap (λ (v : Written). v.status) told) (λ x. omega (arith, x)) (λ x. omega (arith, x)) (λ x. omega (arith, x))
       (λ x. omega (arith, x))
 
-  stacks_status : (place : Asked) (e : Output) (service text : List ℕ) (stacks : Stacks) → IsOutputBy e service stacks text before now
+  stacks_status : (place : PlainTarget) (e : Output) (service text : List ℕ) (stacks : Stacks) → IsOutputBy e service stacks text before now
       → Causes e.status (Some place) input_before input_now before now
   stacks_status place e service text stacks (inl by) =
       said_status place e by.said.one (table_of text) service stacks by.sources by.said.holds.status by.said.may
   stacks_status place e service text stacks (inr failure) = unread_status place e.status failure.nothing.status (inr failure.failed)
 
-  shown_status : (place : Asked) (e : Output) (service text : List ℕ) → IsOutputOf e service text before now
+  shown_status : (place : PlainTarget) (e : Output) (service text : List ℕ) → IsOutputOf e service text before now
       → Causes e.status (Some place) input_before input_now before now
   shown_status place e service text (inl by) = stacks_status place e service text by.0 by.1
   shown_status place e service text (inr fault) =
       other_status place 3 e.status fault.refused.status (λ e. omega (arith, e)) (λ e. omega (arith, e)) (λ e. omega (arith, e)) (λ e. omega (arith, e))
 
-  read_status : (place : Asked) (e : Output) (service : List ℕ) (report : Transcript) → RisesIf (is_unread report) input_before input_now
+  read_status : (place : PlainTarget) (e : Output) (service : List ℕ) (report : Transcript) → RisesIf (is_unread report) input_before input_now
       → IsOutputOfRead e service report before now
       → Causes e.status (Some place) input_before input_now before now
   read_status place e service (Whole text) rises shown = shown_status place e service text shown
@@ -72,21 +72,21 @@ module _ (input_before input_now before now : ℕ) where
       other_status place 12 e.status shown.0.status (λ e. omega (arith, e)) (λ e. omega (arith, e)) (λ e. omega (arith, e)) (λ e. omega (arith, e))
   read_status place e service Unread rises shown = unread_status place e.status shown.0.status (inl rises)
 
-  pub asked_causes : {E : Type 0} (r : Result Output E) (words : Option Asked) (service : List ℕ) (place : Asked) → Some place ≡ words
+  pub asked_causes : {E : Type 0} (r : Result Output E) (words : Option PlainTarget) (service : List ℕ) (place : PlainTarget) → Some place ≡ words
       → IfOk r (λ e. IsOutputOfInput e service input_before input_now before now) → IfOk r (λ e. Causes e.status words input_before input_now before now)
   asked_causes (Ok e) words service place is shows =
-      subst (λ (o : Option Asked). Causes e.status o input_before input_now before now) is (read_status place e service shows.table shows.read shows.shown)
+      subst (λ (o : Option PlainTarget). Causes e.status o input_before input_now before now) is (read_status place e service shows.table shows.read shows.shown)
   asked_causes (Err x) words service place is shows = tt
 
-  pub usage_causes : {E : Type 0} (r : Result Output E) (words : Option Asked) → None ≡ words → IfOk r (λ e. IsWritten e usage_written)
+  pub usage_causes : {E : Type 0} (r : Result Output E) (words : Option PlainTarget) → None ≡ words → IfOk r (λ e. IsWritten e usage_written)
       → IfOk r (λ e. Causes e.status words input_before input_now before now)
   usage_causes (Ok e) words none is =
-      subst (λ (o : Option Asked). Causes e.status o input_before input_now before now) none (usage_status e.status is.status)
+      subst (λ (o : Option PlainTarget). Causes e.status o input_before input_now before now) none (usage_status e.status is.status)
   usage_causes (Err x) words none is = tt
 
   -- ---- of the program, whose output has this status
 
-  module _ (result given : ℕ) (words : Option Asked) (out_before out_now : ℕ) where
+  module _ (result given : ℕ) (words : Option PlainTarget) (out_before out_now : ℕ) where
     pub by_usage : Leaves result given out_before out_now → Causes given words input_before input_now before now → words ≡ None
         → (result ≡ 2) ⊎ ((result ≡ 4) ⊎ (result ≡ 6))
     by_usage (inl same) causes none = inl (same.0 ∙ causes.usage none)

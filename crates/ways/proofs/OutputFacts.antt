@@ -19,7 +19,7 @@ use Rattle.cmd_audit.specs.declared.transcript.Transcript.{Transcript}
 use Rattle.cmd_audit.specs.declared.transcript.Transcript.TheVariants.{Whole, TooLong, Unread}
 use Rattle.ways.specs.Said.{IsWritten, One, OrUnread, Says, SaysBy, Written, Tells, refused_written, unread_written}
 use Rattle.cmd_audit.specs.Transcript.{IsRead, IsShort, is_unread}
-use Rattle.ways.specs.Program.{Answers, Asked, Ends, Exits, SaysIf, SaysInput, SaysRead, IsOutputOfInput, IsOutputOfRead, too_long_written, usage_written}
+use Rattle.ways.specs.Program.{Answers, PlainTarget, Ends, Exits, SaysIf, SaysInput, SaysRead, IsOutputOfInput, IsOutputOfRead, too_long_written, usage_written}
 
 -- ---- what was read
 
@@ -48,16 +48,16 @@ shown_input (Err x) service report input_before input_now before now rises shows
 
 -- ---- the arguments
 
-module _ (words : Option Asked) (old new : VaultState) (input : List ℕ) (before now : ℕ) where
-  pub given_for : {E : Type 0} (r : Result Output E) (root service : List ℕ) → ◌≡◌ {A = Option Asked} (Some (record { root = root; service = service })) words
+module _ (words : Option PlainTarget) (old new : VaultState) (input : List ℕ) (before now : ℕ) where
+  pub given_for : {E : Type 0} (r : Result Output E) (root service : List ℕ) → ◌≡◌ {A = Option PlainTarget} (Some (record { root = root; service = service })) words
       → IfOk r (λ e. SaysInput (λ w. IsWritten e w) old root service input new before now)
       → IfOk r (λ e. Answers (λ w. IsWritten e w) words old input new before now)
   given_for r root service is given =
-      subst (λ (o : Option Asked). IfOk r (λ e. Answers (λ w. IsWritten e w) o old input new before now)) is given
+      subst (λ (o : Option PlainTarget). IfOk r (λ e. Answers (λ w. IsWritten e w) o old input new before now)) is given
 
   pub usage_given : {E : Type 0} (r : Result Output E) → None ≡ words → IfOk r (λ e. IsWritten e usage_written)
       → IfOk r (λ e. Answers (λ w. IsWritten e w) words old input new before now)
-  usage_given (Ok e) none is = subst (λ (o : Option Asked). Answers (λ w. IsWritten e w) o old input new before now) none is
+  usage_given (Ok e) none is = subst (λ (o : Option PlainTarget). Answers (λ w. IsWritten e w) o old input new before now) none is
   usage_given (Err x) none is = tt
 
 -- ---- what is written
@@ -85,12 +85,12 @@ module _ (P Q : Written → Type 0) (also : (w : Written) → P w → Q w) where
   by_input old root service input new before now (inl p) = inl (by_length (nat_lt 1048576 (length input)) old root service input new p)
   by_input old root service input new before now (inr p) = inr (also unread_written p.0, p.1)
 
-  answers_too : (words : Option Asked) (old : VaultState) (input : List ℕ) (new : VaultState) (before now : ℕ)
+  answers_too : (words : Option PlainTarget) (old : VaultState) (input : List ℕ) (new : VaultState) (before now : ℕ)
       → Answers P words old input new before now → Answers Q words old input new before now
   answers_too None old input new before now p = also usage_written p
   answers_too (Some words) old input new before now p = by_input old words.root words.service input new before now p
 
-pub ends_so : (status : ℕ) (e : Output) (words : Option Asked) (old : VaultState) (input : List ℕ) (new : VaultState) (before now : ℕ)
+pub ends_so : (status : ℕ) (e : Output) (words : Option PlainTarget) (old : VaultState) (input : List ℕ) (new : VaultState) (before now : ℕ)
     (out_old out_new : SinkState)
     → Answers (λ w. IsWritten e w) words old input new before now → ((w : Written) → IsWritten e w → Exits status w out_old out_new)
     → Ends status words old input new before now out_old out_new

@@ -15,18 +15,18 @@ use Rattle.cmd_audit.specs.Transcript.{is_unread}
 
 -- ---- the arguments
 
-pub record Asked : Type 0 where
+pub record PlainTarget : Type 0 where
   pub root : List ℕ
   pub service : List ℕ
 
 -- ROOT SERVICE
-abbrev pub asked_of : List (String Global) → Option Asked
+abbrev pub asked_of : List (String Global) → Option PlainTarget
 asked_of (root ∷ service ∷ []) =
     Some (record { root = string_bytes root; service = string_bytes service })
 asked_of words = None
 
 -- the command that was found in them
-abbrev pub asked : Option Target → Option Asked
+abbrev pub asked : Option Target → Option PlainTarget
 asked None = None
 asked (Some place) = Some (record { root = place.root.now; service = place.service.now })
 
@@ -61,7 +61,7 @@ SaysInput P old root service input new before now =
     ⊎ (P unread_written × Rose before now)
 
 -- what is written for these arguments
-abbrev pub Answers : (Written → Type 0) → Option Asked → VaultState → List ℕ → VaultState → ℕ → ℕ
+abbrev pub Answers : (Written → Type 0) → Option PlainTarget → VaultState → List ℕ → VaultState → ℕ → ℕ
     → Type 0
 Answers P None old input new before now = P usage_written
 Answers P (Some words) old input new before now =
@@ -76,7 +76,7 @@ pub record Exits (status : ℕ) (w : Written) (old new : SinkState) : Type 0 whe
   pub ends : ((status ≡ w.status) × (front ≡ w.text)) ⊎ (status ≡ 6)
 
 -- if an allocation failed, nothing is written and the status is 4
-abbrev pub Ends : ℕ → Option Asked → VaultState → List ℕ → VaultState → ℕ → ℕ → SinkState
+abbrev pub Ends : ℕ → Option PlainTarget → VaultState → List ℕ → VaultState → ℕ → ℕ → SinkState
     → SinkState → Type 0
 Ends status words old input new before now out_old out_new =
     ((status ≡ 4) × (out_new ≡ out_old))
@@ -98,7 +98,7 @@ pub record IsOutputOfInput (e : Output) (service : List ℕ) (input_before input
   pub shown : IsOutputOfRead e service table before now
 
 -- what the status of an output says about the arguments and about failures
-pub record Causes (status : ℕ) (words : Option Asked) (input_before input_now before now : ℕ) :
+pub record Causes (status : ℕ) (words : Option PlainTarget) (input_before input_now before now : ℕ) :
     Type 0 where
   pub usage : words ≡ None → status ≡ 2
   pub no_usage : status ≡ 2 → words ≡ None

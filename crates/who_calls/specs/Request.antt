@@ -9,11 +9,11 @@ use Rattle.who_calls.specs.declared.request.Request.{Request}
 use Rattle.who_calls.specs.Status.{are_one, are_root, ids_in}
 
 -- a root, and the user ID that calls are made for
-pub record Asked : Type 0 where
+pub record ServiceRequest : Type 0 where
   pub root : List ℕ
   pub caller : ℕ
 
-abbrev pub asked : Option Request → Option Asked
+abbrev pub asked : Option Request → Option ServiceRequest
 asked None = None
 asked (Some r) = Some (record { root = r.root.now; caller = r.caller })
 
@@ -30,15 +30,15 @@ abbrev pub may_be_root : Option Ids → Bool
 may_be_root None = true
 may_be_root (Some user) = are_root user
 
-abbrev pub named_by : Option ℕ → Option Asked
+abbrev pub named_by : Option ℕ → Option ServiceRequest
 named_by None = None
 named_by (Some caller) = Some (record { root = codes "/"; caller = caller })
 
-abbrev pub named_caller : List ℕ → Option Asked
+abbrev pub named_caller : List ℕ → Option ServiceRequest
 named_caller word = named_by (number_of_word word)
 
 -- by the user's and the group's IDs, as far as the system says them
-abbrev pub request_by : Option Ids → Option Ids → List (String Global) → Option Asked
+abbrev pub request_by : Option Ids → Option Ids → List (String Global) → Option ServiceRequest
 request_by user group [] = Some (record { root = codes "/"; caller = real_user user })
 request_by user group (root ∷ []) = if has_own_rights user group
     then Some (record { root = string_bytes root; caller = real_user user }) else None
@@ -47,6 +47,6 @@ request_by user group (option ∷ caller ∷ []) =
     then named_caller (string_bytes caller) else None
 request_by user group words = None
 
-abbrev pub service_request : List ℕ → List (String Global) → Option Asked
+abbrev pub service_request : List ℕ → List (String Global) → Option ServiceRequest
 service_request status words =
     request_by (ids_in status (codes "Uid:")) (ids_in status (codes "Gid:")) words

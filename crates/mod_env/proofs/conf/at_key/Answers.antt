@@ -3,14 +3,14 @@ use Rattle.mod_env.specs.declared.marks.Mark.{Mark}
 use Rattle.mod_env.specs.Marks.{begins_with, is_byte}
 use Rattle.mod_env.proofs.conf.at_key.Goals as goal
 
-past_end : (a b : Bool) → (a && b) ≡ true → b ≡ true
-past_end true b e = e
-past_end false b e = absurd cc
+followed : (a b : Bool) → (a && b) ≡ true → b ≡ true
+followed true b e = e
+followed false b e = absurd cc
 
 long_enough : (word : List ℕ) (marks : List Mark) → begins_with word marks ≡ true → length word ≤ length marks
 long_enough [] marks e = omega arith
 long_enough (c ∷ cs) [] e = absurd cc
-long_enough (c ∷ cs) (m ∷ ms) e = let rest : length cs ≤ length ms = long_enough cs ms (past_end (is_byte c m) (begins_with cs ms) e) in omega arith
+long_enough (c ∷ cs) (m ∷ ms) e = let rest : length cs ≤ length ms = long_enough cs ms (followed (is_byte c m) (begins_with cs ms) e) in omega arith
 
 pub at_default-requires : goal.at_default-requires
 at_default-requires c = long_enough (codes "DEFAULT=") c.args.marks.now (sym c.if-begins_with.ensures)

@@ -3,7 +3,7 @@ use Rattle.pass_replay.specs.dispatch_core.specs.Calls.{goes}
 use Rattle.pass_replay.specs.Held.{held_of}
 use Rattle.pass_replay.specs.Replay.{as_told}
 use Rattle.pass_replay.specs.Retold.{stacks_in, went_of}
-use Rattle.handler_chain.specs.Retell.{Seen, telling}
+use Rattle.handler_chain.specs.Retell.{RecordedLine, telling}
 use Rattle.session_audit.specs.Checked.{told_in}
 use Rattle.session_audit.specs.Differs.{lines_before}
 use Rattle.session_audit.specs.Fits.{visits_told, is_refused_change, running, same_code}
@@ -41,7 +41,7 @@ returns-then-is_retold c =
     let r = c.in_ok-retold.retold in
     let w = goes as_told stacks c.args.func h (telling vs) in
     let is : went_of told r ≡ w = c.in_ok-retold.ensures.goes
-    ∙ ap (λ (seen : List Seen). goes as_told stacks c.args.func h (telling seen)) (sym (visits_are told)) in
+    ∙ ap (λ (seen : List RecordedLine). goes as_told stacks c.args.func h (telling seen)) (sym (visits_are told)) in
     let goes_on = sym (call_goes stacks c.args.func c.args.code vs h refused other) in
     goes_on ∙ only_true (not r.astray && (eqb r.next (length told) && same_code c.args.code r.code)) (running (held_of r.held)) _
     (as_retold told r c.args.code w is c.in_ok-retold.ensures.next) (sym c.is_retold.ensures ∙ c.if-is_retold.true)
@@ -57,7 +57,7 @@ returns-else-is_retold c =
     let r = c.in_ok-retold.retold in
     let w = goes as_told stacks c.args.func h (telling vs) in
     let is : went_of told r ≡ w = c.in_ok-retold.ensures.goes
-    ∙ ap (λ (seen : List Seen). goes as_told stacks c.args.func h (telling seen)) (sym (visits_are told)) in
+    ∙ ap (λ (seen : List RecordedLine). goes as_told stacks c.args.func h (telling seen)) (sym (visits_are told)) in
     let goes_on = sym (call_goes stacks c.args.func c.args.code vs h refused other) in (
       goes_on ∙ only_false (not r.astray && (eqb r.next (length told) && same_code c.args.code r.code)) (running (held_of r.held)) _
           (as_retold told r c.args.code w is c.in_ok-retold.ensures.next) (sym c.is_retold.ensures ∙ c.if-is_retold.false),
