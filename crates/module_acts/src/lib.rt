@@ -22,7 +22,7 @@ mod work;
 mod work_module;
 
 pub use accounts::{ACCOUNT_LIMIT, Account, Accounts, read_shells};
-pub use arguments::has_argument;
+pub use arguments::{has_argument, short_number};
 pub use asked::WorkInput;
 pub use asking::{exchange, require_token, require_user};
 pub use changing::{answer_and_keep, request_delay, set_token};

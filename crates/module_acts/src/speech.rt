@@ -8,7 +8,7 @@ ghost use Rattle.module_acts.specs.Returns.{scene_of_parts};
 ghost use Rattle.module_acts.specs.OnlyTalks.{OnlyTalks};
 
 use conv_port::Conv;
-use pam_base::{ItemName, NoMemory, Refuse, Style, Text};
+use pam_base::{ItemName, MAX_TEXT, NoMemory, Refuse, Style, Text};
 use pam_room::{Transaction, first_bytes, get_item, send};
 use std::alloc::Global;
 
@@ -50,7 +50,7 @@ pub fn show(
     if text.is_empty() {
         return Ok(());
     }
-    let text = Text::from_bytes(alloc, first_bytes(text, 512))?;
+    let text = Text::from_bytes(alloc, first_bytes(text, MAX_TEXT))?;
     match send(alloc, transaction, conv, style, text) {
         Ok(_) => Ok(()),
         Err(Refuse::NoMemory) => Err(NoMemory),
