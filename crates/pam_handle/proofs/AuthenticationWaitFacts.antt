@@ -5,7 +5,7 @@ use Rattle.dispatch_core.specs.fail_delay.specs.Delay.{asked_delay}
 use Rattle.dispatch_core.specs.fail_delay.specs.Wait.{wait_of}
 use Rattle.dispatch_core.specs.pam_outside.specs.Time.{NapState}
 use Rattle.dispatch_core.specs.Pending.{Pending, pending_after}
-use Rattle.dispatch_core.specs.pam_room.specs.State.{PlainRoom, PlainWorld}
+use Rattle.dispatch_core.specs.pam_room.specs.State.{PlainWorld}
 use Rattle.dispatch_core.specs.handler_chain.specs.Route.{KeptAnswers}
 use Rattle.pam_base.specs.declared.code.Code.{Code}
 use Rattle.pam_base.specs.declared.call.Func.{Func}
@@ -13,9 +13,9 @@ use Rattle.pam_base.specs.declared.call.Func.TheVariants.{Authenticate}
 use Rattle.pam_base.specs.declared.fault.NoMemory.{NoMemory}
 use Rattle.pam_handle.specs.declared.wait.Wait.{Wait}
 use Rattle.pam_handle.specs.AnyWorld.{Waits, WaitsFor, WaitsOnlyAtEnd}
-use Rattle.pam_handle.specs.Call.{CallsAs, WaitsAfter, code_waited, random_taken_for, final_code, items_past, request_after, request_forgotten, rested_by, tokens_cleared, waited_by}
+use Rattle.pam_handle.specs.Call.{CallsAs, code_waited, random_taken_for, request_forgotten, rested_by, tokens_cleared, waited_by}
 use Rattle.pam_handle.specs.Handle.{PlainHandle}
-use Rattle.pam_handle.specs.StackCalls.{authenticated}
+use Rattle.pam_handle.specs.StackCalls.{ended}
 
 false_true : false ≡ true → ⊥
 false_true e = (cc)
@@ -26,33 +26,16 @@ tells_beside true b c e t = subst (λ (x : Bool). IsTrue x) (sym e) t
 tells_beside false b c e t = absurd (false_true t)
 
 -- after a pass that has ended
-waited_after : (number : Code → ℕ → ℕ) (code : Code) (h : PlainHandle) (w last : PlainWorld) (longest : ℕ) (waited : Option Wait)
+pub waited_after : (number : Code → ℕ → ℕ) (code : Code) (h : PlainHandle) (w last : PlainWorld) (longest : ℕ) (waited : Option Wait)
     → longest ≡ h.room.transaction.delay
     → (waited ≡ waited_by code (asked_delay longest w.clock.word) (wait_of h.delay_on number code (asked_delay longest w.clock.word)) h.waited)
     × (last ≡ rested_by (wait_of h.delay_on number code (asked_delay longest w.clock.word)) (random_taken_for longest w))
-    → CallsAs (authenticated number None code h w) code (record (request_forgotten (tokens_cleared h)) { waited = waited }) last
+    → CallsAs (ended number Authenticate code h w) code (record (request_forgotten (tokens_cleared h)) { waited = waited }) last
 waited_after number code h w last longest waited l e = record {
   code_is = refl;
   handle_is = ap (λ (o : Option Wait). record (request_forgotten (tokens_cleared h)) { waited = o }) (e.0
       ∙ ap (λ (n : ℕ). waited_by code (asked_delay n w.clock.word) (wait_of h.delay_on number code (asked_delay n w.clock.word)) h.waited) l);
   world_is = e.1 ∙ ap (λ (n : ℕ). rested_by (wait_of h.delay_on number code (asked_delay n w.clock.word)) (random_taken_for n w)) l;
-}
-
--- the room after an authentication
-abbrev room_past : Option (List Code) → PlainRoom → PlainRoom
-room_past paused r = request_after paused (record r { transaction = record r.transaction { items = items_past paused r.transaction.items } })
-
--- after a pass, incomplete or not
-pub authenticated_is : (number : Code → ℕ → ℕ) (paused : Option (List Code)) (code : Code) (h : PlainHandle) (kept : Option KeptAnswers) (pending : Option Pending) (room : PlainRoom) (world last : PlainWorld) (longest : ℕ) (waited : Option Wait)
-    → longest ≡ room.transaction.delay
-    → WaitsAfter number (final_code paused (Ok code)) longest h.delay_on h.waited world waited last
-    → CallsAs (authenticated number paused code (record h { room = room; authenticated = kept; pending = pending }) world) code
-    (record h { room = room_past paused room; authenticated = kept; pending = pending; waited = waited }) last
-authenticated_is number None code h kept pending room world last longest waited l e = waited_after number code (record h { room = room; authenticated = kept; pending = pending }) world last longest waited l e
-authenticated_is number (Some past) code h kept pending room world last longest waited l e = record {
-  code_is = refl;
-  handle_is = ap (λ (o : Option Wait). record h { room = room; authenticated = kept; pending = pending; waited = o }) e.0;
-  world_is = e.1;
 }
 
 -- a call that hasn't ended, or that doesn't wait, leaves the record of the last wait

@@ -17,8 +17,8 @@ use Rattle.dispatch_core.specs.handler_chain.specs.Route.{KeptAnswers}
 use Rattle.pam_handle.specs.Around.{Around}
 use Rattle.pam_handle.specs.Pass.{PassesTo, kept_answers}
 use Rattle.pam_handle.specs.Passes.{is_followed, is_second, kind_of, stack_at, stack_type}
-use Rattle.pam_handle.specs.StackCalls.{asking_by, flags_seen}
-use Rattle.pam_handle.specs.Stopping.{PassedNothing, Passing, Stops, StopsIn, StopsInChange, StopsInUpdate, StopsLater, first_kept, passing, room_begun, room_failed}
+use Rattle.pam_handle.specs.StackCalls.{asking_by, flags_seen, room_begun}
+use Rattle.pam_handle.specs.Stopping.{PassedNothing, Passing, Stops, StopsIn, StopsInChange, StopsInUpdate, StopsLater, first_kept, passing, room_failed}
 use Rattle.pam_handle.proofs.AllPassesFacts.{followed}
 
 false_true : false ≡ true → ⊥

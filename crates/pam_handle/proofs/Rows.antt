@@ -14,7 +14,7 @@ use Rattle.item_store.specs.Items.{text_of, with_text}
 use Rattle.pam_base.specs.declared.code.Code.{Code}
 use Rattle.pam_base.specs.declared.code.Code.TheVariants as returns
 use Rattle.pam_base.specs.declared.call.Func.{Func}
-use Rattle.pam_base.specs.declared.call.Func.TheVariants.{Authenticate, SetCred, CloseSession}
+use Rattle.pam_base.specs.declared.call.Func.TheVariants.{Authenticate, SetCred, OpenSession, CloseSession, ChAuthTok}
 use Rattle.pam_base.specs.declared.item.ItemName.TheVariants.{Tty, User}
 use Rattle.pam_base.specs.declared.style.Style.TheVariants.{EchoOn}
 use Rattle.data_cleanup.specs.declared.receipt.Filed.{Filed}
@@ -33,7 +33,7 @@ use Rattle.pam_handle.specs.Call.{Called}
 use Rattle.pam_handle.specs.End.{world_after_end}
 use Rattle.pam_handle.specs.Items.{all_told, missing_from, with_delay_function, with_environment, with_items, with_request}
 use Rattle.pam_handle.specs.Start.{new_handle}
-use Rattle.pam_handle.specs.StackCalls.{authenticate, chauthtok, close_session, open_session, setcred}
+use Rattle.pam_handle.specs.StackCalls.{stack_call}
 
 -- ---- modules
 
@@ -82,6 +82,9 @@ world word = world_of (record { files = []; locks = no_locks; calls = 0; fails =
 abbrev three_seconds : Code → ℕ → ℕ
 three_seconds code asked = min asked 3000000
 
+abbrev calls : List Player → Func → ℕ → PlainHandle → PlainWorld → Called
+calls players func flags h w = stack_call players three_seconds func flags h w
+
 -- the codes of the lines that were run
 abbrev answers_of : Called → List Code
 answers_of c = map (λ (v : Visit). v.answer) c.handle.room.transaction.trail
@@ -109,7 +112,7 @@ abbrev sufficient_first : PlainHandle
 sufficient_first = started_with two [] (stacks (line (by (codes "a.so") sufficient) (line (by (codes "b.so") required) none)) none none)
 
 abbrev first_authenticated : Called
-first_authenticated = authenticate two three_seconds 0 sufficient_first (world 0)
+first_authenticated = calls two Authenticate 0 sufficient_first (world 0)
 
 first_authenticated-code : first_authenticated.code ≡ returns.Success
 first_authenticated-code = refl
@@ -117,10 +120,10 @@ first_authenticated-code = refl
 first_authenticated-places : places_of first_authenticated ≡ 1 ∷ []
 first_authenticated-places = refl
 
-first_credentials-code : (setcred two 2 (told first_authenticated) (world 0)).code ≡ returns.CredErr
+first_credentials-code : (calls two SetCred 2 (told first_authenticated) (world 0)).code ≡ returns.CredErr
 first_credentials-code = refl
 
-first_credentials-places : places_of (setcred two 2 (told first_authenticated) (world 0)) ≡ 1 ∷ []
+first_credentials-places : places_of (calls two SetCred 2 (told first_authenticated) (world 0)) ≡ 1 ∷ []
 first_credentials-places = refl
 
 -- without an authentication nothing is cached, and the flags 0 are PAM_ESTABLISH_CRED
@@ -128,12 +131,12 @@ abbrev unavailable : Func → Bool → Code
 unavailable func first = returns.CredUnavail
 
 abbrev loose : Called
-loose = setcred (player (codes "a") (answers unavailable) ∷ []) 0 (started_with (player (codes "a") (answers unavailable) ∷ []) [] (stacks (line (by (codes "a") required) none) none none)) (world 0)
+loose = calls (player (codes "a") (answers unavailable) ∷ []) SetCred 0 (started_with (player (codes "a") (answers unavailable) ∷ []) [] (stacks (line (by (codes "a") required) none) none none)) (world 0)
 
 loose-code : loose.code ≡ returns.CredUnavail
 loose-code = refl
 
-loose_again-code : (setcred (player (codes "a") (answers unavailable) ∷ []) 0 loose.handle (world 0)).code ≡ returns.CredUnavail
+loose_again-code : (calls (player (codes "a") (answers unavailable) ∷ []) SetCred 0 loose.handle (world 0)).code ≡ returns.CredUnavail
 loose_again-code = refl
 
 -- a jump that was taken is taken again
@@ -141,15 +144,15 @@ abbrev jumps : PlainHandle
 jumps = started_with two [] (stacks (line (by (codes "a") (usual (actions.Jump 1) actions.Ignore actions.Ignore)) (line (by (codes "b") required) (line (by (codes "b") required) none))) none none)
 
 abbrev jumped : Called
-jumped = authenticate two three_seconds 0 jumps (world 0)
+jumped = calls two Authenticate 0 jumps (world 0)
 
 jumped-places : places_of jumped ≡ 1 ∷ 3 ∷ []
 jumped-places = refl
 
-jumped_credentials-code : (setcred two 2 (told jumped) (world 0)).code ≡ returns.CredErr
+jumped_credentials-code : (calls two SetCred 2 (told jumped) (world 0)).code ≡ returns.CredErr
 jumped_credentials-code = refl
 
-jumped_credentials-places : places_of (setcred two 2 (told jumped) (world 0)) ≡ 1 ∷ 3 ∷ []
+jumped_credentials-places : places_of (calls two SetCred 2 (told jumped) (world 0)) ≡ 1 ∷ 3 ∷ []
 jumped_credentials-places = refl
 
 -- a present IGNORE doesn't count, even if the cached code ends the list
@@ -161,12 +164,12 @@ abbrev ignoring : List Player
 ignoring = player (codes "a") (answers ignores) ∷ player (codes "b") (answers succeeds) ∷ []
 
 abbrev ignored : Called
-ignored = authenticate ignoring three_seconds 0 (started_with ignoring [] (stacks (line (by (codes "a") sufficient) (line (by (codes "b") required) none)) none none)) (world 0)
+ignored = calls ignoring Authenticate 0 (started_with ignoring [] (stacks (line (by (codes "a") sufficient) (line (by (codes "b") required) none)) none none)) (world 0)
 
-ignored_credentials-code : (setcred ignoring 2 (told ignored) (world 0)).code ≡ returns.PermDenied
+ignored_credentials-code : (calls ignoring SetCred 2 (told ignored) (world 0)).code ≡ returns.PermDenied
 ignored_credentials-code = refl
 
-ignored_credentials-answers : answers_of (setcred ignoring 2 (told ignored) (world 0)) ≡ returns.Ignore ∷ []
+ignored_credentials-answers : answers_of (calls ignoring SetCred 2 (told ignored) (world 0)) ≡ returns.Ignore ∷ []
 ignored_credentials-answers = refl
 
 -- ---- sessions
@@ -182,18 +185,18 @@ abbrev session : PlainHandle
 session = started_with session_player [] (stacks none none (line (by (codes "a") optional) none))
 
 abbrev session_opened : Called
-session_opened = open_session session_player 0 session (world 0)
+session_opened = calls session_player OpenSession 0 session (world 0)
 
 session_opened-code : session_opened.code ≡ returns.Success
 session_opened-code = refl
 
-session_closed-code : (close_session session_player 0 (told session_opened) (world 0)).code ≡ returns.SessionErr
+session_closed-code : (calls session_player CloseSession 0 (told session_opened) (world 0)).code ≡ returns.SessionErr
 session_closed-code = refl
 
-session_closed_again-code : (close_session session_player 0 (told (close_session session_player 0 (told session_opened) (world 0))) (world 0)).code ≡ returns.SessionErr
+session_closed_again-code : (calls session_player CloseSession 0 (told (calls session_player CloseSession 0 (told session_opened) (world 0))) (world 0)).code ≡ returns.SessionErr
 session_closed_again-code = refl
 
-never_opened-code : (close_session session_player 0 session (world 0)).code ≡ returns.PermDenied
+never_opened-code : (calls session_player CloseSession 0 session (world 0)).code ≡ returns.PermDenied
 never_opened-code = refl
 
 -- ---- a change of token
@@ -203,7 +206,7 @@ tries_again func true = returns.TryAgain
 tries_again func false = returns.Success
 
 abbrev changes : (Func → Bool → Code) → ℕ → Called
-changes f flags = chauthtok (player (codes "a") (answers f) ∷ []) flags (started_with (player (codes "a") (answers f) ∷ []) [] (stacks none (line (by (codes "a") required) none) none)) (world 0)
+changes f flags = calls (player (codes "a") (answers f) ∷ []) ChAuthTok flags (started_with (player (codes "a") (answers f) ∷ []) [] (stacks none (line (by (codes "a") required) none) none)) (world 0)
 
 checked-code : (changes tries_again 0).code ≡ returns.TryAgain
 checked-code = refl
@@ -232,7 +235,7 @@ abbrev receipts : PlainWorld → List Receipt
 receipts w = map (λ (f : Filed). f.receipt) w.process.ledger.filed
 
 abbrev with_data : List NamedData → Called
-with_data ds = authenticate (player (codes "a") (sets ds) ∷ []) three_seconds 0 (started_with (player (codes "a") (sets ds) ∷ []) [] (stacks (line (by (codes "a") required) none) none none)) (world 0)
+with_data ds = calls (player (codes "a") (sets ds) ∷ []) Authenticate 0 (started_with (player (codes "a") (sets ds) ∷ []) [] (stacks (line (by (codes "a") required) none) none none)) (world 0)
 
 abbrev end_of : List NamedData → ℕ → PlainWorld
 end_of ds status = world_after_end (notes_of (player (codes "a") (sets ds) ∷ [])) status (with_data ds).handle (with_data ds).world
@@ -287,7 +290,7 @@ abbrev denying : PlainHandle
 denying = started_with (player (codes "a") (answers denies) ∷ []) [] (stacks (line (by (codes "a") required) none) none none)
 
 abbrev denied : PlainHandle → ℕ → Called
-denied h word = authenticate (player (codes "a") (answers denies) ∷ []) three_seconds 0 h (world word)
+denied h word = calls (player (codes "a") (answers denies) ∷ []) Authenticate 0 h (world word)
 
 abbrev wait : ℕ → ℕ → Wait
 wait asked n = record { code = returns.AuthErr; asked = asked; wait = n }
@@ -321,7 +324,7 @@ abbrev asking : List Player
 asking = player (codes "a") (sets_and_asks (datum (codes "a") (codes "x") ∷ [])) ∷ []
 
 abbrev put_off : Called
-put_off = authenticate asking three_seconds 0 (started_with asking (Later ∷ Answer (codes "y") ∷ []) (stacks (line (by (codes "a") required) none) none none)) (world 0)
+put_off = calls asking Authenticate 0 (started_with asking (Later ∷ Answer (codes "y") ∷ []) (stacks (line (by (codes "a") required) none) none none)) (world 0)
 
 put_off-code : put_off.code ≡ returns.Incomplete
 put_off-code = refl
@@ -336,15 +339,15 @@ put_off-ended : receipts (world_after_end (notes_of asking) 5 put_off.handle put
 put_off-ended = refl
 
 -- another call is aborted, and nothing changes
-aborted-code : (setcred asking 2 put_off.handle put_off.world).code ≡ returns.Abort
+aborted-code : (calls asking SetCred 2 put_off.handle put_off.world).code ≡ returns.Abort
 aborted-code = refl
 
-aborted-handle : (setcred asking 2 put_off.handle put_off.world).handle ≡ put_off.handle
+aborted-handle : (calls asking SetCred 2 put_off.handle put_off.world).handle ≡ put_off.handle
 aborted-handle = refl
 
 -- it is resumed, and ends
 abbrev gone_on : Called
-gone_on = authenticate asking three_seconds 0 put_off.handle put_off.world
+gone_on = calls asking Authenticate 0 put_off.handle put_off.world
 
 gone_on-code : gone_on.code ≡ returns.Success
 gone_on-code = refl
@@ -360,12 +363,12 @@ abbrev never : List Player
 never = player (codes "a") (answers incomplete) ∷ []
 
 abbrev never_done : Called
-never_done = authenticate never three_seconds 0 (started_with never [] (stacks (line (by (codes "a") required) none) none none)) (world 0)
+never_done = calls never Authenticate 0 (started_with never [] (stacks (line (by (codes "a") required) none) none none)) (world 0)
 
 never_done-code : never_done.code ≡ returns.Incomplete
 never_done-code = refl
 
-never_done_again-code : (authenticate never three_seconds 0 never_done.handle (world 0)).code ≡ returns.Incomplete
+never_done_again-code : (calls never Authenticate 0 never_done.handle (world 0)).code ≡ returns.Incomplete
 never_done_again-code = refl
 
 -- ---- missing modules

@@ -5,7 +5,7 @@ use Rattle.std.specs.Option.{option_map}
 use Rattle.item_store.specs.Items.{ItemTexts}
 use Rattle.pam_base.specs.declared.code.Code.{Code}
 use Rattle.pam_base.specs.declared.call.Func.{Func}
-use Rattle.pam_base.specs.declared.call.Func.TheVariants.{Authenticate, SetCred, AcctMgmt, OpenSession, CloseSession, ChAuthTok}
+use Rattle.pam_base.specs.declared.call.Func.TheVariants.{Authenticate, ChAuthTok}
 use Rattle.pam_base.specs.declared.fault.NoMemory.{NoMemory}
 use Rattle.pam_handle.specs.AnyWorld.{AreUnset, BeginsUnset}
 use Rattle.pam_handle.specs.Call.{clears_tokens, code_waited, items_after, items_before}

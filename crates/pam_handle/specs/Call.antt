@@ -12,7 +12,7 @@ use Rattle.dispatch_core.specs.fail_delay.specs.Wait.{wait_of}
 use Rattle.dispatch_core.specs.pam_outside.specs.Time.{NapState, random_taken, rested}
 use Rattle.dispatch_core.specs.pam_room.specs.State.{PlainRoom, PlainWorld}
 use Rattle.pam_handle.specs.declared.wait.Wait.{Wait}
-use Rattle.dispatch_core.specs.Pending.{Pending, same_func}
+use Rattle.dispatch_core.specs.Pending.{Pending}
 use Rattle.pam_handle.specs.Handle.{PlainHandle, in_room}
 
 -- the code that a call returns, and the transaction and the world after it
@@ -33,10 +33,13 @@ pub record CallsAs (c : Called) (code : Code) (handle : PlainHandle) (world : Pl
 
 -- ---- the room
 
+-- the room with these items
+abbrev pub room_with : ItemTexts → PlainRoom → PlainRoom
+room_with items r = record r { transaction = record r.transaction { items = items } }
+
 -- the room with both tokens unset
 abbrev pub without_its_tokens : PlainRoom → PlainRoom
-without_its_tokens r =
-    record r { transaction = record r.transaction { items = without_tokens r.transaction.items } }
+without_its_tokens r = room_with (without_tokens r.transaction.items) r
 
 -- the room with no requested delay
 abbrev pub without_request : PlainRoom → PlainRoom
@@ -49,13 +52,6 @@ abbrev pub request_forgotten : PlainHandle → PlainHandle
 request_forgotten h = in_room (without_request h.room) h
 
 -- ---- incomplete calls
-
--- The call of a function: if another call is pending, it is aborted and nothing changes; if this call is pending, it is
--- resumed with the codes it has; else it begins.
-abbrev pub begun_or_going_on : Option Pending → Func → Called → Called → (Pending → Called) → Called
-begun_or_going_on None func aborted begins goes_on = begins
-begun_or_going_on (Some p) func aborted begins goes_on = if same_func p.func func then goes_on p
-    else aborted
 
 -- the items when a call that clears the tokens begins or is resumed: it clears them if it begins
 abbrev pub items_begun : Option Pending → ItemTexts → ItemTexts

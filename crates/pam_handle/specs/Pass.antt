@@ -9,8 +9,7 @@ use Rattle.dispatch_core.specs.handler_chain.specs.Route.{KeptAnswers}
 use Rattle.dispatch_core.specs.handler_chain.specs.Pass.{pass_after}
 use Rattle.dispatch_core.specs.Lines.{answers_by}
 use Rattle.dispatch_core.specs.Passes.{by_place}
-use Rattle.dispatch_core.specs.Calls as calls
-use Rattle.dispatch_core.specs.Calls.{answers_held, passed_by}
+use Rattle.dispatch_core.specs.Calls.{Passed, answers_held, passed_by}
 use Rattle.dispatch_core.specs.pam_room.specs.State.{State}
 use Rattle.dispatch_core.specs.pam_room.specs.Module.{Player}
 
@@ -18,20 +17,15 @@ use Rattle.dispatch_core.specs.pam_room.specs.Module.{Player}
 abbrev pub kept_answers : Answers → Option KeptAnswers
 kept_answers cells = if is_some cells then Some (by_place cells) else None
 
--- the code of a pass, the codes that are cached after it, its codes so far if it is incomplete, and
--- the room and world after it
-abbrev pub Passed : Type 0
-Passed = calls.Passed State
-
 -- a pass of a kind over a stack, with cached codes, and with the codes of its earlier calls
 abbrev pub passed : List Player → Func → ℕ → PassKind → Option KeptAnswers → Stack → List Code
-    → State → Passed
+    → State → Passed State
 passed players func flags kind kept stack past s =
     passed_by kind kept (pass_after kind (answers_held kept) (answers_by players func flags) stack
     past s)
 
 -- a code, the cached codes, the codes to resume with, and a state are those of a pass
-pub record PassesTo {T : Type 0} (p : calls.Passed T) (code : Code) (kept : Option KeptAnswers)
+pub record PassesTo {T : Type 0} (p : Passed T) (code : Code) (kept : Option KeptAnswers)
     (paused : Option (List Code)) (state : T) : Type 0 where
   pub code_is : code ≡ p.code
   pub kept_is : kept ≡ p.kept

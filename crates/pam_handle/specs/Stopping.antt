@@ -15,24 +15,11 @@ use Rattle.dispatch_core.specs.Pending.{first_in, past_in}
 use Rattle.dispatch_core.specs.pam_room.specs.Module.{Player, notes_of}
 use Rattle.dispatch_core.specs.pam_room.specs.State.{PlainRoom, State, state_of}
 use Rattle.pam_handle.specs.Around.{Around, all_tell, state_in}
-use Rattle.pam_handle.specs.Handle.{PlainHandle}
-use Rattle.pam_handle.specs.Call.{items_begun, without_its_tokens, without_request}
+use Rattle.pam_handle.specs.Call.{without_its_tokens, without_request}
 use Rattle.pam_handle.specs.Pass.{PassesTo, passed}
-use Rattle.pam_handle.specs.StackCalls.{flags_seen, held_in}
+use Rattle.pam_handle.specs.StackCalls.{flags_seen, held_in, room_begun}
 
--- ---- the room in which a call begins
-
--- a call that clears the tokens clears them if it begins
-abbrev pub with_items_begun : PlainHandle → PlainRoom
-with_items_begun h = record h.room {
-  transaction = record h.room.transaction
-      { items = items_begun h.pending h.room.transaction.items };
-}
-
-abbrev pub room_begun : Func → PlainHandle → PlainRoom
-room_begun Authenticate h = with_items_begun h
-room_begun ChAuthTok h = with_items_begun h
-room_begun func h = h.room
+-- ---- the room in which a call ends
 
 -- if memory runs out, the requested delay is dropped, and a call that clears the tokens clears them
 abbrev pub room_failed : Func → PlainRoom → PlainRoom

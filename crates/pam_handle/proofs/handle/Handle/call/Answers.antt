@@ -5,13 +5,13 @@ use Rattle.pam_base.specs.declared.code.Code.TheVariants.{Abort, SystemErr}
 use Rattle.dispatch_core.specs.Pending.{first_in, past_in, pending_after}
 use Rattle.dispatch_core.specs.pam_room.specs.Module.{notes_of, player_of}
 use Rattle.dispatch_core.specs.pam_room.specs.Plain.{plain_room, plain_world}
-use Rattle.pam_handle.specs.Call.{request_after}
+use Rattle.pam_handle.specs.Call.{request_after, room_with}
 use Rattle.pam_handle.specs.Handle.{PlainHandle}
 use Rattle.pam_handle.specs.Pass.{kept_answers}
 use Rattle.pam_handle.specs.Plain.{pending_of, plain_handle}
 use Rattle.pam_handle.specs.StackCalls.{held_in}
 use Rattle.pam_handle.specs.declared.put_off.PutOff.{PutOff}
-use Rattle.pam_handle.proofs.StackCallFacts.{call_aborted, call_refused, fails_as, leaves_others, leaves_pending, leaves_same, not_false, not_refused, room_end, room_start, room_with, runs_soundly, same_call, stops_room, told_as, trail_left}
+use Rattle.pam_handle.proofs.StackCallFacts.{call_aborted, call_refused, fails_as, leaves_others, leaves_pending, leaves_same, not_false, not_refused, room_end, room_start, runs_soundly, same_call, stops_room, told_as, trail_left}
 use Rattle.pam_handle.proofs.OutOfMemoryFacts.{on_err_from, stops_call}
 use Rattle.pam_handle.proofs.Tokens.{begins_unset, ends_unset}
 use Rattle.pam_handle.proofs.CallTraceFacts.{called_by_trail}
@@ -30,7 +30,7 @@ returns-then-is_refused g c =
     record {
       tells = refl;
       world_tells = refl;
-      told = λ number is told. same_call _ _ _ SystemErr (call_refused _ number c.args.flags c.args.func _ _ refused);
+      told = λ number is told. same_call _ _ _ SystemErr (call_refused _ number c.args.func c.args.flags _ _ refused);
       refused = λ e. (refl, refl, refl);
       aborted = λ free. absurd (not_false _ refused free);
       left = λ free. absurd (not_false _ refused free);
@@ -51,7 +51,7 @@ returns-then-is_other_pending g c =
     record {
       tells = refl;
       world_tells = refl;
-      told = λ number is told. same_call _ _ _ Abort (call_aborted _ number c.args.flags c.args.func _ _ free other);
+      told = λ number is told. same_call _ _ _ Abort (call_aborted _ number c.args.func c.args.flags _ _ free other);
       refused = λ e. absurd (not_false _ e free);
       aborted = λ e f. (refl, refl, refl);
       left = λ e f. absurd (not_false _ other f);
