@@ -11,3 +11,5 @@ mod Rows
 mod AuthenticationWaitFacts
 mod Tokens
 mod StackCallFacts
+mod AfterPassesFacts
+pub mod EachPassFacts

@@ -21,3 +21,4 @@ pub mod Stopping
 pub mod Trail
 pub mod Passes
 pub mod StackCalled
+pub mod AfterPasses

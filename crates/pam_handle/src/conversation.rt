@@ -26,9 +26,10 @@ impl Handle {
     pub fn offer(&mut self, alloc: Global, text: &[u8]) -> Result<(), NoMemory>
         requires { length text.now ≤ MAX_TEXT }
         ensures tells { Keeps ⟦<Room as RoomTold>⟧.tells (room_in self.old) (room_in self.new) }
-        ensures told { let plain = plain_handle ⟦<Room as RoomTold>⟧.plain in
-            IsTrue (⟦<Room as RoomTold>⟧.tells (room_in self.old)) →
-            TakesOffer result text.now (plain self.old).room.conv (plain self.new).room.conv }
+        ensures told { let seen = ⟦<Room as RoomTold>⟧ in
+            IsTrue (seen.tells (room_in self.old)) →
+            TakesOffer result text.now (seen.plain (room_in self.old)).conv
+            (seen.plain (room_in self.new)).conv }
         ensures others { let plain = plain_handle ⟦<Room as RoomTold>⟧.plain in
             plain self.new ≡ with_conversation (plain self.new).room.conv (plain self.old) }
         ensures faults { conv_faults (in_box (room_in self.new).conv)

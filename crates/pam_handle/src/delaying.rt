@@ -29,14 +29,14 @@ fn wait(
 )
     requires { longest ≤ LONGEST_REQUEST }
     ensures tells { Keeps ⟦<World as WorldTold>⟧.tells world.old world.new }
-    ensures told { let plain = ⟦<World as WorldTold>⟧.plain in
+    ensures told { let seen = ⟦<World as WorldTold>⟧ in
         (number : Code → ℕ → ℕ) → ⟦<DelayFn as DelayTold>⟧.delay_is gear.now.delay number →
-        IsTrue (⟦<World as WorldTold>⟧.tells world.old) →
-        (let asked = asked_delay longest (plain world.old).clock.word in
+        IsTrue (seen.tells world.old) →
+        (let asked = asked_delay longest (seen.plain world.old).clock.word in
         (waited.new ≡ waited_by ended.entry.code asked
         (wait_of delay_on number ended.entry.code asked) waited.old)
-        × (plain world.new ≡ rested_by (wait_of delay_on number ended.entry.code asked)
-        (random_taken_for longest (plain world.old)))) }
+        × (seen.plain world.new ≡ rested_by (wait_of delay_on number ended.entry.code asked)
+        (random_taken_for longest (seen.plain world.old)))) }
     ensures sound { WaitsFor ended.entry.code delay_on waited.old waited.new
         (nap_tells (in_box world.old.nap)) (nap_holds (in_box world.old.nap))
         (nap_holds (in_box world.new.nap)) }
@@ -64,11 +64,11 @@ pub(crate) fn sleep_after(
     requires longest { longest ≤ LONGEST_REQUEST }
     requires unset { IfSome code (λ _. AreUnset items.now) }
     ensures tells { Keeps ⟦<World as WorldTold>⟧.tells world.old world.new }
-    ensures told { let plain = ⟦<World as WorldTold>⟧.plain in
+    ensures told { let seen = ⟦<World as WorldTold>⟧ in
         (number : Code → ℕ → ℕ) → ⟦<DelayFn as DelayTold>⟧.delay_is gear.now.delay number →
-        IsTrue (⟦<World as WorldTold>⟧.tells world.old) →
-        WaitsAfter number code longest delay_on waited.old (plain world.old) waited.new
-        (plain world.new) }
+        IsTrue (seen.tells world.old) →
+        WaitsAfter number code longest delay_on waited.old (seen.plain world.old) waited.new
+        (seen.plain world.new) }
     ensures sound { WaitsOnlyAtEnd code delay_on waited.old waited.new
         (nap_tells (in_box world.old.nap)) (nap_holds (in_box world.old.nap))
         (nap_holds (in_box world.new.nap)) }
@@ -91,11 +91,10 @@ pub(crate) fn sleep_after(
 fn asked_of(longest: u32, world: &mut World) -> u32
     requires { longest ≤ LONGEST_REQUEST }
     ensures tells { Keeps ⟦<World as WorldTold>⟧.tells world.old world.new }
-    ensures told { IsTrue (⟦<World as WorldTold>⟧.tells world.old) →
-        result ≡ asked_delay longest (⟦<World as WorldTold>⟧.plain world.old).clock.word }
-    ensures random_taken { let plain = ⟦<World as WorldTold>⟧.plain in
-        IsTrue (⟦<World as WorldTold>⟧.tells world.old) →
-        plain world.new ≡ random_taken_for longest (plain world.old) }
+    ensures told { let seen = ⟦<World as WorldTold>⟧ in IsTrue (seen.tells world.old) →
+        result ≡ asked_delay longest (seen.plain world.old).clock.word }
+    ensures random_taken { let seen = ⟦<World as WorldTold>⟧ in IsTrue (seen.tells world.old) →
+        seen.plain world.new ≡ random_taken_for longest (seen.plain world.old) }
     ensures bound { result ≤ LONGEST_ASKED }
     ensures nap { world.new.nap ≡ world.old.nap }
     ensures process { world.new.process ≡ world.old.process }
@@ -125,9 +124,9 @@ fn wait_by(gear: &Gear, delay_on: bool, code: Code, asked: u32) -> Option<u32>
 
 fn rest_for(world: &mut World, wait: u32)
     ensures tells { Keeps ⟦<World as WorldTold>⟧.tells world.old world.new }
-    ensures told { let plain = ⟦<World as WorldTold>⟧.plain in
-        IsTrue (⟦<World as WorldTold>⟧.tells world.old) →
-        plain world.new ≡ rested_by (Some wait) (plain world.old) }
+    ensures told { let seen = ⟦<World as WorldTold>⟧ in
+        IsTrue (seen.tells world.old) →
+        seen.plain world.new ≡ rested_by (Some wait) (seen.plain world.old) }
     ensures slept { IsTrue (nap_tells (in_box world.old.nap)) → nap_holds (in_box world.new.nap)
         ≡ nap_after (Some wait) (nap_holds (in_box world.old.nap)) }
     ensures process { world.new.process ≡ world.old.process }

@@ -19,6 +19,7 @@ mod flags;
 mod gear;
 mod handle;
 mod items;
+pub mod laws;
 mod missing;
 mod pass;
 mod pending;

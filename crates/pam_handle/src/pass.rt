@@ -41,9 +41,8 @@ impl Handle {
             (room_in self.new) world.old world.new) }
         ensures gives { PassGives request kept.old kept.new (past_of paused.old) paused.new result
             (⟦<Calls as CallTold>⟧.around gear.now self.old self.new world.old world.new) }
-        ensures others { let plain = plain_handle ⟦<Room as RoomTold>⟧.plain in
-            plain self.new
-            ≡ in_room (⟦<Room as RoomTold>⟧.plain (room_in self.new)) (plain self.old) }
+        ensures others { let a = ⟦<Calls as CallTold>⟧.around gear.now self.old self.new world.old world.new in
+            a.new.handle ≡ in_room a.new.handle.room a.old.handle }
     {
         let chain = self.chains.by_type.of_mut(stack_type(request.func));
         let room = &mut self.room;

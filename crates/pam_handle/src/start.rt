@@ -62,10 +62,10 @@ impl Handle {
         ensures calls { let plain = ⟦<World as WorldTold>⟧.plain in
             IsTrue (vault_tells (in_box world.old.vault)) →
             OnlyCalls (plain world.old).vault (plain world.new).vault }
-        ensures fresh { let plain = plain_handle ⟦<Room as RoomTold>⟧.plain in
-            IfOk result (λ handle. plain handle
-            ≡ new_handle number service.now (option_copied user.entry) (conv_holds conv)
-            (names_of (⟦<Gear as GearTold>⟧.players gear.now)) (plain handle).stacks) }
+        ensures fresh { IfOk result (λ handle.
+            let seen = ⟦<Calls as CallTold>⟧.seen gear.now handle world.new in
+            seen.handle ≡ new_handle number service.now (option_copied user.entry) (conv_holds conv)
+            (names_of seen.players) seen.handle.stacks) }
         ensures ready { IfOk result (λ handle.
             IsReady (⟦<Calls as CallTold>⟧.seen gear.now handle world.new)) }
         ensures others { world.new ≡ record world.old { vault = world.new.vault } }
