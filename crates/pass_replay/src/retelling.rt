@@ -1,10 +1,8 @@
 ghost use Rattle.std.specs.Prelude.{◌≡◌, ◌≤◌, ◌-◌, IfOk, List, None, Option, drop, false, length};
-ghost use Rattle.control_words.specs.Stack.{lines_in, stack_of};
-ghost use Rattle.dispatch_core.specs.Calls as calls;
-ghost use Rattle.dispatch_core.specs.Calls.{change, check, first_kept, first_stack, following, goes, held_past, kind_of, one_pass, passes, update, went};
+ghost use Rattle.dispatch_core.specs.Calls.{change, check, first_stack, goes, held_past, kind_of, one_pass, passes, update, went};
 ghost use Rattle.dispatch_core.specs.Pending.{first_in, past_in, pending_after};
 ghost use Rattle.dispatch_core.specs.service_load.specs.Load.{AreBounded};
-ghost use Rattle.handler_chain.specs.Retell.{Telling, telling};
+ghost use Rattle.handler_chain.specs.Retell.{telling};
 ghost use Rattle.handler_chain.specs.declared.seen.RecordedLine.{RecordedLine};
 ghost use Rattle.pass_replay.specs.Held.{held_of, pending_of};
 ghost use Rattle.pass_replay.specs.Kept.{kept_answers};
@@ -14,12 +12,12 @@ ghost use Rattle.pass_replay.specs.Retold.{held_after, stacks_in, went_of};
 ghost use Rattle.pass_replay.specs.Told.{lines_before, telling_from, visits_in};
 
 use crate::answers::Answers;
+use crate::by_call::{held_after, kind_of, stack_for, take_cached};
 use crate::held::{Held, Pending};
 use crate::pass::pass;
 use crate::passed::Passed;
 use crate::retold::Retold;
 use crate::told::first_left;
-use control_words::Nodes;
 use dispatch_core::service_load::Trees;
 use handler_chain::{PassKind, RecordedLine};
 use pam_base::{Code, Func, NoMemory, Sequence};
@@ -69,14 +67,10 @@ fn call(source: &Source, func: Func, held: Held) -> Result<Retold, NoMemory>
 {
     let mut held = held;
     let (past, first) = resumed_from(source.alloc, held.pending.take());
-    match func {
-        Func::ChAuthTok => change(source, &past, first, held),
-        Func::Authenticate
-        | Func::SetCred
-        | Func::AcctMgmt
-        | Func::OpenSession
-        | Func::CloseSession => one_pass(source, func, &past, held),
+    if func != Func::ChAuthTok {
+        return one_pass(source, func, &past, held);
     }
+    change(source, &past, first, held)
 }
 
 // The codes of the pending call, and those of the first pass of chauthtok.
@@ -87,28 +81,6 @@ fn resumed_from(alloc: Global, pending: Option<Pending>) -> (Sequence<Code>, Opt
     match pending {
         Some(pending) => (pending.past, pending.first),
         None => (Sequence::new(alloc), None),
-    }
-}
-
-// The kind of a call's first pass: setcred and close_session use cached codes, if any are held.
-fn kind_of(func: Func, kept: &Option<Answers>) -> PassKind
-    ensures { result ≡ kind_of func (kept_answers kept.now) }
-{
-    match func {
-        Func::SetCred | Func::CloseSession => following(kept),
-        Func::Authenticate | Func::AcctMgmt | Func::OpenSession | Func::ChAuthTok => {
-            PassKind::Keep
-        }
-    }
-}
-
-// A pass by cached codes, if any are held.
-fn following(kept: &Option<Answers>) -> PassKind
-    ensures { result ≡ following (kept_answers kept.now) }
-{
-    match kept {
-        Some(_) => PassKind::Follow,
-        None => PassKind::Loose,
     }
 }
 
@@ -123,34 +95,6 @@ fn pending_after(
     match paused {
         Some(past) => Some(Pending { func, past, first }),
         None => None,
-    }
-}
-
-// The stack that a call runs.
-fn stack_for(func: Func, trees: &Trees) -> &Nodes
-    requires bounded { AreBounded trees.now }
-    ensures stack { stack_of result.now.vec.items ≡ first_stack func (stacks_in trees.now) }
-    ensures few { lines_in (stack_of result.now.vec.items) ≤ 4096 }
-{
-    match func {
-        Func::Authenticate | Func::SetCred => &trees.auth,
-        Func::AcctMgmt => &trees.account,
-        Func::OpenSession | Func::CloseSession => &trees.session,
-        Func::ChAuthTok => &trees.password,
-    }
-}
-
-// Takes out what is cached for a call: authenticate and setcred share it, and so do open_session
-// and close_session.
-fn take_cached(func: Func, held: &mut Held) -> Option<Answers>
-    ensures taken { kept_answers result ≡ first_kept func (held_of held.old) }
-    ensures rest { (p : calls.Passed Telling) →
-        held_past func None p (held_of held.new) ≡ held_past func None p (held_of held.old) }
-{
-    match func {
-        Func::Authenticate | Func::SetCred => held.authenticated.take(),
-        Func::OpenSession | Func::CloseSession => held.opened.take(),
-        Func::AcctMgmt | Func::ChAuthTok => None,
     }
 }
 
@@ -194,25 +138,6 @@ fn retold_call(func: Func, passed: Passed, held: Held) -> Retold
         held: held_after(func, passed.kept, pending, held),
         next: passed.next,
         astray: passed.astray,
-    }
-}
-
-fn held_after(func: Func, kept: Option<Answers>, pending: Option<Pending>, held: Held) -> Held
-    ensures { held_of result ≡ held_after func (kept_answers kept) (pending_of pending)
-        (held_of held) }
-{
-    match func {
-        Func::Authenticate | Func::SetCred => Held {
-            authenticated: kept,
-            pending,
-            ..held
-        },
-        Func::OpenSession | Func::CloseSession => Held {
-            opened: kept,
-            pending,
-            ..held
-        },
-        Func::AcctMgmt | Func::ChAuthTok => Held { pending, ..held },
     }
 }
 
