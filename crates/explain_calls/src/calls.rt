@@ -3,7 +3,7 @@ ghost use Rattle.control_words.specs.Stack.{lines_in, stack_of};
 ghost use Rattle.service_load.specs.Load.{AreBounded};
 ghost use Rattle.service_load.specs.Trees.{nodes_in};
 ghost use Rattle.handler_chain.specs.Retell.{telling};
-ghost use Rattle.pass_replay.specs.dispatch_core.specs.Calls.{Held as Holding, following};
+ghost use Rattle.pass_replay.specs.dispatch_core.specs.Calls.{Held as Holding};
 ghost use Rattle.pass_replay.specs.Held.{held_of};
 ghost use Rattle.pass_replay.specs.Kept.{kept_answers};
 ghost use Rattle.pass_replay.specs.Retold.{stacks_in};
@@ -18,6 +18,7 @@ use pass_replay::answers::Answers;
 use pass_replay::held::Held;
 use pass_replay::pass::pass;
 use pass_replay::passed::Passed;
+use pass_replay::{kind_of, stack_type};
 use service_load::{RuleType, Trees};
 use std::alloc::Global;
 
@@ -117,57 +118,14 @@ fn write_first(call: Call, text: &mut String, func: Func) -> Result<(), NoMemory
         func call.entry.past.now
         (held_of call.entry.held.now) (telling (visits_in call.entry.told.now))) }
 {
-    match func {
-        Func::Authenticate => write_auth(call, text, func, PassKind::Keep),
-        Func::SetCred => write_auth(call, text, func, following(&call.held.authenticated)),
-        Func::AcctMgmt => {
-            let (stack, kind) = (RuleType::Account, PassKind::Keep);
-            write_stack(call, text, func, stack, kind, &None, 0, false)
-        }
-        Func::OpenSession => write_session(call, text, func, PassKind::Keep),
-        Func::CloseSession => write_session(call, text, func, following(&call.held.opened)),
-        Func::ChAuthTok => {
-            let (stack, kind) = (RuleType::Password, PassKind::Keep);
-            write_stack(call, text, func, stack, kind, &None, 0, false)
-        }
-    }
-}
-
-// A run by cached codes, if any are held.
-fn following(kept: &Option<Answers>) -> PassKind
-    ensures { result ≡ following (kept_answers kept.now) }
-{
-    match kept {
-        Some(_) => PassKind::Follow,
-        None => PassKind::Loose,
-    }
-}
-
-// A run of the auth stack.
-fn write_auth(call: Call, text: &mut String, func: Func, kind: PassKind) -> Result<(), NoMemory>
-    requires bounded { AreBounded call.trees.now }
-    ensures { OnOk result (string_bytes text.new ≡ string_bytes text.old
-        ++ run_text (stacks_in call.entry.trees.now) call.entry.sources.now call.entry.number func
-        RuleType.Auth
-        (stacks_in call.entry.trees.now).auth kind (held_of call.entry.held.now).authenticated
-        call.entry.past.now (telling (visits_in call.entry.told.now))) }
-{
-    let kept = &call.held.authenticated;
-    write_stack(call, text, func, RuleType::Auth, kind, kept, 0, false)
-}
-
-// A run of the session stack.
-fn write_session(call: Call, text: &mut String, func: Func, kind: PassKind) -> Result<(), NoMemory>
-    requires bounded { AreBounded call.trees.now }
-    ensures { OnOk result (string_bytes text.new ≡ string_bytes text.old
-        ++ run_text (stacks_in call.entry.trees.now) call.entry.sources.now call.entry.number func
-        RuleType.Session
-        (stacks_in call.entry.trees.now).session kind (held_of call.entry.held.now).opened
-        call.entry.past.now
-        (telling (visits_in call.entry.told.now))) }
-{
-    let kept = &call.held.opened;
-    write_stack(call, text, func, RuleType::Session, kind, kept, 0, false)
+    let stack = stack_type(func);
+    let nothing = None;
+    let kept = match stack {
+        RuleType::Auth => &call.held.authenticated,
+        RuleType::Session => &call.held.opened,
+        RuleType::Account | RuleType::Password => &nothing,
+    };
+    write_stack(call, text, func, stack, kind_of(func, kept), kept, 0, false)
 }
 
 // A run of the stack of a type, from a recorded line on.
