@@ -1,5 +1,5 @@
 -- The lines that a step runs, one after another, and how they change files.
-use Rattle.std.proofs.Common.{◌≡◌, inl, inr, ℕ, zero, suc, ◌+◌, ◌==◌, Bool, true, false, cond, if◌then◌else◌, List, [], ◌∷◌, ◌++◌, map, Option, Some, None, slice_get, Result, Ok, Err, refl, sym, ap, ◌∙◌, subst}
+use Rattle.std.proofs.Common.{◌≡◌, inl, inr, ℕ, zero, suc, ◌+◌, Bool, true, false, cond, if◌then◌else◌, List, [], ◌∷◌, ◌++◌, map, Option, Some, None, slice_get, Result, Ok, Err, refl, sym, ap, ◌∙◌, subst}
 use Rattle.std.specs.List.{AllByRecursion}
 use Rattle.std.proofs.lemmas.List.{map_push}
 use Rattle.pam_base.specs.declared.code.Code.{Code}
@@ -7,7 +7,6 @@ use Rattle.pam_base.specs.declared.code.Code.TheVariants as codes
 use Rattle.pam_base.specs.declared.call.AppCall.{AppCall}
 use Rattle.pam_base.specs.declared.call.AppCall.TheVariants as calls
 use Rattle.pam_base.specs.declared.call.Func.{Func}
-use Rattle.pam_base.specs.declared.call.Func.TheVariants as funcs
 use Rattle.pam_base.specs.declared.call.Step.{Step}
 use Rattle.conv_port.specs.Conv.{ConvState}
 use Rattle.pam_handle.specs.control_words.specs.declared.nodes.Rule.{Rule}
@@ -17,34 +16,31 @@ use Rattle.pam_handle.specs.item_store.specs.declared.access.Access.TheVariants.
 use Rattle.pam_handle.specs.env_list.specs.Environment.{is_refused as is_refused_text}
 use Rattle.pam_handle.specs.handler_chain.specs.declared.opinion.Opinion.{Opinion}
 use Rattle.pam_handle.specs.handler_chain.specs.declared.pass_kind.PassKind.{PassKind}
-use Rattle.pam_handle.specs.handler_chain.specs.declared.pass_kind.PassKind.TheVariants as kinds
 use Rattle.pam_handle.specs.handler_chain.specs.Opinion.{opening as first_opinion}
 use Rattle.pam_handle.specs.handler_chain.specs.Walk.{Serving, Walked, Next, after, stop, onward, walk}
 use Rattle.pam_handle.specs.handler_chain.specs.Pass.{Answering, PassState, Visit as Passing, pass_state, served_past, serving}
 use Rattle.pam_handle.specs.handler_chain.specs.Route.{KeptAnswers}
 use Rattle.pam_handle.specs.dispatch_core.specs.Lines.{answers_by, call_of, names_of}
 use Rattle.pam_handle.specs.handler_chain.specs.FlatLines.{module_of}
-use Rattle.pam_outside.specs.Files.{File}
+use Rattle.pam_outside.specs.Files.{File, VaultState}
 use Rattle.pam_handle.specs.pam_room.specs.Call.{PlainCall}
 use Rattle.pam_handle.specs.pam_room.specs.Module.{Player}
 use Rattle.pam_handle.specs.pam_room.specs.Serve.{serve_line, served_by, visited}
 use Rattle.pam_handle.specs.pam_room.specs.declared.visits.Visit.{Visit}
-use Rattle.pam_handle.specs.pam_room.specs.State.{PlainRoom, PlainWorld, State, state_of}
+use Rattle.pam_handle.specs.pam_room.specs.State.{PlainWorld, State, state_of}
 use Rattle.pam_handle.specs.service_load.specs.FirstFault.{Counts, Stop}
 use Rattle.pam_handle.specs.service_load.specs.declared.load_fault.LoadFault.{LoadFault}
-use Rattle.pam_outside.specs.Time.{random_taken, rested}
-use Rattle.fail_delay.specs.Delay.{asked_delay}
-use Rattle.fail_delay.specs.Wait.{wait_of}
 use Rattle.pam_handle.specs.service_load.specs.Stacks.{Stacks}
-use Rattle.pam_handle.specs.dispatch_core.specs.Pending.{Pending, pending_after, same_func}
+use Rattle.pam_handle.specs.dispatch_core.specs.Pending.{is_other_pending}
 use Rattle.pam_handle.specs.Handle.{PlainHandle}
-use Rattle.pam_handle.specs.dispatch_core.specs.Calls.{answers_held, following}
+use Rattle.pam_handle.specs.dispatch_core.specs.Calls.{Held, answers_held, goes}
 use Rattle.pam_handle.specs.Items.{all_told}
-use Rattle.pam_handle.specs.Pass.{Passed, passed}
-use Rattle.pam_handle.specs.Call.{Called, begun_or_going_on, called, random_taken_for, items_begun, request_after, rested_by, tokens_cleared}
-use Rattle.pam_handle.specs.StackCalls.{account, authenticated, authentication, after_check, change_goes_on, changed, check, closing, credentials, flags_seen, has_pass_flag, opening, stack_call, update}
+use Rattle.pam_handle.specs.AfterPasses.{EndsLeaveIt}
+use Rattle.pam_handle.specs.Call.{Called, called}
+use Rattle.pam_handle.specs.StackCalls.{asking_by, finished, flags_seen, held_in, passes_of, room_begun, stack_call}
+use Rattle.pam_handle.proofs.EachPassFacts.{Keeps, passes_keep}
 use Rattle.pam_handle.specs.Start.{started, started_by}
-use Rattle.pam_handle.specs.Stopping.{first_stack, room_begun}
+use Rattle.pam_handle.specs.Stopping.{first_stack}
 use Rattle.pam_library.specs.declared.outcome.Answer.{Answer}
 use Rattle.pam_library.specs.declared.outcome.Answer.TheVariants as answers
 use Rattle.pam_library.specs.Plays.{AskedLine, IsLineOf, LineLeads, LineRun, LinesLead, RunOn, RunsBy, RunsLines, RunsNothing, IsRuleAt, StepAsks, asked_along, asked_by, module_of_path, player_numbered, run_in, visit_of, visits_of}
@@ -138,14 +134,17 @@ module _ (players : List Player) (call : Func × ℕ) (stacks : Stacks) (first :
         ran = run_last players k.lines l first s k.ran refl;
       }
 
-  pub pass_comes : (second : Bool) (kind : PassKind) (kept : Option KeptAnswers) (past : List Code) (s : State) → Comes s
-      → Comes (passed players call.0 (flags_seen call.0 second call.1) kind kept (first_stack call.0 stacks) past s).state
+  pass_comes : Keeps Comes (asking_by players call.1) stacks call.0
   pass_comes second kind kept past s k =
       let whole = first_stack call.0 stacks in
       let answering = answers_by players call.0 (flags_seen call.0 second call.1) in
       walk_keeps (KeptWithin Comes) whole kind (serving kind (answers_held kept) answering)
       (λ rule at p stands l. by_past Comes whole kind (answers_held kept) answering (asks second) rule at p.past p.visits p.state stands l)
       0 whole 1 first_opinion first_opinion (pass_state past [] s) (λ rule place stands. stands) k
+
+  -- all passes of a call
+  pub passes_come : (h : Held) (s : State) → Comes s → Comes (goes (asking_by players call.1) stacks call.0 h s).state
+  passes_come h s k = passes_keep Comes (asking_by players call.1) stacks call.0 pass_comes h s k
 
   -- the world after a call has the files that the last line left
   pub record Ends (c : Called) : Type 0 where
@@ -154,159 +153,30 @@ module _ (players : List Player) (call : Func × ℕ) (stacks : Stacks) (first :
     pub files : c.world.vault.files ≡ state.world.vault.files
     pub trail : c.handle.room.transaction.trail ≡ state.room.transaction.trail
 
-  rested_files : (wait : Option ℕ) (w : PlainWorld) → (rested_by wait w).vault.files ≡ w.vault.files
-  rested_files None w = refl
-  rested_files (Some n) w = elim (n == 0) as (λ (x : Bool). (if x then w else record w { nap = rested w.nap n }).vault.files ≡ w.vault.files) [ true ↦ refl | false ↦ refl ]
-
-  drawn_files : (longest : ℕ) (w : PlainWorld) → (random_taken_for longest w).vault.files ≡ w.vault.files
-  drawn_files longest w = elim (longest == 0) as (λ (x : Bool). (if x then w else record w { clock = random_taken w.clock }).vault.files ≡ w.vault.files) [ true ↦ refl | false ↦ refl ]
-
-  as_it_is : (code : Code) (h : PlainHandle) (w : PlainWorld) → Comes (state_of h.room w) → Ends (called code h w)
-  as_it_is code h w k = record { state = state_of h.room w; comes = k; files = refl; trail = refl }
-
-  authenticated_ends : (number : Code → ℕ → ℕ) (paused : Option (List Code)) (code : Code) (h : PlainHandle) (w : PlainWorld) → Comes (state_of h.room w)
-      → Ends (authenticated number paused code h w)
-  authenticated_ends number (Some past) code h w k = as_it_is code h w k
-  authenticated_ends number None code h w k = record {
-    state = state_of h.room w;
-    comes = k;
-    files = rested_files (wait_of h.delay_on number code (asked_delay h.room.transaction.delay w.clock.word)) (random_taken_for h.room.transaction.delay w)
-        ∙ drawn_files h.room.transaction.delay w;
-    trail = refl;
-  }
-
-  changed_ends : (paused : Option (List Code)) (code : Code) (h : PlainHandle) (w : PlainWorld) → Comes (state_of h.room w) → Ends (changed paused code h w)
-  changed_ends (Some past) code h w k = as_it_is code h w k
-  changed_ends None code h w k = record { state = state_of h.room w; comes = k; files = refl; trail = refl }
-
-  after_trail : (paused : Option (List Code)) (r : PlainRoom) → (request_after paused r).transaction.trail ≡ r.transaction.trail
-  after_trail None r = refl
-  after_trail (Some past) r = refl
-
-  -- the only pass of a call
-  only_ends : (code : Code) (g : PlainHandle) (p : Passed) → g.room.transaction.trail ≡ (request_after p.paused p.state.room).transaction.trail → Comes p.state
-      → Ends (called code g p.state.world)
-  only_ends code g p e k = record { state = p.state; comes = k; files = refl; trail = e ∙ after_trail p.paused p.state.room }
-
-  pub begun : (pending : Option Pending) (func : Func) (a b : Called) (f : Pending → Called) → Ends a → Ends b → ((p : Pending) → Ends (f p))
-      → Ends (begun_or_going_on pending func a b f)
-  begun None func a b f k l m = l
-  begun (Some p) func a b f k l m = elim (same_func p.func func) as (λ (x : Bool). Ends (if x then f p else a)) [ true ↦ m p | false ↦ k ]
+  pub either_ends : (refused other : Bool) (a b c : Called) → Ends a → Ends b → Ends c → Ends (if refused then a else if other then b else c)
+  either_ends true other a b c k l m = k
+  either_ends false true a b c k l m = l
+  either_ends false false a b c k l m = m
 
 -- ---- the stack calls
 
--- the transaction in which a call begins that clears the tokens
-abbrev taken_up : Option Pending → PlainHandle → PlainRoom
-taken_up pending h = record h.room { transaction = record h.room.transaction { items = items_begun pending h.room.transaction.items } }
-
-module _ (players : List Player) (number : Code → ℕ → ℕ) where
+module _ (leaves : EndsLeaveIt) (players : List Player) (number : Code → ℕ → ℕ) where
   abbrev call_in : Func → ℕ → Func × ℕ
   call_in func flags = (func, flags)
 
-  authentication_ends : (flags : ℕ) (past : List Code) (h : PlainHandle) (w : PlainWorld) (first : State) → Comes players (call_in funcs.Authenticate flags) h.stacks first (state_of h.room w)
-      → Ends players (call_in funcs.Authenticate flags) h.stacks first (authentication players number flags past h w)
-  authentication_ends flags past h w first k =
-      let p = passed players funcs.Authenticate flags kinds.Keep h.authenticated h.stacks.auth past (state_of h.room w) in
-      authenticated_ends players (call_in funcs.Authenticate flags) h.stacks first number p.paused p.code
-      (record h { room = p.state.room; authenticated = p.kept; pending = pending_after funcs.Authenticate None p.paused }) p.state.world
-      (pass_comes players (call_in funcs.Authenticate flags) h.stacks first false kinds.Keep h.authenticated past (state_of h.room w) k)
-
-  update_ends : (flags : ℕ) (kept : Option KeptAnswers) (past : List Code) (h : PlainHandle) (w : PlainWorld) (first : State)
-      → Comes players (call_in funcs.ChAuthTok flags) h.stacks first (state_of h.room w) → Ends players (call_in funcs.ChAuthTok flags) h.stacks first (update players flags kept past h w)
-  update_ends flags kept past h w first k =
-      let p = passed players funcs.ChAuthTok (flags_seen funcs.ChAuthTok true flags) kinds.Follow kept h.stacks.password past (state_of h.room w) in
-      changed_ends players (call_in funcs.ChAuthTok flags) h.stacks first p.paused p.code
-      (record h { room = p.state.room; pending = pending_after funcs.ChAuthTok kept p.paused }) p.state.world
-      (pass_comes players (call_in funcs.ChAuthTok flags) h.stacks first true kinds.Follow kept past (state_of h.room w) k)
-
-  after_check_ends : (flags : ℕ) (code : Code) (paused : Option (List Code)) (kept : Option KeptAnswers) (h : PlainHandle) (w : PlainWorld) (first : State)
-      → Comes players (call_in funcs.ChAuthTok flags) h.stacks first (state_of h.room w)
-      → Ends players (call_in funcs.ChAuthTok flags) h.stacks first (after_check players flags code paused kept h w)
-  after_check_ends flags codes.Success paused kept h w first k = update_ends flags kept [] h w first k
-  after_check_ends flags other paused kept h w first k = changed_ends players (call_in funcs.ChAuthTok flags) h.stacks first paused other h w k
-
-  check_ends : (flags : ℕ) (past : List Code) (h : PlainHandle) (w : PlainWorld) (first : State) → Comes players (call_in funcs.ChAuthTok flags) h.stacks first (state_of h.room w)
-      → Ends players (call_in funcs.ChAuthTok flags) h.stacks first (check players flags past h w)
-  check_ends flags past h w first k =
-      let p = passed players funcs.ChAuthTok (flags_seen funcs.ChAuthTok false flags) kinds.Keep None h.stacks.password past (state_of h.room w) in
-      after_check_ends flags p.code p.paused p.kept (record h { room = p.state.room; pending = pending_after funcs.ChAuthTok None p.paused }) p.state.world first
-      (pass_comes players (call_in funcs.ChAuthTok flags) h.stacks first false kinds.Keep None past (state_of h.room w) k)
-
-  change_ends : (flags : ℕ) (past : List Code) (kept : Option KeptAnswers) (h : PlainHandle) (w : PlainWorld) (first : State)
-      → Comes players (call_in funcs.ChAuthTok flags) h.stacks first (state_of h.room w)
-      → Ends players (call_in funcs.ChAuthTok flags) h.stacks first (change_goes_on players flags past kept h w)
-  change_ends flags past None h w first k = check_ends flags past h w first k
-  change_ends flags past (Some kept) h w first k = update_ends flags (Some kept) past h w first k
-
   module _ (h : PlainHandle) (w : PlainWorld) (empty : h.room.transaction.trail ≡ []) where
-    -- no line was run yet
-    start_in : (call : Func × ℕ) (r : PlainRoom) → r.transaction.trail ≡ [] → Comes players call h.stacks (state_of r w) (state_of r w)
-    start_in call r none_yet = record { lines = []; each = tt; recorded = sym none_yet; ran = refl }
-
-    -- a call that is refused at once
-    at_once : (call : Func × ℕ) (code : Code) (r : PlainRoom) → r.transaction.trail ≡ [] → Ends players call h.stacks (state_of r w) (called code h w)
-    at_once call code r none_yet = record { state = state_of r w; comes = start_in call r none_yet; files = refl; trail = empty ∙ sym none_yet }
-
-    authenticate_ends : (flags : ℕ) (pending : Option Pending)
-        → Ends players (call_in funcs.Authenticate flags) h.stacks (state_of (taken_up pending h) w)
-        (begun_or_going_on pending funcs.Authenticate (called codes.Abort h w) (authentication players number flags [] (tokens_cleared h) w)
-        (λ p. authentication players number flags p.past h w))
-    authenticate_ends flags None = authentication_ends flags [] (tokens_cleared h) w (state_of (taken_up None h) w) (start_in (call_in funcs.Authenticate flags) (taken_up None h) empty)
-    authenticate_ends flags (Some p) =
-        let call = call_in funcs.Authenticate flags in
-        elim (same_func p.func funcs.Authenticate) as (λ (x : Bool). Ends players call h.stacks (state_of h.room w) (if x then authentication players number flags p.past h w else called codes.Abort h w)) [
-          | true ↦ authentication_ends flags p.past h w (state_of h.room w) (start_in call h.room empty)
-          | false ↦ at_once call codes.Abort h.room empty
-        ]
-
-    chauthtok_ends : (flags : ℕ) (pending : Option Pending)
-        → Ends players (call_in funcs.ChAuthTok flags) h.stacks (state_of (taken_up pending h) w)
-        (begun_or_going_on pending funcs.ChAuthTok (called codes.Abort h w) (check players flags [] (tokens_cleared h) w)
-        (λ p. change_goes_on players flags p.past p.first h w))
-    chauthtok_ends flags None = check_ends flags [] (tokens_cleared h) w (state_of (taken_up None h) w) (start_in (call_in funcs.ChAuthTok flags) (taken_up None h) empty)
-    chauthtok_ends flags (Some p) =
-        let call = call_in funcs.ChAuthTok flags in
-        elim (same_func p.func funcs.ChAuthTok) as (λ (x : Bool). Ends players call h.stacks (state_of h.room w) (if x then change_goes_on players flags p.past p.first h w else called codes.Abort h w)) [
-          | true ↦ change_ends flags p.past p.first h w (state_of h.room w) (start_in call h.room empty)
-          | false ↦ at_once call codes.Abort h.room empty
-        ]
-
-    -- the passes of the other calls
-    one_ends : (func : Func) (flags : ℕ) (kind : PassKind) (kept : Option KeptAnswers) (past : List Code) (g : PlainHandle)
-        → let p = passed players func (flags_seen func false flags) kind kept (first_stack func h.stacks) past (state_of h.room w) in
-        g.room.transaction.trail ≡ (request_after p.paused p.state.room).transaction.trail → Ends players (call_in func flags) h.stacks (state_of h.room w) (called p.code g p.state.world)
-    one_ends func flags kind kept past g e =
+    call_ends : (func : Func) (flags : ℕ) → Ends players (call_in func flags) h.stacks (state_of (room_begun func h) w) (stack_call players number func flags h w)
+    call_ends func flags =
         let call = call_in func flags in
-        let p = passed players func (flags_seen func false flags) kind kept (first_stack func h.stacks) past (state_of h.room w) in
-        only_ends players call h.stacks (state_of h.room w) p.code g p e
-        (pass_comes players call h.stacks (state_of h.room w) false kind kept past (state_of h.room w) (start_in call h.room empty))
-
-    pub call_ends : (func : Func) (flags : ℕ) → Ends players (call_in func flags) h.stacks (state_of (room_begun func h) w) (stack_call players number func flags h w)
-    call_ends funcs.Authenticate flags = authenticate_ends flags h.pending
-    call_ends funcs.SetCred flags =
-        let call = call_in funcs.SetCred flags in
-        let goes : (past : List Code) → Ends players call h.stacks (state_of h.room w) (credentials players flags past h w) = λ past. one_ends funcs.SetCred flags (following h.authenticated) h.authenticated past _ refl in
-        begun players call h.stacks (state_of h.room w) h.pending funcs.SetCred _ _ _ (at_once call codes.Abort h.room empty) (goes []) (λ p. goes p.past)
-    call_ends funcs.AcctMgmt flags =
-        let call = call_in funcs.AcctMgmt flags in
-        let goes : (past : List Code) → Ends players call h.stacks (state_of h.room w) (account players flags past h w) = λ past. one_ends funcs.AcctMgmt flags kinds.Keep None past _ refl in
-        begun players call h.stacks (state_of h.room w) h.pending funcs.AcctMgmt _ _ _ (at_once call codes.Abort h.room empty) (goes []) (λ p. goes p.past)
-    call_ends funcs.OpenSession flags =
-        let call = call_in funcs.OpenSession flags in
-        let goes : (past : List Code) → Ends players call h.stacks (state_of h.room w) (opening players flags past h w) = λ past. one_ends funcs.OpenSession flags kinds.Keep h.opened past _ refl in
-        begun players call h.stacks (state_of h.room w) h.pending funcs.OpenSession _ _ _ (at_once call codes.Abort h.room empty) (goes []) (λ p. goes p.past)
-    call_ends funcs.CloseSession flags =
-        let call = call_in funcs.CloseSession flags in
-        let goes : (past : List Code) → Ends players call h.stacks (state_of h.room w) (closing players flags past h w) = λ past. one_ends funcs.CloseSession flags (following h.opened) h.opened past _ refl in
-        begun players call h.stacks (state_of h.room w) h.pending funcs.CloseSession _ _ _ (at_once call codes.Abort h.room empty) (goes []) (λ p. goes p.past)
-    call_ends funcs.ChAuthTok flags =
-        let call = call_in funcs.ChAuthTok flags in
-        elim (has_pass_flag flags) as (λ (x : Bool). Ends players call h.stacks (state_of (room_begun funcs.ChAuthTok h) w)
-        (if x then called codes.SystemErr h w else begun_or_going_on h.pending funcs.ChAuthTok (called codes.Abort h w) (check players flags [] (tokens_cleared h) w)
-        (λ p. change_goes_on players flags p.past p.first h w))) [
-          | true ↦ at_once call codes.SystemErr (room_begun funcs.ChAuthTok h) empty
-          | false ↦ chauthtok_ends flags h.pending
-        ]
+        let begun = state_of (room_begun func h) w in
+        -- no line was run yet
+        let start : Comes players call h.stacks begun begun = record { lines = []; each = tt; recorded = sym empty; ran = refl } in
+        let at_once : (code : Code) → Ends players call h.stacks begun (called code h w) = λ code. record { state = begun; comes = start; files = refl; trail = refl } in
+        let r = passes_of players func flags h w in
+        let left = leaves number func r h in
+        either_ends players call h.stacks begun (is_refused_for_flags func flags) (is_other_pending h.pending func) (called codes.SystemErr h w) (called codes.Abort h w)
+        (finished number func r h) (at_once codes.SystemErr) (at_once codes.Abort)
+        (record { state = r.state; comes = passes_come players call h.stacks begun (held_in h) begun start; files = ap (λ (v : VaultState). v.files) left.vault; trail = left.trail })
 
     -- ---- a step on an open transaction
 

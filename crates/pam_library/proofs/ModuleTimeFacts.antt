@@ -13,7 +13,7 @@ use Rattle.pam_handle.specs.pam_room.specs.Serve.{at_work, serve_line, served_by
 use Rattle.pam_handle.specs.pam_room.specs.State.{PlainWorld, State, scene_in, state_of}
 use Rattle.pam_handle.specs.pam_room.specs.declared.visits.Visit.{Visit}
 use Rattle.pam_handle.specs.Items.{all_told}
-use Rattle.pam_handle.specs.Stopping.{room_begun}
+use Rattle.pam_handle.specs.StackCalls.{room_begun}
 use Rattle.pam_library.specs.Plays.{AreAskedAt, AskedLine, LineRun, RunsBy, RunsNothing, StepAsks, asked_along, run_in}
 use Rattle.pam_library.specs.StackOf.{stack_of}
 use Rattle.pam_library.specs.Slots.{PlainSlot, closed, opened, slot_at}

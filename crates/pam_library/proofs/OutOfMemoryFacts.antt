@@ -13,7 +13,8 @@ use Rattle.pam_handle.specs.Handle.{PlainHandle}
 use Rattle.pam_handle.specs.dispatch_core.specs.Pending.{first_in, past_in}
 use Rattle.pam_handle.specs.Around.{Around, all_tell}
 use Rattle.pam_handle.specs.Items.{all_told}
-use Rattle.pam_handle.specs.Stopping.{PassedNothing, Passing, Stops, StopsFirst, StopsIn, StopsInChange, StopsInUpdate, StopsLater, passing, room_begun}
+use Rattle.pam_handle.specs.Stopping.{PassedNothing, Passing, Stops, StopsFirst, StopsIn, StopsInChange, StopsInUpdate, StopsLater, passing}
+use Rattle.pam_handle.specs.StackCalls.{room_begun}
 use Rattle.pam_library.specs.Slots.{PlainSlot, closed, opened}
 use Rattle.pam_library.specs.AnyWorld.{StackStops, StopsBy, around_of}
 

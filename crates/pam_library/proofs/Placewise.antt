@@ -188,7 +188,7 @@ module _ (n number : ℕ) (first second : PlainWorld) where
         let c : Called = stack_call players delay func flags x v in
         let d : Called = stack_call players delay func flags (in_room r x) w in
         let runs : PlaceTwins (told_by (filed_in v) (answers.Code c.code) c) (told_by (filed_in w) (answers.Code d.code) d) =
-        handed_out (filed_in v) (filed_in w) c d (stack_call_goes n number first second players delay func flags x r v w t) in
+        handed_out (filed_in v) (filed_in w) c d (stack_call_goes n number first second delay players func flags x r v w t) in
         elim (is_refused_for_flags func flags) as (λ (b : Bool). PlaceTwins
         (if b then answered (opened x) v (answers.Code codes.SystemErr) else unless_pending (other_pending x.pending func) (opened x) v (told_by (filed_in v) (answers.Code c.code) c))
         (if b then answered (opened (in_room r x)) w (answers.Code codes.SystemErr) else unless_pending (other_pending x.pending func) (opened (in_room r x)) w (told_by (filed_in w) (answers.Code d.code) d))) [

@@ -1,29 +1,26 @@
 -- The stack calls on a transaction in two runs that are alike for its number.
-use Rattle.std.proofs.Common.{◌≡◌, ℕ, ◌==◌, Bool, true, false, if◌then◌else◌, List, [], Option, Some, None, refl, ap, ◌∙◌, subst}
-use Rattle.std.specs.Prelude.{bit_or}
+use Rattle.std.proofs.Common.{◌≡◌, ℕ, ◌==◌, Bool, true, false, if◌then◌else◌, List, Option, Some, None, refl, ap, ◌∙◌, subst}
 use Rattle.pam_base.specs.declared.code.Code.{Code}
 use Rattle.pam_base.specs.declared.code.Code.TheVariants as codes
 use Rattle.pam_base.specs.declared.call.Func.{Func}
-use Rattle.pam_base.specs.declared.call.Func.TheVariants.{Authenticate, SetCred, AcctMgmt, OpenSession, CloseSession, ChAuthTok}
-use Rattle.pam_handle.specs.control_words.specs.Stack.{Stack}
+use Rattle.pam_base.specs.declared.call.Func.TheVariants.{Authenticate, ChAuthTok}
 use Rattle.pam_handle.specs.dispatch_core.specs.Lines.{answers_by}
 use Rattle.fail_delay.specs.Delay.{asked_delay}
 use Rattle.fail_delay.specs.Wait.{wait_of}
 use Rattle.pam_outside.specs.Time.{random_taken, rested}
-use Rattle.pam_handle.specs.pam_room.specs.Call.{prelim_check}
 use Rattle.pam_handle.specs.pam_room.specs.Module.{Player}
 use Rattle.pam_handle.specs.pam_room.specs.State.{PlainRoom, PlainWorld, State, state_of}
 use Rattle.pam_handle.specs.handler_chain.specs.declared.pass_kind.PassKind.{PassKind}
-use Rattle.pam_handle.specs.handler_chain.specs.declared.pass_kind.PassKind.TheVariants as kinds
 use Rattle.pam_handle.specs.handler_chain.specs.Pass.{PassState, pass_after}
 use Rattle.pam_handle.specs.handler_chain.specs.Route.{KeptAnswers}
 use Rattle.pam_handle.specs.handler_chain.specs.Walk.{Walked}
-use Rattle.pam_handle.specs.dispatch_core.specs.Pending.{Pending, pending_after, same_func}
+use Rattle.pam_handle.specs.dispatch_core.specs.Pending.{Pending, is_other_pending}
 use Rattle.pam_handle.specs.Handle.{PlainHandle, in_room}
-use Rattle.pam_handle.specs.dispatch_core.specs.Calls.{answers_held, following, passed_by}
-use Rattle.pam_handle.specs.Pass.{Passed, passed}
-use Rattle.pam_handle.specs.Call.{Called, begun_or_going_on, called, random_taken_for, request_after, request_forgotten, rested_by, tokens_cleared, waits, without_its_tokens, without_request}
-use Rattle.pam_handle.specs.StackCalls.{account, authenticated, authentication, after_check, change_goes_on, changed, chauthtok, check, closing, credential_flags, credentials, ended, has_pass_flag, opening, stack_call, update, update_authtok}
+use Rattle.pam_handle.specs.service_load.specs.Stacks.{Stacks}
+use Rattle.pam_handle.specs.dispatch_core.specs.Calls.{Held, Went, answers_held, first_stack, held, passed_by, went}
+use Rattle.pam_handle.specs.Call.{Called, called, clears_tokens, items_begun, random_taken_for, request_forgotten, rested_by, room_with, tokens_cleared, waits, without_its_tokens, without_request}
+use Rattle.pam_handle.specs.StackCalls.{asking_by, ended, finished, flags_seen, held_in, is_refused_for_flags, passes_of, room_begun, stack_call}
+use Rattle.pam_handle.proofs.EachPassFacts.{GoAlike, PassedAlike, WentAlike, passes_go_alike}
 use Rattle.pam_library.proofs.Alongside.{PassTwins, WalkedTwins, pass_twins}
 use Rattle.pam_library.proofs.Twins.{KeptIn, Twins, asked_twins, touched}
 
@@ -39,10 +36,13 @@ module _ (n number : ℕ) (first second : PlainWorld) where
   no_request : (a b : State) → Both a b → Both (record a { room = without_request a.room }) (record b { room = without_request b.room })
   no_request a b t = touched n number without_request (record { same = λ r. refl; datums = λ r. refl; handle = λ r. refl }) first second a b t
 
-  request_twins : (paused : Option (List Code)) (a b : State) → Both a b
-      → Both (state_of (request_after paused a.room) a.world) (state_of (request_after paused b.room) b.world)
-  request_twins None a b t = no_request a b t
-  request_twins (Some past) a b t = t
+  -- a call that clears the tokens clears them, unless it is resumed
+  begun_twins : (clears : Bool) (pending : Option Pending) (a b : State) → Both a b
+      → Both (record a { room = room_with (if clears then items_begun pending a.room.transaction.items else a.room.transaction.items) a.room })
+      (record b { room = room_with (if clears then items_begun pending b.room.transaction.items else b.room.transaction.items) b.room })
+  begun_twins true None a b t = no_tokens a b t
+  begun_twins true (Some p) a b t = t
+  begun_twins false pending a b t = t
 
   -- ---- the world sleeps
 
@@ -96,23 +96,19 @@ module _ (n number : ℕ) (first second : PlainWorld) where
 
   -- ---- a pass
 
-  -- the same except for the state, and the states are alike
-  record PassedTwins (p q : Passed) : Type 0 where
-    rest : record p { state = q.state } ≡ q
-    state : Both p.state q.state
-
   by_twins : (kind : PassKind) (kept : Option KeptAnswers) (v w : Walked (PassState State)) → WalkedTwins (PassTwins Both) v w
-      → PassedTwins (passed_by kind kept v) (passed_by kind kept w)
+      → PassedAlike Both (passed_by kind kept v) (passed_by kind kept w)
   by_twins kind kept v w t =
       let is : record v { state = record v.state { state = w.state.state } } ≡ w = ap (λ (s : PassState State). record v { state = s }) t.state.rest ∙ t.rest in
-      subst (λ (x : Walked (PassState State)). PassedTwins (passed_by kind kept v) (passed_by kind kept x)) is (record { rest = refl; state = t.state.state })
+      subst (λ (x : Walked (PassState State)). PassedAlike Both (passed_by kind kept v) (passed_by kind kept x)) is
+      (record { code = refl; kept = refl; paused = refl; state = t.state.state })
 
-  module _ (players : List Player) where
-    passed_twins : (func : Func) (flags : ℕ) (kind : PassKind) (kept : Option KeptAnswers) (stack : Stack) (past : List Code) (a b : State) → Both a b →
-        PassedTwins (passed players func flags kind kept stack past a) (passed players func flags kind kept stack past b)
-    passed_twins func flags kind kept stack past a b t =
-        by_twins kind kept (pass_after kind (answers_held kept) (answers_by players func flags) stack past a) (pass_after kind (answers_held kept) (answers_by players func flags) stack past b)
-        (pass_twins Both kind (answers_held kept) (answers_by players func flags) (λ rule at x y r. asked_twins n number first second players func flags rule at x y r) stack past a b t)
+  passed_twins : (players : List Player) (flags : ℕ) (stacks : Stacks) (func : Func) → GoAlike Both (asking_by players flags) stacks func
+  passed_twins players flags stacks func again kind kept past a b t =
+      let answering = answers_by players func (flags_seen func again flags) in
+      by_twins kind kept (pass_after kind (answers_held kept) answering (first_stack func stacks) past a) (pass_after kind (answers_held kept) answering (first_stack func stacks) past b)
+      (pass_twins Both kind (answers_held kept) answering (λ rule at x y r. asked_twins n number first second players func (flags_seen func again flags) rule at x y r)
+      (first_stack func stacks) past a b t)
 
   -- ---- a call
 
@@ -121,38 +117,20 @@ module _ (n number : ℕ) (first second : PlainWorld) where
     pub rest : called c.code (in_room d.handle.room c.handle) d.world ≡ d
     pub state : Both (state_of c.handle.room c.world) (state_of d.handle.room d.world)
 
-  past_pass : (f g : Passed → Called) (p q : Passed) → PassedTwins p q
-      → ((t : State) → Both p.state t → CalledTwins (f p) (g (record p { state = t }))) → CalledTwins (f p) (g q)
-  past_pass f g p q t main = subst (λ (x : Passed). CalledTwins (f p) (g x)) t.rest (main q.state t.state)
-
-  ended_twins : (func : Func) (p : Passed) (t : State) (x : PlainHandle) (r : PlainRoom) → Both p.state t
-      → CalledTwins (ended func p x) (ended func (record p { state = t }) (in_room r x))
-  ended_twins func p t x r both = record { rest = refl; state = request_twins p.paused p.state t both }
-
-  begun_twins : (pending : Option Pending) (func : Func) (a b c d : Called) (f g : Pending → Called) → CalledTwins a b → CalledTwins c d
-      → ((p : Pending) → CalledTwins (f p) (g p)) →
-      CalledTwins (begun_or_going_on pending func a c f) (begun_or_going_on pending func b d g)
-  begun_twins None func a b c d f g aborted begins goes_on = begins
-  begun_twins (Some p) func a b c d f g aborted begins goes_on = elim (same_func p.func func) as (λ (x : Bool). CalledTwins (if x then f p else a) (if x then g p else b)) [
-    | true ↦ goes_on p
-    | false ↦ aborted
-  ]
-
-  changed_twins : (paused : Option (List Code)) (code : Code) (x : PlainHandle) (r : PlainRoom) (v w : PlainWorld)
-      → Both (state_of x.room v) (state_of r w) → CalledTwins (changed paused code x v) (changed paused code (in_room r x) w)
-  changed_twins (Some past) code x r v w t = record { rest = refl; state = t }
-  changed_twins None code x r v w t = record { rest = refl; state = no_request (state_of (without_its_tokens x.room) v) (state_of (without_its_tokens r) w) (no_tokens (state_of x.room v) (state_of r w) t) }
+  either_twins : (refused other : Bool) (a b c d e f : Called) → CalledTwins a b → CalledTwins c d → CalledTwins e f
+      → CalledTwins (if refused then a else if other then c else e) (if refused then b else if other then d else f)
+  either_twins true other a b c d e f at_once aborted runs = at_once
+  either_twins false true a b c d e f at_once aborted runs = aborted
+  either_twins false false a b c d e f at_once aborted runs = runs
 
   module _ (delay : Code → ℕ → ℕ) where
     -- an authentication that waits for the requested time
     abbrev after_wait : Code → PlainHandle → PlainWorld → ℕ → Called
     after_wait code h w asked = let c = waits code asked (wait_of h.delay_on delay code asked) (tokens_cleared h) w in called code (request_forgotten c.handle) c.world
 
-    authenticated_twins : (paused : Option (List Code)) (code : Code) (x : PlainHandle) (r : PlainRoom) (v w : PlainWorld)
-        → Both (state_of x.room v) (state_of r w)
-        → CalledTwins (authenticated delay paused code x v) (authenticated delay paused code (in_room r x) w)
-    authenticated_twins (Some past) code x r v w t = record { rest = refl; state = t }
-    authenticated_twins None code x r v w t =
+    waited_twins : (code : Code) (x : PlainHandle) (r : PlainRoom) (v w : PlainWorld) → Both (state_of x.room v) (state_of r w)
+        → CalledTwins (ended delay Authenticate code x v) (ended delay Authenticate code (in_room r x) w)
+    waited_twins code x r v w t =
         let asked : ℕ = asked_delay x.room.transaction.delay v.clock.word in
         let same : asked ≡ asked_delay r.transaction.delay w.clock.word = λ i. asked_delay (t.room i).transaction.delay (t.world i).clock.word in
         let wait : Option ℕ = wait_of x.delay_on delay code asked in
@@ -170,125 +148,32 @@ module _ (n number : ℕ) (first second : PlainWorld) where
         subst (λ (l : ℕ). CalledTwins (after_wait code x va asked) (after_wait code (in_room r x) (random_taken_for l w) asked)) same_longest main in
         subst (λ (m : ℕ). CalledTwins (after_wait code x va asked) (after_wait code (in_room r x) (random_taken_for r.transaction.delay w) m)) same drawn_main
 
-  -- ---- the six calls, on a transaction in two rooms
+    ended_twins : (func : Func) (code : Code) (authenticated opened : Option KeptAnswers) (pending : Option Pending) (x : PlainHandle) (r : PlainRoom) (s u : State) → Both s u
+        → CalledTwins (finished delay func (went code (held authenticated opened pending) s) x) (finished delay func (went code (held authenticated opened pending) u) (in_room r x))
+    ended_twins Authenticate code authenticated opened None x r s u t =
+        waited_twins code (record x { room = s.room; authenticated = authenticated; opened = opened; pending = None }) u.room s.world u.world t
+    ended_twins Authenticate code authenticated opened (Some p) x r s u t = record { rest = refl; state = t }
+    ended_twins ChAuthTok code authenticated opened None x r s u t =
+        record { rest = refl; state = no_request (record s { room = without_its_tokens s.room }) (record u { room = without_its_tokens u.room }) (no_tokens s u t) }
+    ended_twins ChAuthTok code authenticated opened (Some p) x r s u t = record { rest = refl; state = t }
+    ended_twins func code authenticated opened None x r s u t = record { rest = refl; state = no_request s u t }
+    ended_twins func code authenticated opened (Some p) x r s u t = record { rest = refl; state = t }
 
-  module _ (players : List Player) (delay : Code → ℕ → ℕ) where
-    abbrev Goes : (PlainHandle → PlainWorld → Called) → Type 0
-    Goes f = (x : PlainHandle) (r : PlainRoom) (v w : PlainWorld) → Both (state_of x.room v) (state_of r w) → CalledTwins (f x v) (f (in_room r x) w)
+    went_twins : (func : Func) (x : PlainHandle) (r : PlainRoom) (a b : Went State) → WentAlike Both a b
+        → CalledTwins (finished delay func a x) (finished delay func b (in_room r x))
+    went_twins func x r a b both =
+        subst (λ (c : Code). CalledTwins (finished delay func a x) (finished delay func (went c b.held b.state) (in_room r x))) both.code
+        (subst (λ (k : Held). CalledTwins (finished delay func a x) (finished delay func (went a.code k b.state) (in_room r x))) both.held
+        (ended_twins func a.code a.held.authenticated a.held.opened a.held.pending x r a.state b.state both.state))
 
-    aborted : Goes (called codes.Abort)
-    aborted x r v w t = record { rest = refl; state = t }
-
-    cleared : (f : PlainHandle → PlainWorld → Called) → Goes f → Goes (λ h w. f (tokens_cleared h) w)
-    cleared f goes x r v w t = goes (tokens_cleared x) (without_its_tokens r) v w (no_tokens (state_of x.room v) (state_of r w) t)
-
-    begun : (func : Func) (begins : PlainHandle → PlainWorld → Called) (on : Pending → PlainHandle → PlainWorld → Called) → Goes begins
-        → ((p : Pending) → Goes (on p)) →
-        Goes (λ h w. begun_or_going_on h.pending func (called codes.Abort h w) (begins h w) (λ p. on p h w))
-    begun func begins on goes goes_on x r v w t =
-        begun_twins x.pending func (called codes.Abort x v) (called codes.Abort (in_room r x) w) (begins x v) (begins (in_room r x) w) (λ p. on p x v) (λ p. on p (in_room r x) w)
-        (aborted x r v w t) (goes x r v w t) (λ p. goes_on p x r v w t)
-
-    authentication_goes : (flags : ℕ) (past : List Code) → Goes (authentication players delay flags past)
-    authentication_goes flags past x r v w t =
-        past_pass
-        (λ p. authenticated delay p.paused p.code (record x { room = p.state.room; authenticated = p.kept; pending = pending_after Authenticate None p.paused }) p.state.world)
-        (λ p. authenticated delay p.paused p.code (record x { room = p.state.room; authenticated = p.kept; pending = pending_after Authenticate None p.paused }) p.state.world)
-        (passed players Authenticate flags kinds.Keep x.authenticated x.stacks.auth past (state_of x.room v))
-        (passed players Authenticate flags kinds.Keep x.authenticated x.stacks.auth past (state_of r w))
-        (passed_twins players Authenticate flags kinds.Keep x.authenticated x.stacks.auth past (state_of x.room v) (state_of r w) t)
-        (λ s both.
-        let p : Passed = passed players Authenticate flags kinds.Keep x.authenticated x.stacks.auth past (state_of x.room v) in
-        authenticated_twins delay p.paused p.code (record x { room = p.state.room; authenticated = p.kept; pending = pending_after Authenticate None p.paused }) s.room p.state.world s.world both)
-
-    credentials_goes : (flags : ℕ) (past : List Code) → Goes (credentials players flags past)
-    credentials_goes flags past x r v w t =
-        past_pass
-        (λ p. ended SetCred p (record x { authenticated = p.kept })) (λ p. ended SetCred p (record (in_room r x) { authenticated = p.kept }))
-        (passed players SetCred (credential_flags flags) (following x.authenticated) x.authenticated x.stacks.auth past (state_of x.room v))
-        (passed players SetCred (credential_flags flags) (following x.authenticated) x.authenticated x.stacks.auth past (state_of r w))
-        (passed_twins players SetCred (credential_flags flags) (following x.authenticated) x.authenticated x.stacks.auth past (state_of x.room v) (state_of r w) t)
-        (λ s both.
-        let p : Passed = passed players SetCred (credential_flags flags) (following x.authenticated) x.authenticated x.stacks.auth past (state_of x.room v) in
-        ended_twins SetCred p s (record x { authenticated = p.kept }) r both)
-
-    account_goes : (flags : ℕ) (past : List Code) → Goes (account players flags past)
-    account_goes flags past x r v w t =
-        past_pass (λ p. ended AcctMgmt p x) (λ p. ended AcctMgmt p (in_room r x))
-        (passed players AcctMgmt flags kinds.Keep None x.stacks.account past (state_of x.room v))
-        (passed players AcctMgmt flags kinds.Keep None x.stacks.account past (state_of r w))
-        (passed_twins players AcctMgmt flags kinds.Keep None x.stacks.account past (state_of x.room v) (state_of r w) t)
-        (λ s both. ended_twins AcctMgmt (passed players AcctMgmt flags kinds.Keep None x.stacks.account past (state_of x.room v)) s x r both)
-
-    opening_goes : (flags : ℕ) (past : List Code) → Goes (opening players flags past)
-    opening_goes flags past x r v w t =
-        past_pass
-        (λ p. ended OpenSession p (record x { opened = p.kept })) (λ p. ended OpenSession p (record (in_room r x) { opened = p.kept }))
-        (passed players OpenSession flags kinds.Keep x.opened x.stacks.session past (state_of x.room v))
-        (passed players OpenSession flags kinds.Keep x.opened x.stacks.session past (state_of r w))
-        (passed_twins players OpenSession flags kinds.Keep x.opened x.stacks.session past (state_of x.room v) (state_of r w) t)
-        (λ s both.
-        let p : Passed = passed players OpenSession flags kinds.Keep x.opened x.stacks.session past (state_of x.room v) in
-        ended_twins OpenSession p s (record x { opened = p.kept }) r both)
-
-    closing_goes : (flags : ℕ) (past : List Code) → Goes (closing players flags past)
-    closing_goes flags past x r v w t =
-        past_pass
-        (λ p. ended CloseSession p (record x { opened = p.kept })) (λ p. ended CloseSession p (record (in_room r x) { opened = p.kept }))
-        (passed players CloseSession flags (following x.opened) x.opened x.stacks.session past (state_of x.room v))
-        (passed players CloseSession flags (following x.opened) x.opened x.stacks.session past (state_of r w))
-        (passed_twins players CloseSession flags (following x.opened) x.opened x.stacks.session past (state_of x.room v) (state_of r w) t)
-        (λ s both.
-        let p : Passed = passed players CloseSession flags (following x.opened) x.opened x.stacks.session past (state_of x.room v) in
-        ended_twins CloseSession p s (record x { opened = p.kept }) r both)
-
-    update_goes : (flags : ℕ) (kept : Option KeptAnswers) (past : List Code) → Goes (update players flags kept past)
-    update_goes flags kept past x r v w t =
-        past_pass
-        (λ p. changed p.paused p.code (record x { room = p.state.room; pending = pending_after ChAuthTok kept p.paused }) p.state.world)
-        (λ p. changed p.paused p.code (record x { room = p.state.room; pending = pending_after ChAuthTok kept p.paused }) p.state.world)
-        (passed players ChAuthTok (bit_or flags update_authtok) kinds.Follow kept x.stacks.password past (state_of x.room v))
-        (passed players ChAuthTok (bit_or flags update_authtok) kinds.Follow kept x.stacks.password past (state_of r w))
-        (passed_twins players ChAuthTok (bit_or flags update_authtok) kinds.Follow kept x.stacks.password past (state_of x.room v) (state_of r w) t)
-        (λ s both.
-        let p : Passed = passed players ChAuthTok (bit_or flags update_authtok) kinds.Follow kept x.stacks.password past (state_of x.room v) in
-        changed_twins p.paused p.code (record x { room = p.state.room; pending = pending_after ChAuthTok kept p.paused }) s.room p.state.world s.world both)
-
-    after_check_goes : (flags : ℕ) (code : Code) (paused : Option (List Code)) (kept : Option KeptAnswers) → Goes (after_check players flags code paused kept)
-    after_check_goes flags codes.Success paused kept x r v w t = update_goes flags kept [] x r v w t
-    after_check_goes flags code paused kept x r v w t = changed_twins paused code x r v w t
-
-    check_goes : (flags : ℕ) (past : List Code) → Goes (check players flags past)
-    check_goes flags past x r v w t =
-        past_pass
-        (λ p. after_check players flags p.code p.paused p.kept (record x { room = p.state.room; pending = pending_after ChAuthTok None p.paused }) p.state.world)
-        (λ p. after_check players flags p.code p.paused p.kept (record x { room = p.state.room; pending = pending_after ChAuthTok None p.paused }) p.state.world)
-        (passed players ChAuthTok (bit_or flags prelim_check) kinds.Keep None x.stacks.password past (state_of x.room v))
-        (passed players ChAuthTok (bit_or flags prelim_check) kinds.Keep None x.stacks.password past (state_of r w))
-        (passed_twins players ChAuthTok (bit_or flags prelim_check) kinds.Keep None x.stacks.password past (state_of x.room v) (state_of r w) t)
-        (λ s both.
-        let p : Passed = passed players ChAuthTok (bit_or flags prelim_check) kinds.Keep None x.stacks.password past (state_of x.room v) in
-        after_check_goes flags p.code p.paused p.kept (record x { room = p.state.room; pending = pending_after ChAuthTok None p.paused }) s.room p.state.world s.world both)
-
-    change_goes : (flags : ℕ) (past : List Code) (kept : Option KeptAnswers) → Goes (change_goes_on players flags past kept)
-    change_goes flags past None x r v w t = check_goes flags past x r v w t
-    change_goes flags past (Some kept) x r v w t = update_goes flags (Some kept) past x r v w t
-
-    chauthtok_goes : (flags : ℕ) → Goes (chauthtok players flags)
-    chauthtok_goes flags x r v w t = elim (has_pass_flag flags) as (λ (b : Bool). CalledTwins
-        (if b then called codes.SystemErr x v else begun_or_going_on x.pending ChAuthTok (called codes.Abort x v) (check players flags [] (tokens_cleared x) v) (λ p. change_goes_on players flags p.past p.first x v))
-        (if b then called codes.SystemErr (in_room r x) w else begun_or_going_on x.pending ChAuthTok (called codes.Abort (in_room r x) w) (check players flags [] (tokens_cleared (in_room r x)) w) (λ p. change_goes_on players flags p.past p.first (in_room r x) w))) [
-          | true ↦ record { rest = refl; state = t }
-          | false ↦ begun ChAuthTok (λ h w. check players flags [] (tokens_cleared h) w) (λ p h w. change_goes_on players flags p.past p.first h w)
-              (cleared (check players flags []) (check_goes flags [])) (λ p. change_goes flags p.past p.first) x r v w t
-        ]
-
-    pub stack_call_goes : (func : Func) (flags : ℕ) → Goes (stack_call players delay func flags)
-    stack_call_goes Authenticate flags x r v w t =
-        begun Authenticate (λ h w. authentication players delay flags [] (tokens_cleared h) w) (λ p h w. authentication players delay flags p.past h w)
-        (cleared (authentication players delay flags []) (authentication_goes flags [])) (λ p. authentication_goes flags p.past) x r v w t
-    stack_call_goes SetCred flags x r v w t = begun SetCred (credentials players flags []) (λ p h w. credentials players flags p.past h w) (credentials_goes flags []) (λ p. credentials_goes flags p.past) x r v w t
-    stack_call_goes AcctMgmt flags x r v w t = begun AcctMgmt (account players flags []) (λ p h w. account players flags p.past h w) (account_goes flags []) (λ p. account_goes flags p.past) x r v w t
-    stack_call_goes OpenSession flags x r v w t = begun OpenSession (opening players flags []) (λ p h w. opening players flags p.past h w) (opening_goes flags []) (λ p. opening_goes flags p.past) x r v w t
-    stack_call_goes CloseSession flags x r v w t = begun CloseSession (closing players flags []) (λ p h w. closing players flags p.past h w) (closing_goes flags []) (λ p. closing_goes flags p.past) x r v w t
-    stack_call_goes ChAuthTok flags x r v w t = chauthtok_goes flags x r v w t
+    -- a stack call, on a transaction in two rooms
+    pub stack_call_goes : (players : List Player) (func : Func) (flags : ℕ) (x : PlainHandle) (r : PlainRoom) (v w : PlainWorld) → Both (state_of x.room v) (state_of r w)
+        → CalledTwins (stack_call players delay func flags x v) (stack_call players delay func flags (in_room r x) w)
+    stack_call_goes players func flags x r v w t =
+        let y : PlainHandle = in_room r x in
+        either_twins (is_refused_for_flags func flags) (is_other_pending x.pending func) (called codes.SystemErr x v) (called codes.SystemErr y w)
+        (called codes.Abort x v) (called codes.Abort y w) (finished delay func (passes_of players func flags x v) x) (finished delay func (passes_of players func flags y w) y)
+        (record { rest = refl; state = t }) (record { rest = refl; state = t })
+        (went_twins func x r (passes_of players func flags x v) (passes_of players func flags y w)
+        (passes_go_alike Both (asking_by players flags) x.stacks func (passed_twins players flags x.stacks func) (held_in x) (state_of (room_begun func x) v) (state_of (room_begun func y) w)
+        (begun_twins (clears_tokens func) x.pending (state_of x.room v) (state_of r w) t)))

@@ -22,8 +22,8 @@ use Rattle.pam_handle.specs.pam_room.specs.State.{PlainWorld, State, scene_in, s
 use Rattle.pam_handle.specs.pam_room.specs.declared.visits.Visit.{Visit}
 use Rattle.pam_handle.specs.Handle.{PlainHandle}
 use Rattle.pam_handle.specs.Items.{all_told}
-use Rattle.pam_handle.specs.StackCalls.{flags_seen}
-use Rattle.pam_handle.specs.Stopping.{first_stack, room_begun}
+use Rattle.pam_handle.specs.StackCalls.{flags_seen, room_begun}
+use Rattle.pam_handle.specs.Stopping.{first_stack}
 use Rattle.pam_library.specs.Slots.{PlainSlot, opened, slot_at}
 use Rattle.pam_library.specs.StackOf.{stack_of}
 use Rattle.pam_library.specs.Step.{stepped}

@@ -149,4 +149,6 @@ pub fn steps_change_files_by_plays()
         (some others : List AskedLine) →
         LinesLead players first some middle → LinesLead players middle others last →
         LinesLead players first (some ++ others) last }
-{}
+{
+    pam_handle::laws::ends_leave_it();
+}

@@ -3,7 +3,7 @@ use Rattle.pam_library.proofs.ModuleTimeFacts.{step_at}
 use Rattle.pam_library.proofs.laws.steps_change_files_by_plays.Goals as goal
 
 pub returns-clause-asks : goal.returns-clause-asks
-returns-clause-asks c = step_asks
+returns-clause-asks c = step_asks c.ends_leave_it.ensures
 
 pub returns-clause-visits : goal.returns-clause-visits
 returns-clause-visits c = step_visits
