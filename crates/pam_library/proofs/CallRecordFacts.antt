@@ -19,7 +19,8 @@ use Rattle.pam_library.specs.Applied.{Answers, Keeps, Leaves, RunsOut}
 use Rattle.pam_library.specs.Outcome.{plain_outcome}
 use Rattle.pam_library.specs.Seen.{IsSoundIn, Seen, slot_of}
 use Rattle.pam_library.specs.Traced.{TracesAt}
-use Rattle.pam_library.proofs.StackCallFacts.{IsOnly}
+use Rattle.pam_library.proofs.StackCallFacts.{answer_of, filed_of}
+use Rattle.pam_library.specs.InPlace.{SaysOnly}
 
 abbrev pub NothingMoves : Type 0
 NothingMoves = (note : Notes) (limit : ℕ) (before after : PlainLedger) (lists next : Lists) → after ≡ before → ((h : ℕ) → next h ≡ lists h) → Moves note limit [] before lists after next
@@ -47,12 +48,12 @@ leaves_all players step slots w none = record {
   caller = refl;
 }
 
-pub bad_answers : (step : Step) (s : Seen) (o : Outcome) → slot_of step s ≡ None → IsOnly o (filed_in s.world) answers.BadNumber → Answers step s s o
+pub bad_answers : (step : Step) (s : Seen) (o : Outcome) → slot_of step s ≡ None → SaysOnly (filed_in s.world) answers.BadNumber o → Answers step s s o
 bad_answers step s o none only = record {
-  answer = subst (λ (slot : Option PlainSlot). AnswersBy (refusal slot step.call) step.call o.answer) (sym none) only.answer_is;
+  answer = subst (λ (slot : Option PlainSlot). AnswersBy (refusal slot step.call) step.call o.answer) (sym none) (answer_of o _ only);
   traces = subst (λ (slot : Option PlainSlot). TracesAt step.call slot slot (plain_outcome o)) (sym none) tt;
-  filed_from = only.filed_is;
-  faults = subst (λ (a : Answer). CountsRefusal a s.faults s.faults) (sym only.answer_is) tt;
+  filed_from = filed_of o _ only;
+  faults = subst (λ (a : Answer). CountsRefusal a s.faults s.faults) (sym (answer_of o _ only)) tt;
 }
 
 -- an outcome, or the step ran out of memory

@@ -25,6 +25,7 @@ use Rattle.pam_library.specs.Slots.{opened}
 use Rattle.pam_library.specs.SlotStep.{SlotStepped, answered, open_step, succeeded}
 use Rattle.pam_library.specs.AnyWorld.{CanAnswer, is_free, succeeds_or_bad_item}
 use Rattle.pam_library.specs.InPlace.{StaysInside, IsCoded, SaysOnly}
+use Rattle.pam_library.proofs.StackCallFacts.{answer_of, filed_of}
 
 not_true : (b : Bool) → (IsTrue b → ⊥) → b ≡ false
 not_true false not = refl
@@ -41,12 +42,12 @@ module _ (call : AppCall) (h changed : PlainHandle) (bad : Bool)
         let e : open_step players number_of h w call ≡ succeeded (opened changed) w =
         step_is players number_of w ∙ ap (λ (b : Bool). if b then answered (opened h) w (answers.Code codes.BadItem) else succeeded (opened changed) w) not_bad in
         record {
-          outcome_is = only.outcome_is ∙ ap (λ (n : ℕ). answers_only n (answers.Code codes.Success)) (sym is) ∙ sym (ap (λ (s : SlotStepped). s.outcome) e);
+          outcome_is = only ∙ ap (λ (n : ℕ). answers_only n (answers.Code codes.Success)) (sym is) ∙ sym (ap (λ (s : SlotStepped). s.outcome) e);
           slot_is = ap opened same ∙ sym (ap (λ (s : SlotStepped). s.slot) e);
           world_is = sym (ap (λ (s : SlotStepped). s.world) e);
         };
-    answers = subst (CanAnswer call) (sym only.answer_is) (success not_bad);
-    filed_from = only.filed_is;
+    answers = subst (CanAnswer call) (sym (answer_of o _ only)) (success not_bad);
+    filed_from = filed_of o _ only;
     succeeds = λ free. refl;
     fails = tt;
     datums = ap (λ (k : PlainHandle). k.room.transaction.datums) same ∙ same_datums;
@@ -60,12 +61,12 @@ module _ (call : AppCall) (h changed : PlainHandle) (bad : Bool)
         let e : open_step players number_of h w call ≡ answered (opened h) w (answers.Code codes.BadItem) =
         step_is players number_of w ∙ ap (λ (b : Bool). if b then answered (opened h) w (answers.Code codes.BadItem) else succeeded (opened changed) w) is_bad in
         record {
-          outcome_is = only.outcome_is ∙ ap (λ (n : ℕ). answers_only n (answers.Code codes.BadItem)) (sym is) ∙ sym (ap (λ (s : SlotStepped). s.outcome) e);
+          outcome_is = only ∙ ap (λ (n : ℕ). answers_only n (answers.Code codes.BadItem)) (sym is) ∙ sym (ap (λ (s : SlotStepped). s.outcome) e);
           slot_is = ap opened same ∙ sym (ap (λ (s : SlotStepped). s.slot) e);
           world_is = sym (ap (λ (s : SlotStepped). s.world) e);
         };
-    answers = subst (CanAnswer call) (sym only.answer_is) (refusal is_bad);
-    filed_from = only.filed_is;
+    answers = subst (CanAnswer call) (sym (answer_of o _ only)) (refusal is_bad);
+    filed_from = filed_of o _ only;
     succeeds = λ free. refl;
     fails = tt;
     datums = ap (λ (k : PlainHandle). k.room.transaction.datums) same;

@@ -27,12 +27,11 @@ use Rattle.pam_library.specs.SlotStep.{SlotStepsAs, filed_in, slot_step}
 use Rattle.pam_library.specs.Step.{Stepped, StepsAs, stepped, stepped_at}
 use Rattle.pam_library.specs.Sound.{IsAtPlace, IsSound}
 use Rattle.pam_library.specs.AnyWorld.{AnswersBy, Fails, FailsAt, FailsBy, SpendsAt, StopsAt, StopsOn, end_at, refusal, stays_inside, takes_no_memory}
-use Rattle.pam_library.specs.InPlace.{CalledInSlot, IsReadyAt}
+use Rattle.pam_library.specs.InPlace.{CalledInSlot, IsReadyAt, SaysOnly}
 use Rattle.pam_library.specs.Traced.{TracesAt}
 use Rattle.pam_library.specs.StackOf.{stack_of}
 use Rattle.pam_library.proofs.OutOfMemoryFacts.{stops_when}
 use Rattle.pam_library.proofs.SlotNumberFacts.{slot_at-with_slot_other, slot_at-with_slot_same, slot_at-within}
-use Rattle.pam_library.proofs.StackCallFacts.{IsOnly}
 use Rattle.pam_library.proofs.Within.{failed_by}
 use Rattle.pam_library.proofs.SeenSlot.{slot_seen}
 
@@ -165,12 +164,12 @@ module _ (players : List Player) (number_of : Code → ℕ → ℕ) (slots : Lis
   unfolding stepped
   found_as found is = ap (stepped_at players number_of slots w step.number step.call) is
 
-  pub bad_number : (o : Outcome) → slot_at slots step.number ≡ None → IsOnly o (filed_in w) answers.BadNumber
+  pub bad_number : (o : Outcome) → slot_at slots step.number ≡ None → SaysOnly (filed_in w) answers.BadNumber o
       → StepsAs (stepped players number_of slots w step) (plain_outcome o) slots w
   bad_number o none only =
       let e : stepped players number_of slots w step ≡ stepped_at players number_of slots w step.number step.call None = found_as None none in
       record {
-        outcome_is = only.plain ∙ sym (ap (λ (s : Stepped). s.outcome) e);
+        outcome_is = only ∙ sym (ap (λ (s : Stepped). s.outcome) e);
         slots_is = sym (ap (λ (s : Stepped). s.slots) e);
         world_is = sym (ap (λ (s : Stepped). s.world) e);
       }

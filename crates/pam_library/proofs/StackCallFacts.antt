@@ -33,7 +33,7 @@ use Rattle.pam_library.specs.SlotStep.{SlotStepped, SlotStepsAs, answered, filed
 use Rattle.pam_library.specs.Sound.{IsPlaced}
 use Rattle.pam_library.specs.AnyWorld.{AnswersBy, CanAnswer, CanAnswerBy, Fails, FailsBy, SpendsAt, StopsBy, StopsOn, around_of, is_free, leaves_world, needs_outside, open_refusal_by, refusal, stack_refusal, starts_or_ends, starts_or_replies, stays_inside, takes_no_memory, touches_world}
 use Rattle.pam_library.specs.StackOf.{stack_of}
-use Rattle.pam_library.specs.InPlace.{CalledInSlot}
+use Rattle.pam_library.specs.InPlace.{CalledInSlot, SaysOnly}
 use Rattle.pam_library.specs.Traced.{TracesIn}
 use Rattle.pam_library.proofs.CallTraceFacts.{refused_untraced}
 use Rattle.pam_library.proofs.SeenSlot.{slot_seen}
@@ -133,37 +133,34 @@ module _ (call : AppCall) (func : Func) (flags : ℕ) (is : stack_of call ≡ So
   memory_not : takes_no_memory (Some (opened h)) call ≡ true → ⊥
   memory_not e = memory_false (refusal (Some (opened h)) call) (is_free call) not_refused (free_is call (func, flags) is) e
 
--- a result without anything to report, as in the outcome
-pub record IsOnly (o : Outcome) (filed : ℕ) (answer : Answer) : Type 0 where
-  pub plain : plain_outcome o ≡ answers_only filed answer
-  pub answer_is : o.answer ≡ answer
-  pub filed_is : o.filed_from ≡ filed
+-- what an outcome answers, and the number of records before it, by what it is
+pub answer_of : (o : Outcome) (p : PlainOutcome) → plain_outcome o ≡ p → o.answer ≡ p.answer
+answer_of o p e = ap (λ (x : PlainOutcome). x.answer) e
 
--- what a transaction reported and returned, as in the outcome
-pub record IsToldOf (o : Outcome) (filed : ℕ) (code : Code) (h : PlainHandle) : Type 0 where
-  pub plain : plain_outcome o ≡ record { said = h.room.transaction.said; trail = h.room.transaction.trail; filed_from = filed; wait = h.waited; missing = []; answer = answers.Code code }
-  pub answer_is : o.answer ≡ answers.Code code
-  pub filed_is : o.filed_from ≡ filed
-
-pub only_of : (o : Outcome) (n filed : ℕ) (answer : Answer) → plain_outcome o ≡ answers_only n answer → o.answer ≡ answer → o.filed_from ≡ n
-    → n ≡ filed → IsOnly o filed answer
-only_of o n filed answer plain answer_is filed_is same = record { plain = plain ∙ ap (λ (k : ℕ). answers_only k answer) same; answer_is = answer_is; filed_is = filed_is ∙ same }
+pub filed_of : (o : Outcome) (p : PlainOutcome) → plain_outcome o ≡ p → o.filed_from ≡ p.filed_from
+filed_of o p e = ap (λ (x : PlainOutcome). x.filed_from) e
 
 abbrev pub telling : List Message → List Visit → ℕ → Option Wait → Answer → PlainOutcome
 telling said trail filed wait answer = record { said = said; trail = trail; filed_from = filed; wait = wait; missing = []; answer = answer }
 
+-- what a transaction reported and returned, as in the outcome
+abbrev pub IsToldOf : Outcome → ℕ → Code → PlainHandle → Type 0
+IsToldOf o filed code h =
+    plain_outcome o ≡ telling h.room.transaction.said h.room.transaction.trail filed h.waited (answers.Code code)
+
+pub only_of : (o : Outcome) (n filed : ℕ) (answer : Answer) → plain_outcome o ≡ answers_only n answer → n ≡ filed
+    → SaysOnly filed answer o
+only_of o n filed answer plain same = plain ∙ ap (λ (k : ℕ). answers_only k answer) same
+
 pub told_of : (o : Outcome) (said : List Message) (trail : List Visit) (n filed : ℕ) (wait : Option Wait) (code : Code) (h : PlainHandle)
-    → plain_outcome o ≡ telling said trail n wait (answers.Code code) → o.answer ≡ answers.Code code → o.filed_from ≡ n → n ≡ filed
+    → plain_outcome o ≡ telling said trail n wait (answers.Code code) → n ≡ filed
     → said ≡ h.room.transaction.said → trail ≡ h.room.transaction.trail → wait ≡ h.waited → IsToldOf o filed code h
-told_of o said trail n filed wait code h plain answer_is filed_is same said_is trail_is wait_is = record {
-  plain = plain
-      ∙ ap (λ (k : ℕ). telling said trail k wait (answers.Code code)) same
-      ∙ ap (λ (k : List Message). telling k trail filed wait (answers.Code code)) said_is
-      ∙ ap (λ (k : List Visit). telling h.room.transaction.said k filed wait (answers.Code code)) trail_is
-      ∙ ap (λ (k : Option Wait). telling h.room.transaction.said h.room.transaction.trail filed k (answers.Code code)) wait_is;
-  answer_is = answer_is;
-  filed_is = filed_is ∙ same;
-}
+told_of o said trail n filed wait code h plain same said_is trail_is wait_is =
+    plain
+    ∙ ap (λ (k : ℕ). telling said trail k wait (answers.Code code)) same
+    ∙ ap (λ (k : List Message). telling k trail filed wait (answers.Code code)) said_is
+    ∙ ap (λ (k : List Visit). telling h.room.transaction.said k filed wait (answers.Code code)) trail_is
+    ∙ ap (λ (k : Option Wait). telling h.room.transaction.said h.room.transaction.trail filed k (answers.Code code)) wait_is
 
 module _ (players : List Player) (gives : (Code → ℕ → ℕ) → Type 0) (tells world_tells : Bool) (faults : ℕ) (call : AppCall) (func : Func) (flags : ℕ) (is : stack_of call ≡ Some (func, flags))
     (h : PlainHandle) (w : PlainWorld) where
@@ -171,7 +168,7 @@ module _ (players : List Player) (gives : (Code → ℕ → ℕ) → Type 0) (te
   pub stack_refused : (o : Outcome) (refused : Answer)
       → ((note : Notes) (modules : ℕ) (list : PlainDataList) (ledger : PlainLedger) → list.gone ≡ [] → Grows note modules list ledger list ledger)
       → h ≡ all_told h → h.names ≡ names_of players → h.room.transaction.datums.gone ≡ []
-      → ◌≡◌ {A = Option Answer} (stack_refusal h.pending func flags) (Some refused) → IsOnly o (filed_in w) refused
+      → ◌≡◌ {A = Option Answer} (stack_refusal h.pending func flags) (Some refused) → SaysOnly (filed_in w) refused o
       → CalledInSlot h.room.transaction.handle call (slot_seen players gives tells world_tells faults (opened h) w) (Ok o) (opened h) w
   stack_refused o refused grows told names gone none only =
       let steps : (number_of : Code → ℕ → ℕ) → SlotStepsAs (slot_step players number_of h.room.transaction.handle (opened h) w call) (plain_outcome o) (opened h) w =
@@ -180,16 +177,16 @@ module _ (players : List Player) (gives : (Code → ℕ → ℕ) → Type 0) (te
       let e : slot_step players number_of h.room.transaction.handle (opened h) w call ≡ answered (opened (all_told h)) w refused =
       step_is call func flags is players number_of h.room.transaction.handle h w ∙ refused_by (is_refused_for_flags func flags) (other_pending h.pending func) (opened (all_told h)) w c refused none in
       record {
-        outcome_is = only.plain ∙ sym (ap (λ (s : SlotStepped). s.outcome) e);
+        outcome_is = only ∙ sym (ap (λ (s : SlotStepped). s.outcome) e);
         slot_is = ap opened told ∙ sym (ap (λ (s : SlotStepped). s.slot) e);
         world_is = sym (ap (λ (s : SlotStepped). s.world) e);
       } in
       record {
         told = λ number_of given all. steps number_of;
         alone = λ number_of inside. steps number_of;
-        answers = subst (λ (r : Option Answer). AnswersBy r call o.answer) (sym (refusal_is call func flags is h ∙ none)) only.answer_is;
+        answers = subst (λ (r : Option Answer). AnswersBy r call o.answer) (sym (refusal_is call func flags is h ∙ none)) (answer_of o _ only);
         traces = refused_untraced call func flags is h h (plain_outcome o) refused none;
-        filed_from = only.filed_is;
+        filed_from = filed_of o _ only;
         succeeds = λ free. refl;
         fails = tt;
         stops = tt;
@@ -213,7 +210,7 @@ module _ (players : List Player) (gives : (Code → ℕ → ℕ) → Type 0) (te
         let c : Called = stack_call players number_of func flags h w in
         let e = called_as players number_of h.room.transaction.handle call func flags is h w none told in
         record {
-          outcome_is = tells_of.plain
+          outcome_is = tells_of
               ∙ ap (λ (k : PlainHandle). (told_by (filed_in w) (answers.Code code) (record { code = code; handle = k; world = v })).outcome) did.handle_is
               ∙ ap (λ (a : Code). (told_by (filed_in w) (answers.Code a) c).outcome) did.code_is
               ∙ sym (ap (λ (s : SlotStepped). s.outcome) e);
@@ -222,9 +219,9 @@ module _ (players : List Player) (gives : (Code → ℕ → ℕ) → Type 0) (te
         };
     alone = λ number_of inside. absurd (inside_not call func flags is h none inside);
     answers = subst (λ (r : Option Answer). AnswersBy r call o.answer) (sym (not_refused call func flags is h none))
-        (subst (CanAnswer call) (sym tells_of.answer_is) (code_can call func flags is code));
+        (subst (CanAnswer call) (sym (answer_of o _ tells_of)) (code_can call func flags is code));
     traces = traces;
-    filed_from = tells_of.filed_is;
+    filed_from = filed_of o _ tells_of;
     succeeds = λ free. refl;
     fails = tt;
     stops = tt;

@@ -23,6 +23,7 @@ use Rattle.pam_library.specs.SlotStep.{filed_in, opened_by}
 use Rattle.pam_library.specs.Sound.{IsAtPlace}
 use Rattle.pam_library.specs.AnyWorld.{is_refused}
 use Rattle.pam_library.specs.InPlace.{CalledInSlot, IsOpened, IsRefused, OpensPlace}
+use Rattle.pam_library.proofs.StackCallFacts.{answer_of, filed_of}
 use Rattle.pam_library.proofs.SeenSlot.{slot_seen}
 
 refused_is : (answer : Answer) (fault : LoadFault) → answer ≡ answers.Refused fault → IsTrue (is_refused answer)
@@ -66,9 +67,9 @@ module _ (players : List Player) (gives : (Code → ℕ → ℕ) → Type 0) (te
               world_is = s.world_is ∙ ap (λ (a : Result PlainHandle LoadFault). (opened_by (names_of players) conv (filed_in w) of_start.world a).world) (sym s.handle_is);
             };
         alone = λ number_of inside. absurd (cc);
-        answers = inl is.answer_is;
+        answers = inl (answer_of o _ is.outcome_is);
         traces = tt;
-        filed_from = is.filed_is;
+        filed_from = filed_of o _ is.outcome_is;
         succeeds = λ free. refl;
         fails = tt;
         stops = tt;
@@ -108,14 +109,14 @@ module _ (players : List Player) (gives : (Code → ℕ → ℕ) → Type 0) (te
       told = λ number_of given all.
           let s = refuses all in
           record {
-            outcome_is = is.outcome_is ∙ ap (λ (a : Result PlainHandle LoadFault). (opened_by (names_of players) conv (filed_in w) of_start.world a).outcome) (sym s.0);
+            outcome_is = is ∙ ap (λ (a : Result PlainHandle LoadFault). (opened_by (names_of players) conv (filed_in w) of_start.world a).outcome) (sym s.0);
             slot_is = same ∙ ap (λ (a : Result PlainHandle LoadFault). (opened_by (names_of players) conv (filed_in w) of_start.world a).slot) (sym s.0);
             world_is = s.1 ∙ ap (λ (a : Result PlainHandle LoadFault). (opened_by (names_of players) conv (filed_in w) of_start.world a).world) (sym s.0);
           };
       alone = λ number_of inside. absurd (cc);
-      answers = inr (refused_is o.answer fault is.answer_is);
+      answers = inr (refused_is o.answer fault (answer_of o _ is));
       traces = tt;
-      filed_from = is.filed_is;
+      filed_from = filed_of o _ is;
       succeeds = λ free. refl;
       fails = tt;
       stops = tt;

@@ -135,10 +135,8 @@ pub record StaysInside (call : AppCall) (filed : ℕ) (old : PlainHandle)
   pub names : new.names ≡ old.names
 
 -- an outcome has nothing to report except its answer
-pub record SaysOnly (filed : ℕ) (answer : Answer) (o : Outcome) : Type 0 where
-  pub outcome_is : plain_outcome o ≡ answers_only filed answer
-  pub answer_is : o.answer ≡ answer
-  pub filed_is : o.filed_from ≡ filed
+abbrev pub SaysOnly : ℕ → Answer → Outcome → Type 0
+SaysOnly filed answer o = plain_outcome o ≡ answers_only filed answer
 
 -- a call that sets something returned SUCCESS, or BAD_ITEM if it was refused; or memory ran out
 abbrev pub IsCoded : ℕ → Result (Unit {0}) (Refuse BadItem) → Result Outcome NoMemory → Type 0
@@ -171,8 +169,6 @@ opened_outcome filed h =
 pub record OpensPlace (filed : ℕ) (h : PlainHandle) (o : Outcome) (slot : PlainSlot) : Type 0 where
   pub slot_is : slot ≡ opened h
   pub outcome_is : plain_outcome o ≡ opened_outcome filed h
-  pub answer_is : o.answer ≡ answers.Code codes.Success
-  pub filed_is : o.filed_from ≡ filed
 
 abbrev pub IsOpened : ℕ → PlainHandle → Result Outcome NoMemory → PlainSlot → Type 0
 IsOpened filed h (Ok o) slot = OpensPlace filed h o slot

@@ -60,12 +60,7 @@ pub(crate) fn call_open(
             Ok(Outcome::code(alloc, filed, Code::Success))
         }
         AppCall::Reply { text } => offer_open(alloc, handle, filed, text),
-        AppCall::End { .. }
-        | AppCall::Authenticate { .. }
-        | AppCall::SetCred { .. }
-        | AppCall::AcctMgmt { .. }
-        | AppCall::OpenSession { .. }
-        | AppCall::CloseSession { .. }
-        | AppCall::ChAuthTok { .. } => unreachable!(),
+        // The end, which isn't asked for here, and the stack calls.
+        _ => unreachable!(),
     }
 }

@@ -52,8 +52,6 @@ impl Outcome {
     // A result without anything to report. Allocates nothing.
     pub(crate) fn only(alloc: Global, filed_from: u64, answer: Answer) -> Self
         ensures plain { plain_outcome result ≡ answers_only filed_from answer }
-        ensures answer { result.answer ≡ answer }
-        ensures filed_from { result.filed_from ≡ filed_from }
     {
         Outcome {
             said: Messages::new(alloc),
@@ -68,8 +66,6 @@ impl Outcome {
     // A code without anything to report. Allocates nothing.
     pub(crate) fn code(alloc: Global, filed_from: u64, code: Code) -> Self
         ensures plain { plain_outcome result ≡ answers_only filed_from (Answer.Code code) }
-        ensures answer { result.answer ≡ Answer.Code code }
-        ensures filed_from { result.filed_from ≡ filed_from }
     {
         Outcome::only(alloc, filed_from, Answer::Code(code))
     }
@@ -78,8 +74,6 @@ impl Outcome {
     pub(crate) fn missing(alloc: Global, filed_from: u64, missing: Texts) -> Self
         ensures plain { plain_outcome result ≡ record
             (answers_only filed_from (Answer.Code Code.Success)) { missing = missing } }
-        ensures answer { result.answer ≡ Answer.Code Code.Success }
-        ensures filed_from { result.filed_from ≡ filed_from }
     {
         Outcome {
             said: Messages::new(alloc),
@@ -101,8 +95,6 @@ impl Outcome {
           missing = [];
           answer = answer;
         } }
-        ensures answer { result.answer ≡ answer }
-        ensures filed_from { result.filed_from ≡ filed_from }
     {
         Outcome {
             said: told.said,

@@ -21,8 +21,6 @@ pub(crate) fn offer_open(
     requires { length text.now ≤ MAX_TEXT }
     ensures outcome { IfOk result (λ outcome. plain_outcome outcome
         ≡ answers_only filed_from Answer.Nothing) }
-    ensures answer { IfOk result (λ outcome. outcome.answer ≡ Answer.Nothing) }
-    ensures filed_from { IfOk result (λ outcome. outcome.filed_from ≡ filed_from) }
     ensures tells { let tells = ⟦<Room as RoomTold>⟧.tells in
         tells (room_in handle.new) ≡ tells (room_in handle.old) }
     ensures told { let plain = plain_handle ⟦<Room as RoomTold>⟧.plain in
@@ -45,8 +43,6 @@ pub(crate) fn offer_closed(
     requires { length text.now ≤ MAX_TEXT }
     ensures outcome { IfOk result (λ outcome. plain_outcome outcome
         ≡ answers_only filed_from Answer.Nothing) }
-    ensures answer { IfOk result (λ outcome. outcome.answer ≡ Answer.Nothing) }
-    ensures filed_from { IfOk result (λ outcome. outcome.filed_from ≡ filed_from) }
     ensures tells { conv_tells conv.new ≡ conv_tells conv.old }
     ensures told { IsTrue (conv_tells conv.old) →
         IsOffered result text.now (conv_holds conv.old) (conv_holds conv.new) }

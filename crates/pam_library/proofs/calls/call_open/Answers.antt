@@ -55,7 +55,7 @@ returns-in-FailDelay-clause-called g c = record {
   still_tells = c.fail_delay.ensures.tells;
   world_tells = refl;
   goes = rw c.in-FailDelay.is (inside_goes _ _ _ _ _ _ _ _ _ _ _ refl c.nothing_grows.ensures c.requires.told c.requires.ready.0 c.requires.ready.1.none_gone c.receipts_in-filed.ensures
-      (requests_delay _ _ _ _ c.code.result c.fail_delay.ensures.request (record { outcome_is = c.code.ensures.plain; answer_is = c.code.ensures.answer; filed_is = c.code.ensures.filed_from })));
+      (requests_delay _ _ _ _ c.code.result c.fail_delay.ensures.request c.code.ensures.plain));
   world = λ leaves. refl;
 }
 
@@ -64,7 +64,7 @@ returns-in-DelayFn-clause-called g c = record {
   still_tells = c.set_delay.ensures.tells;
   world_tells = refl;
   goes = rw c.in-DelayFn.is (inside_goes _ _ _ _ _ _ _ _ _ _ _ refl c.nothing_grows.ensures c.requires.told c.requires.ready.0 c.requires.ready.1.none_gone c.receipts_in-filed.ensures
-      (switches_delay _ _ _ _ c.code-in-DelayFn.result c.set_delay.ensures.on (record { outcome_is = c.code-in-DelayFn.ensures.plain; answer_is = c.code-in-DelayFn.ensures.answer; filed_is = c.code-in-DelayFn.ensures.filed_from })));
+      (switches_delay _ _ _ _ c.code-in-DelayFn.result c.set_delay.ensures.on c.code-in-DelayFn.ensures.plain));
   world = λ leaves. refl;
 }
 
@@ -94,7 +94,7 @@ returns-in-Some-refusal-clause-called g c = record {
   world_tells = refl;
   goes = stack_refused _ _ _ _ _ c.args.call.now c.in-Some.func c.in-Some.flags (sym c.in-Some.ensures) _ _ c.only.result c.in-Some-refusal.refused c.nothing_grows.ensures c.requires.told c.requires.ready.0 c.requires.ready.1.none_gone
       (sym c.refusal.ensures ∙ c.in-Some-refusal.is)
-      (only_of _ _ _ _ c.only.ensures.plain c.only.ensures.answer c.only.ensures.filed_from c.receipts_in-filed.ensures);
+      (only_of c.only.result _ _ _ c.only.ensures.plain c.receipts_in-filed.ensures);
   world = λ leaves. refl;
 }
 
@@ -104,7 +104,7 @@ returns-in-Some-clause-called g c = record {
   world_tells = c.call.ensures.world_tells;
   goes = stack_ran _ _ _ _ _ c.args.call.now c.in-Some.func c.in-Some.flags (sym c.in-Some.ensures) _ _ c.telling.result c.in_ok-code.code _ _ _ c.requires.told c.requires.ready.0 (sym c.refusal.ensures ∙ c.in_default-refusal.is)
       (λ number_of given all. c.in_ok-code.ensures.told number_of (delay_gives c.in-Some.func _ number_of given) all) c.call.ensures.sound c.take_told-told.ensures.emptied
-      (told_of _ _ _ _ _ _ _ _ c.telling.ensures.plain c.telling.ensures.answer c.telling.ensures.filed_from c.receipts_in-filed.ensures c.take_told-told.ensures.said c.take_told-told.ensures.trail c.take_told-told.ensures.wait)
+      (told_of c.telling.result _ _ _ _ _ _ (plain_handle (plain_room (λ b. (goal.Conv-dyn g (b.vtable, b.value)).conv_holds b.value)) c.call.new.self) c.telling.ensures.plain c.receipts_in-filed.ensures c.take_told-told.ensures.said c.take_told-told.ensures.trail c.take_told-told.ensures.wait)
       (ran_traced c.in-Some.func c.in-Some.flags _ (plain_handle (plain_room (λ b. (goal.Conv-dyn g (b.vtable, b.value)).conv_holds b.value)) c.call.new.self) (plain_outcome c.telling.result) c.in_ok-code.code c.args.call.now (sym c.in-Some.ensures) _ c.requires.told c.take_told-told.ensures.emptied
       (ap (λ (o : PlainOutcome). o.trail) c.telling.ensures.plain ∙ c.take_told-told.ensures.trail) (ap (λ (o : PlainOutcome). o.answer) c.telling.ensures.plain)
       c.in_ok-code.ensures.left c.in_ok-code.ensures.by_trail);

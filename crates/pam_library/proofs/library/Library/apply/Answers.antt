@@ -31,15 +31,15 @@ returns-then-number-eq0-clause-leaves g c = leaves_all _ c.args.step.now _ _ (no
 
 pub returns-then-number-eq0-clause-answers : goal.returns-then-number-eq0-clause-answers
 returns-then-number-eq0-clause-answers g c = bad_answers c.args.step.now _ c.only.result (none_there g c)
-    (only_of _ _ _ _ c.only.ensures.plain c.only.ensures.answer c.only.ensures.filed_from c.receipts_in-filed_from.ensures)
+    (only_of c.only.result _ _ _ c.only.ensures.plain c.receipts_in-filed_from.ensures)
 
 pub returns-then-number-eq0-clause-inside : goal.returns-then-number-eq0-clause-inside
 returns-then-number-eq0-clause-inside g c = λ delay inside. bad_number _ delay _ _ c.args.step.now c.only.result (none_there g c)
-    (only_of _ _ _ _ c.only.ensures.plain c.only.ensures.answer c.only.ensures.filed_from c.receipts_in-filed_from.ensures)
+    (only_of c.only.result _ _ _ c.only.ensures.plain c.receipts_in-filed_from.ensures)
 
 pub returns-then-number-eq0-clause-told : goal.returns-then-number-eq0-clause-told
 returns-then-number-eq0-clause-told g c = λ delay given all. bad_number _ delay _ _ c.args.step.now c.only.result (none_there g c)
-    (only_of _ _ _ _ c.only.ensures.plain c.only.ensures.answer c.only.ensures.filed_from c.receipts_in-filed_from.ensures)
+    (only_of c.only.result _ _ _ c.only.ensures.plain c.receipts_in-filed_from.ensures)
 
 -- ---- a step in its slot
 
