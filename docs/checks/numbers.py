@@ -81,7 +81,7 @@ LIMITS = (
     ("pam_base", "MAX_NAME", "the service's name"),
     ("pam_base", "MAX_DIGITS", "a number in the script"),
     ("record_reader", "CHUNK", "one read"),
-    ("pam_wire", "MAX_TEXT", "a text in a frame"),
+    ("pam_base", "MAX_TEXT", "a text in a frame"),
     ("frame_stream", "MAX_FRAMES", "frames"),
     ("random_config", "MAX_RANDOM_LINES", "`generate`"),
     ("pam_session_cli", "TRANSACTIONS", "transactions"),

@@ -4,11 +4,10 @@ ghost use Rattle.pam_wire.specs.Read.{number_in, text_in, name_in, value_in, swi
 
 use crate::kind::call_of_number;
 use crate::prefix::{FirstFrame, LENGTH, first_frame_of};
-use pam_base::{ALL_ITEMS, AppCall, CallName, ItemName, NoMemory, Step, Text, is_service_name};
+use pam_base::{
+    ALL_ITEMS, AppCall, CallName, ItemName, MAX_TEXT, NoMemory, Step, Text, is_service_name,
+};
 use std::alloc::Global;
-
-/// The maximum length of a text in bytes.
-const MAX_TEXT: usize = 512;
 
 /// The step whose frame these bytes are; None if and only if they aren't a frame, or aren't that of
 /// a call. Only a step allocates.
