@@ -5,8 +5,8 @@ use Rattle.sha_crypt.specs.Characters.{characters}
 use Rattle.sha_crypt.specs.declared.setting.SettingFault.{SettingFault}
 use Rattle.sha_crypt.specs.Hash.{crypted}
 use Rattle.sha_crypt.specs.Setting.{rounds_text}
-use Rattle.module_acts.specs.Arguments.{has_argument}
-use Rattle.mod_unix.specs.NewHash.{new_setting, rounds_in, rounds_of, short_number}
+use Rattle.module_acts.specs.Arguments.{has_argument, short_number}
+use Rattle.mod_unix.specs.NewHash.{new_setting, rounds_in, rounds_of}
 
 -- no rounds are named, or few enough
 record Named (text : List ℕ) : Type 0 where
@@ -20,7 +20,7 @@ by_number (Some n) = record { rounds = Some (max 1000 (min n 1000000)); few = om
 
 by_word : (found : Option (List ℕ)) → Named (rounds_in found)
 by_word None = record { rounds = None; few = tt; is = refl }
-by_word (Some word) = by_number (short_number word)
+by_word (Some word) = by_number (short_number 9 word)
 
 module _ (sha256 : (rounds : Option ℕ) (n number : ℕ) (key : List ℕ) → IfSome rounds (λ r. r ≤ 1000000) → is_ok (crypted (codes "$5$" ++ rounds_text rounds ++ characters n number) key) ≡ true)
     (sha512 : (rounds : Option ℕ) (n number : ℕ) (key : List ℕ) → IfSome rounds (λ r. r ≤ 1000000) → is_ok (crypted (codes "$6$" ++ rounds_text rounds ++ characters n number) key) ≡ true) where

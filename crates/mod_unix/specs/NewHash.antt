@@ -1,26 +1,22 @@
 -- The hash of a new token, and the setting under which it is made (pam_unix(8), crypt(5)).
-use Rattle.std.specs.Prelude.{ℕ, max, min, nat_le, if◌then◌else◌, List, [], ◌++◌, length, Option, Some, None, Result, Ok, Err, codes, decimal}
-use Rattle.pam_base.specs.Number.{number_of_word}
+use Rattle.std.specs.Prelude.{ℕ, max, min, if◌then◌else◌, List, [], ◌++◌, Option, Some, None, Result, Ok, Err, codes, decimal}
 use Rattle.pam_room.specs.Call.{value_among}
 use Rattle.sha_crypt.specs.Characters.{characters}
 use Rattle.sha_crypt.specs.Hash.{crypted}
 use Rattle.sha_crypt.specs.declared.setting.SettingFault.{SettingFault}
-use Rattle.module_acts.specs.Arguments.{has_argument}
+use Rattle.module_acts.specs.Arguments.{has_argument, short_number}
 
 -- SHA-256 with `sha256`, else SHA-512
 abbrev pub method_text : List (List ℕ) → List ℕ
 method_text args = if has_argument (codes "sha256") args then codes "$5$" else codes "$6$"
 
--- a number of one to nine digits
-abbrev pub short_number : List ℕ → Option ℕ
-short_number word = if nat_le (length word) 9 then number_of_word word else None
-
 abbrev pub rounds_of : Option ℕ → List ℕ
 rounds_of (Some rounds) = codes "rounds=" ++ decimal (max 1000 (min rounds 1000000)) ++ codes "$"
 rounds_of None = []
 
+-- the number has at most nine digits; any other text counts as none
 abbrev pub rounds_in : Option (List ℕ) → List ℕ
-rounds_in (Some word) = rounds_of (short_number word)
+rounds_in (Some word) = rounds_of (short_number 9 word)
 rounds_in None = []
 
 -- the salt is eight characters of a random word

@@ -1,10 +1,10 @@
 ghost use Rattle.std.specs.Prelude.{◌≡◌, ◌≤◌, ◌++◌, IfOk, OnOk, length};
 ghost use Rattle.std.specs.Option.{option_copied};
 ghost use Rattle.sha_crypt.specs.Characters.{characters};
-ghost use Rattle.mod_unix.specs.NewHash.{hashed_token, method_text, new_setting, rounds_in, rounds_of, short_number};
+ghost use Rattle.mod_unix.specs.NewHash.{hashed_token, method_text, new_setting, rounds_in, rounds_of};
 
-use module_acts::has_argument;
-use pam_base::{MAX_TEXT, NoMemory, Text, number_in};
+use module_acts::{has_argument, short_number};
+use pam_base::{MAX_TEXT, NoMemory, Text};
 use pam_room::Call;
 use sha_crypt::{crypt, laws};
 use std::alloc::Global;
@@ -53,22 +53,12 @@ fn put_rounds(text: &mut Vec<u8>, alloc: Global, word: Option<&[u8]>) -> Result<
     let Some(word) = word else {
         return Ok(());
     };
-    if let Some(rounds) = short_number(word) {
+    if let Some(rounds) = short_number(word, 9) {
         let rounds = rounds.min(1_000_000).max(1_000);
         let named = format!(in alloc; "rounds={rounds}$")?;
         text.extend_from_slice(named.as_bytes())?;
     }
     Ok(())
-}
-
-fn short_number(word: &[u8]) -> Option<u32>
-    ensures { result ≡ short_number word.now }
-{
-    if word.len() <= 9 {
-        number_in(word)
-    } else {
-        None
-    }
 }
 
 // Adds eight characters of a word.
