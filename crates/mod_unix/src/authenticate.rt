@@ -6,7 +6,7 @@ ghost use Rattle.pam_room.specs.State.{PlainProcess};
 ghost use Rattle.module_acts.specs.Returns.{Returns, scene_of_parts};
 ghost use Rattle.module_acts.specs.Arguments.{has_argument};
 ghost use Rattle.module_acts.specs.OnlyTalks.{OnlyTalks};
-ghost use Rattle.mod_unix.specs.Authenticate.{asks_password, authenticates, has_empty_hash, is_open, is_success, verifies_token};
+ghost use Rattle.mod_unix.specs.Authenticate.{asks_password, authenticates, has_empty_hash, is_open, verifies_token};
 
 use crate::job::Job;
 use crate::look::{KnownPassword, look_up};
@@ -115,16 +115,10 @@ fn verify_token(
         Some(token) => verify(look, token),
         None => return ask_password(job.alloc, look, transaction, conv),
     };
-    if is_success(code) {
+    if code == Code::Success {
         return Ok(Authenticated::Kept(Code::Success));
     }
     ask_password(job.alloc, look, transaction, conv)
-}
-
-fn is_success(code: Code) -> bool
-    ensures { result ≡ is_success code }
-{
-    code == Code::Success
 }
 
 // Asks for a token, and verifies it.
