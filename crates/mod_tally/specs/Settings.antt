@@ -1,11 +1,10 @@
 -- The arguments of pam_faillock(8).
-use Rattle.std.specs.Prelude.{ℕ, Bool, nat_le, if◌then◌else◌, List, length, codes, Option, Some, None, unwrap_or}
+use Rattle.std.specs.Prelude.{ℕ, Bool, if◌then◌else◌, List, codes, Option, Some, None, unwrap_or}
 use Rattle.std.specs.Option.{option_and_then}
 use Rattle.std.specs.List.{filter_map, last_or}
 use Rattle.std.specs.Str.{bytes_eq}
-use Rattle.pam_base.specs.Number.{number_of_word}
 use Rattle.module_acts.specs.pam_room.specs.Call.{value_among}
-use Rattle.module_acts.specs.Arguments.{has_argument}
+use Rattle.module_acts.specs.Arguments.{has_argument, short_number}
 use Rattle.mod_tally.specs.declared.settings.Task.{Task}
 use Rattle.mod_tally.specs.declared.settings.Task.TheVariants.{Preauth, AuthFail, AuthSucc}
 use Rattle.mod_tally.specs.declared.settings.TallySettings.{TallySettings}
@@ -22,16 +21,13 @@ abbrev pub task_among : List (List ℕ) → Option Task
 task_among args = last_or None (filter_map task_word args)
 
 -- a number of 1 to 9 digits; any other text counts as the default
-abbrev pub short_number : List ℕ → Option ℕ
-short_number word = if nat_le (length word) 9 then number_of_word word else None
-
 abbrev pub number_among : List ℕ → ℕ → List (List ℕ) → ℕ
 number_among key default args =
-    unwrap_or (option_and_then short_number (value_among key args)) default
+    unwrap_or (option_and_then (short_number 9) (value_among key args)) default
 
 -- a lock that never ends by itself counts as 0
 abbrev pub time_word : List ℕ → Option ℕ
-time_word word = if bytes_eq word (codes "never") then Some 0 else short_number word
+time_word word = if bytes_eq word (codes "never") then Some 0 else short_number 9 word
 
 abbrev pub unlock_among : List (List ℕ) → ℕ
 unlock_among args =

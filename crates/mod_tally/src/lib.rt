@@ -17,7 +17,7 @@ pub use counted::write_failure;
 use module_acts::CheckModule;
 use pam_faillock::FaillockCheck;
 pub use tally::{Damaged, Failure, Failures, failures};
-pub use tally_file::is_no_file;
+pub use tally_file::{TALLY_LIMIT, is_no_file};
 
 /// `pam_faillock(8)`: the failures of each user are counted in a file, and a user who failed too often is locked.
 pub type Faillock = CheckModule<FaillockCheck>;

@@ -1,10 +1,10 @@
 ghost use Rattle.std.specs.Prelude.{◌≡◌};
 ghost use Rattle.std.specs.Option.{option_copied};
-ghost use Rattle.mod_tally.specs.Settings.{number_among, plain_settings, settings_of, short_number, task_among, task_word, time_word, unlock_among};
+ghost use Rattle.mod_tally.specs.Settings.{number_among, plain_settings, settings_of, task_among, task_word, time_word, unlock_among};
 
-use module_acts::has_argument;
 use module_acts::pam_room::Call;
-use pam_base::{Texts, number_in};
+use module_acts::{has_argument, short_number};
+use pam_base::Texts;
 
 /// What is to be done for a user.
 #[derive(Clone, Copy, Debug)]
@@ -79,7 +79,7 @@ fn number_among(key: &[u8], default: u32, call: &Call<'_>) -> u32
     ensures { result ≡ number_among key.now default call.now.args.now }
 {
     match call.value(key) {
-        Some(word) => short_number(word).unwrap_or(default),
+        Some(word) => short_number(word, 9).unwrap_or(default),
         None => default,
     }
 }
@@ -99,17 +99,6 @@ fn time_word(word: &[u8]) -> Option<u32>
     if word == b"never".as_slice() {
         Some(0)
     } else {
-        short_number(word)
-    }
-}
-
-// A number of 1 to 9 digits.
-fn short_number(word: &[u8]) -> Option<u32>
-    ensures { result ≡ short_number word.now }
-{
-    if word.len() <= 9 {
-        number_in(word)
-    } else {
-        None
+        short_number(word, 9)
     }
 }

@@ -14,7 +14,7 @@ use pam_outside::{FileLock, LockKind, Vault};
 use std::alloc::Global;
 
 /// The maximum number of bytes of a tally file.
-const TALLY_LIMIT: u32 = 65536;
+pub const TALLY_LIMIT: u32 = 65536;
 
 /// Whether a user's name can't be the name of a file: it is empty, `.` or `..`, or holds a slash.
 pub fn is_no_file(user: &[u8]) -> bool
