@@ -7,6 +7,7 @@ use Rattle.pam_outside.specs.Streams.{SinkState}
 use Rattle.record_reader.specs.declared.ending.Stop.{Stop}
 use Rattle.pam_outside.specs.Paths.{path_of}
 use Rattle.mod_tally.specs.declared.tally.Failure.{Failure}
+use Rattle.mod_tally.specs.Faillock.{tally_limit}
 use Rattle.mod_tally.specs.Tally.{failure_line, failures_of}
 use Rattle.cmd_tally.specs.declared.finding.Finding.{Finding}
 use Rattle.cmd_tally.specs.declared.finding.Tallied.{Tallied}
@@ -36,10 +37,11 @@ abbrev pub by_text : Option (List Failure) → PlainTally
 by_text (Some failures) = listed failures
 by_text None = damaged
 
--- a file that doesn't exist has no failures, and one of more than 65,536 bytes is damaged
+-- a file that doesn't exist has no failures, and one that is longer than a tally may be is damaged
 abbrev pub by_file : Option (List ℕ) → PlainTally
 by_file None = listed []
-by_file (Some text) = if nat_lt 65536 (length text) then damaged else by_text (failures_of text)
+by_file (Some text) = if nat_lt tally_limit (length text) then damaged
+    else by_text (failures_of text)
 
 abbrev pub tally_path : List ℕ → List ℕ → List ℕ
 tally_path root user = path_of root (codes "/var/run/faillock/" ++ user)

@@ -5,7 +5,7 @@ ghost use Rattle.pam_outside.specs.Files.{counted};
 ghost use Rattle.mod_tally.specs.Tally.{failure_line, failures_of};
 ghost use Rattle.cmd_tally.specs.Tally.{IsTally, by_text, damaged, listed, tally_of, tally_path, unread};
 
-use mod_tally::{Failure, Failures, failures, write_failure};
+use mod_tally::{Failure, Failures, TALLY_LIMIT, failures, write_failure};
 use pam_base::{NoMemory, Refuse, Text};
 use pam_outside::{Vault, VaultFault, path_of, read_file};
 use std::alloc::Global;
@@ -27,8 +27,6 @@ pub(crate) struct Finding {
     pub(crate) tallied: Tallied,
     pub(crate) text: Text,
 }
-
-const TALLY_LIMIT: u32 = 65_536;
 
 /// Reads the failures in a user's file.
 #[tactic(auto, unfolding(crate::specs::Tally::tally_of))]
