@@ -11,8 +11,8 @@
 --   `unless_refused`: the token was used before after all
 use Rattle.std.specs.Prelude.{ℕ, Bool, true, false, ◌==◌, ◌&&◌, ◌||◌, not, nat_le, if◌then◌else◌, List, [], length, Option, Some, None, Result, Ok, Err, codes, unwrap_or}
 use Rattle.std.specs.List.{list_any}
+use Rattle.std.specs.Option.{option_and_then}
 use Rattle.std.specs.Str.{bytes_eq}
-use Rattle.pam_base.specs.Number.{number_of_word}
 use Rattle.pam_base.specs.declared.code.Code.{Code}
 use Rattle.pam_base.specs.declared.code.Code.TheVariants.{Success, UserUnknown, AuthtokErr, ModuleUnknown}
 use Rattle.pam_base.specs.declared.call.Func.{Func}
@@ -35,23 +35,16 @@ use Rattle.mod_unix.specs.declared.look.KnownPassword.TheVariants.{Unknown, Unav
 use Rattle.mod_unix.specs.Change.{write_result, takes_token}
 use Rattle.mod_unix.specs.Look.{looks}
 use Rattle.mod_history.specs.declared.history.Remembered.{Remembered}
-use Rattle.module_acts.specs.Arguments.{has_argument}
+use Rattle.module_acts.specs.Arguments.{has_argument, short_number}
 use Rattle.mod_history.specs.History.{history_of, history_text}
 use Rattle.mod_history.specs.Renewal.{hashes_of, renewed}
 
 -- ---- arguments
 
--- a number of one to three digits
-abbrev pub short_number : List ℕ → Option ℕ
-short_number word = if nat_le (length word) 3 then number_of_word word else None
-
-abbrev pub number_in : Option (List ℕ) → Option ℕ
-number_in (Some word) = short_number word
-number_in None = None
-
--- how many hashes of a user are kept: `remember=`, or 10
+-- how many hashes of a user are kept: `remember=`, of at most three digits, or 10
 unfoldable pub remember_of : List (List ℕ) → ℕ
-remember_of args = unwrap_or (number_in (value_among (codes "remember=") args)) 10
+remember_of args =
+    unwrap_or (option_and_then (short_number 3) (value_among (codes "remember=") args)) 10
 
 -- ---- whether a token was used before
 

@@ -1,7 +1,7 @@
 ghost use Rattle.std.specs.Prelude.{◌≡◌};
-ghost use Rattle.mod_history.specs.Pwhistory.{remember_of, short_number};
+ghost use Rattle.mod_history.specs.Pwhistory.{remember_of};
 
-use pam_base::number_in;
+use module_acts::short_number;
 use pam_room::Call;
 
 /// How many hashes of a user are kept.
@@ -10,18 +10,7 @@ pub(crate) fn remember_of(call: &Call) -> u32
     ensures { result ≡ remember_of call.now.args.now }
 {
     match call.value(b"remember=") {
-        Some(word) => short_number(word).unwrap_or(10),
+        Some(word) => short_number(word, 3).unwrap_or(10),
         None => 10,
-    }
-}
-
-// A number of one to three digits.
-fn short_number(word: &[u8]) -> Option<u32>
-    ensures { result ≡ short_number word.now }
-{
-    if word.len() <= 3 {
-        number_in(word)
-    } else {
-        None
     }
 }
