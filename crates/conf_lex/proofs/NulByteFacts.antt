@@ -1,12 +1,14 @@
 -- What follows some bytes can be left out from the first NUL byte on.
-use Rattle.std.proofs.Common.{◌≡◌, ℕ, zero, suc, ◌+◌, ◌-◌, ◌≤◌, ◌<◌, true, false, cond, eqb, List, [], ◌∷◌, ◌++◌, length, take, drop, Option, Some, None, get_or, refl, sym, ap, ◌∙◌, arith, inl, inr, length-append}
+use Rattle.std.proofs.Common.{◌≡◌, ℕ, zero, suc, ◌+◌, ◌-◌, ◌≤◌, ◌<◌, ◌^◌, true, false, eqb, List, [], ◌∷◌, ◌++◌, length, take, drop, Some, None, get_or, refl, sym, ap, ◌∙◌, arith, inl, inr}
 use Rattle.std.proofs.lemmas.Bool.{eqb-true}
 use Rattle.std.proofs.lemmas.List.Sums.{count_by-le-length}
 use Rattle.pam_base.specs.Bytes.{has_byte, IsFirstPlace}
 use Rattle.conf_lex.specs.Rules.{newlines}
-use Rattle.conf_lex.specs.Lexing.{before_nul, nul_line, Moves}
+use Rattle.conf_lex.specs.declared.lexer.Lexer.{Lexer}
+use Rattle.conf_lex.specs.Lexing.{before_nul, nul_line}
+use Rattle.conf_lex.specs.Moving.{Moves}
 use Rattle.conf_lex.proofs.Every.{which}
-use Rattle.conf_lex.specs.Piece.{Join, feed, return_feed, join_bytes, join_at, join_after_backslash, at_line_end, begins_with, goes_on}
+use Rattle.conf_lex.specs.Piece.{join_at, at_line_end, begins_with}
 use Rattle.conf_lex.specs.Reading.{run_of, rest_of_line}
 use Rattle.conf_lex.specs.Lexing.{is_bracket_end, is_escape, begins_white}
 use Rattle.conf_lex.proofs.Once.{both, either, white_cases}
@@ -38,11 +40,8 @@ pub before_short : (t : List ℕ) → length (before_nul t) ≤ length t
 before_short [] = omega arith
 before_short (b ∷ bs) = elim (which (eqb b 0)) [ inl y ↦ rw y (omega arith) | inr z ↦ rw z (omega (arith, before_short bs)) ]
 
-pub moves_none : (t : List ℕ) (m : ℕ) → Moves t t m m
-moves_none t m = record { nul = refl; nul_kept = refl; fits = omega arith }
-
-pub moves_on : (s t u : List ℕ) (m k n : ℕ) → Moves s t m k → Moves t u k n → Moves s u m n
-moves_on s t u m k n a b = record { nul = b.nul ∙ a.nul; nul_kept = omega (arith, a.nul_kept, b.nul_kept); fits = omega (arith, a.fits, b.fits) }
+pub moves_on : (old mid new : Lexer) → Moves old mid → Moves mid new → Moves old new
+moves_on old mid new a b = record { nul = b.nul ∙ a.nul; nul_kept = omega (arith, a.nul_kept, b.nul_kept) }
 
 drop_length : (n : ℕ) (t : List ℕ) → n ≤ length t → length (drop n t) + n ≡ length t
 drop_length zero t e = omega arith
@@ -66,17 +65,22 @@ rest_is n t e = take_whole (length t - n) (drop n t) (omega (arith, drop_length 
 pub lines_most : (n : ℕ) (t : List ℕ) → n ≤ length (before_nul t) → newlines (take n (before_nul t)) ≤ n
 lines_most n t e = omega (arith, count_by-le-length (λ b. eqb b 10) (take n (before_nul t)), take_length n (before_nul t) e)
 
-pub skip_moves : (n : ℕ) (t rest : List ℕ) (m lines : ℕ) → n ≤ length (before_nul t) → lines ≡ newlines (take n (before_nul t)) → rest ≡ drop n t
-    → Moves t rest m (m + lines)
-skip_moves n t rest m lines e is to =
-    let within : n ≤ length t = omega (arith, before_short t) in
-    let left : length rest + n ≡ length t = ap (λ (s : List ℕ). length s + n) to ∙ drop_length n t within in
-    let left_before : length (before_nul rest) + n ≡ length (before_nul t) = ap (λ (s : List ℕ). length (before_nul s) + n) to ∙ (ap (λ (s : List ℕ). length s + n) (before_drop n t e) ∙ drop_length n (before_nul t) e) in
-    record {
-      nul = ap (λ (k : ℕ). nul_line (m + k) rest) is ∙ (ap (nul_line (m + newlines (take n (before_nul t)))) to ∙ nul_drop m n t e);
-      nul_kept = omega (arith, left, left_before);
-      fits = omega (arith, left, is, lines_most n t e);
-    }
+-- n bytes were skipped, which contain this many newlines
+module _ (n lines : ℕ) (t rest : List ℕ) (m : ℕ) (e : n ≤ length (before_nul t)) (is : lines ≡ newlines (take n (before_nul t))) (to : rest ≡ drop n t) where
+  left : length rest + n ≡ length t
+  left = ap (λ (s : List ℕ). length s + n) to ∙ drop_length n t (omega (arith, e, before_short t))
+
+  left_before : length (before_nul rest) + n ≡ length (before_nul t)
+  left_before = ap (λ (s : List ℕ). length (before_nul s) + n) to ∙ (ap (λ (s : List ℕ). length s + n) (before_drop n t e) ∙ drop_length n (before_nul t) e)
+
+  pub skip_fits : m + length t < 2 ^ 32 → m + lines + length rest < 2 ^ 32
+  skip_fits fits = omega (arith, fits, left, is, lines_most n t e)
+
+  pub skip_nul : nul_line (m + lines) rest ≡ nul_line m t
+  skip_nul = ap (λ (k : ℕ). nul_line (m + k) rest) is ∙ (ap (nul_line (m + newlines (take n (before_nul t)))) to ∙ nul_drop m n t e)
+
+  pub skip_keeps : length rest + length (before_nul t) ≡ length t + length (before_nul rest)
+  skip_keeps = omega (arith, left, left_before)
 
 -- ---- how a text begins
 

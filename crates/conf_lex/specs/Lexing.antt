@@ -1,5 +1,5 @@
 -- What the parts of the lexer give (this project's own).
-use Rattle.std.specs.Prelude.{◌≡◌, ℕ, ◌+◌, ◌≤◌, Bool, true, false, List, [], ◌∷◌, ◌++◌, Option, Some, None, Result, Ok, Err, length, nat_lt, ◌==◌, ◌||◌, ◌&&◌, if◌then◌else◌}
+use Rattle.std.specs.Prelude.{◌≡◌, ℕ, ◌+◌, Bool, true, false, List, [], ◌∷◌, ◌++◌, Option, Some, None, Result, Ok, Err, length, nat_lt, ◌==◌, ◌||◌, ◌&&◌, if◌then◌else◌}
 use Rattle.std.specs.List.{flat_map, list_any}
 use Rattle.pam_base.specs.White.{is_white}
 use Rattle.pam_base.specs.declared.fault.Refuse.{Refuse}
@@ -24,13 +24,6 @@ before_nul (b ∷ bs) = if b == 0 then [] else b ∷ before_nul bs
 abbrev pub nul_line : ℕ → List ℕ → Option ℕ
 nul_line n [] = None
 nul_line n (b ∷ bs) = if b == 0 then Some n else nul_line (n + newlines (b ∷ [])) bs
-
--- part of the text was read, without a NUL byte: the first one is in the same line, and as much
--- follows it
-pub record Moves (before after : List ℕ) (old_line new_line : ℕ) : Type 0 where
-  pub nul : nul_line new_line after ≡ nul_line old_line before
-  pub nul_kept : length after + length (before_nul before) ≡ length before + length (before_nul after)
-  pub fits : new_line + length after ≤ old_line + length before
 
 -- whether a bracket's units end here, with a `]` or the line
 abbrev pub is_bracket_end : List ℕ → Bool

@@ -2,7 +2,7 @@ ghost use Rattle.std.specs.Prelude.{◌≡◌, ℕ, ◌+◌, ◌<◌, ◌≤◌,
 ghost use Rattle.conf_lex.specs.Piece.{at_line_end, begins_with, join_at, join_bytes, goes_on};
 ghost use Rattle.conf_lex.specs.Reading.{run_of, rest_of_line, unit_at};
 ghost use Rattle.conf_lex.specs.Rules.{newlines, rule_at};
-ghost use Rattle.conf_lex.specs.Lexing.{before_nul, nul_line, Moves, is_bracket_end, is_escape, begins_white, TakesJoin, TakesUnit, TakesUnits, TakesPiece, TakesPieces, EndsLine, GivesLine, Gives, found_tokens, found_open, fault_at, answer_at};
+ghost use Rattle.conf_lex.specs.Lexing.{before_nul, nul_line, is_bracket_end, is_escape, begins_white, TakesJoin, TakesUnit, TakesUnits, TakesPiece, TakesPieces, EndsLine, GivesLine, Gives, found_tokens, found_open, fault_at, answer_at};
 
 use crate::prefix::{
     at_end, at_line_end, is_bracket_end, is_escape, join_length, line_length, run_length,
@@ -20,6 +20,8 @@ const MAX_LINE: usize = 4096;
 pub struct Lexer<'a> {
     pub rest: &'a [u8],
     pub line: u32,
+    // No line has a number of 2^32 or more.
+    ghost fits: { line + length rest.now < 2 ^ 32 },
 }
 
 /// A piece of a joined line.
@@ -75,14 +77,15 @@ impl Line {
 }
 
 impl<'a> Lexer<'a> {
+    ghost use Rattle.conf_lex.specs.Moving.{Moves};
+
     /// Skips the first n bytes, which contain this many newlines.
     fn skip(&mut self, n: usize, lines: u32)
         requires within { n ≤ length (before_nul self.old.rest.now) }
         requires lines { lines ≡ newlines (take n (before_nul self.old.rest.now)) }
-        requires fits { self.old.line + length self.old.rest.now < 2 ^ 32 }
         ensures rest { before_nul self.new.rest.now ≡ drop n (before_nul self.old.rest.now) }
         ensures line { self.new.line ≡ self.old.line + lines }
-        ensures moves { Moves self.old.rest.now self.new.rest.now self.old.line self.new.line }
+        ensures moves { Moves self.old self.new }
     {
         self.rest = &self.rest[n..];
         self.line += lines;
@@ -90,11 +93,10 @@ impl<'a> Lexer<'a> {
 
     /// Skips the join at the beginning, if there is one.
     fn join(&mut self) -> bool
-        requires { self.old.line + length self.old.rest.now < 2 ^ 32 }
         ensures taken { TakesJoin result (before_nul self.old.rest.now)
             (before_nul self.new.rest.now)
             self.old.line self.new.line }
-        ensures moves { Moves self.old.rest.now self.new.rest.now self.old.line self.new.line }
+        ensures moves { Moves self.old self.new }
     {
         match join_length(self.rest) {
             Some(n) => {
@@ -108,11 +110,10 @@ impl<'a> Lexer<'a> {
     /// Reads one unit of a bracket, and returns the byte that it means; None at the end of the
     /// bracket or of the line.
     fn unit(&mut self) -> Option<u8>
-        requires { self.old.line + length self.old.rest.now < 2 ^ 32 }
         ensures taken { TakesUnit result (before_nul self.old.rest.now)
             (before_nul self.new.rest.now)
             self.old.line self.new.line }
-        ensures moves { Moves self.old.rest.now self.new.rest.now self.old.line self.new.line }
+        ensures moves { Moves self.old self.new }
     {
         if self.join() {
             return Some(b' ');
@@ -131,11 +132,10 @@ impl<'a> Lexer<'a> {
 
     /// Reads the units of a bracket, up to its end or that of the line, and returns their bytes.
     fn units(&mut self, alloc: Global) -> Result<Text, NoMemory>
-        requires { self.old.line + length self.old.rest.now < 2 ^ 32 }
         ensures taken { IfOk result (λ text. TakesUnits text (before_nul self.old.rest.now)
             (before_nul self.new.rest.now) self.old.line self.new.line) }
         ensures ends { OnOk result (unit_at (before_nul self.new.rest.now) ≡ None) }
-        ensures moves { Moves self.old.rest.now self.new.rest.now self.old.line self.new.line }
+        ensures moves { Moves self.old self.new }
     {
         let mut text = Text::new(alloc);
         while let Some(byte) = self.unit() {
@@ -146,11 +146,10 @@ impl<'a> Lexer<'a> {
 
     /// Reads a bracket.
     fn bracket(&mut self, alloc: Global) -> Result<LinePiece, NoMemory>
-        requires fits { self.old.line + length self.old.rest.now < 2 ^ 32 }
         requires bracket { IsTrue (begins_with 91 (before_nul self.old.rest.now)) }
         ensures taken { IfOk result (λ found. TakesPiece found (before_nul self.old.rest.now)
             (before_nul self.new.rest.now) self.old.line self.new.line) }
-        ensures moves { Moves self.old.rest.now self.new.rest.now self.old.line self.new.line }
+        ensures moves { Moves self.old self.new }
     {
         self.skip(1, 0);
         let text = self.units(alloc)?;
@@ -166,12 +165,11 @@ impl<'a> Lexer<'a> {
 
     /// Reads a plain token.
     fn plain(&mut self, alloc: Global) -> Result<LinePiece, NoMemory>
-        requires fits { self.old.line + length self.old.rest.now < 2 ^ 32 }
         requires on { goes_on (before_nul self.old.rest.now) ≡ true }
         requires no_bracket { begins_with 91 (before_nul self.old.rest.now) ≡ false }
         ensures taken { IfOk result (λ found. TakesPiece found (before_nul self.old.rest.now)
             (before_nul self.new.rest.now) self.old.line self.new.line) }
-        ensures moves { Moves self.old.rest.now self.new.rest.now self.old.line self.new.line }
+        ensures moves { Moves self.old self.new }
     {
         let length = run_length(self.rest);
         let run = &self.rest[..length];
@@ -184,12 +182,11 @@ impl<'a> Lexer<'a> {
 
     /// Skips a comment.
     fn comment(&mut self) -> LinePiece
-        requires fits { self.old.line + length self.old.rest.now < 2 ^ 32 }
         requires hash { IsTrue (begins_with 35 (before_nul self.old.rest.now)) }
         ensures taken { TakesPiece result (before_nul self.old.rest.now)
             (before_nul self.new.rest.now)
             self.old.line self.new.line }
-        ensures moves { Moves self.old.rest.now self.new.rest.now self.old.line self.new.line }
+        ensures moves { Moves self.old self.new }
     {
         let length = line_length(self.rest);
         self.skip(length, 0);
@@ -198,12 +195,11 @@ impl<'a> Lexer<'a> {
 
     /// Skips white space.
     fn white(&mut self) -> LinePiece
-        requires fits { self.old.line + length self.old.rest.now < 2 ^ 32 }
         requires white { IsTrue (begins_white (before_nul self.old.rest.now)) }
         ensures taken { TakesPiece result (before_nul self.old.rest.now)
             (before_nul self.new.rest.now)
             self.old.line self.new.line }
-        ensures moves { Moves self.old.rest.now self.new.rest.now self.old.line self.new.line }
+        ensures moves { Moves self.old self.new }
     {
         self.skip(1, 0);
         LinePiece::Blank
@@ -211,11 +207,10 @@ impl<'a> Lexer<'a> {
 
     /// Reads the next piece of a joined line.
     fn piece(&mut self, alloc: Global) -> Result<LinePiece, NoMemory>
-        requires fits { self.old.line + length self.old.rest.now < 2 ^ 32 }
         requires within { at_line_end (before_nul self.old.rest.now) ≡ false }
         ensures taken { IfOk result (λ found. TakesPiece found (before_nul self.old.rest.now)
             (before_nul self.new.rest.now) self.old.line self.new.line) }
-        ensures moves { Moves self.old.rest.now self.new.rest.now self.old.line self.new.line }
+        ensures moves { Moves self.old self.new }
     {
         if self.join() {
             return Ok(LinePiece::Blank);
@@ -230,11 +225,10 @@ impl<'a> Lexer<'a> {
 
     /// Reads a joined line, up to its ending newline or the end.
     fn pieces(&mut self, alloc: Global) -> Result<Line, NoMemory>
-        requires { self.old.line + length self.old.rest.now < 2 ^ 32 }
         ensures taken { IfOk result (λ line. TakesPieces line (before_nul self.old.rest.now)
             (before_nul self.new.rest.now) self.old.line self.new.line) }
         ensures ends { OnOk result (at_line_end (before_nul self.new.rest.now) ≡ true) }
-        ensures moves { Moves self.old.rest.now self.new.rest.now self.old.line self.new.line }
+        ensures moves { Moves self.old self.new }
     {
         let mut line = Line {
             tokens: Tokens::new(alloc),
@@ -249,11 +243,10 @@ impl<'a> Lexer<'a> {
 
     /// Skips the newline that ends a joined line, unless the text ends here.
     fn newline(&mut self)
-        requires fits { self.old.line + length self.old.rest.now < 2 ^ 32 }
         requires ends { at_line_end (before_nul self.old.rest.now) ≡ true }
         ensures taken { EndsLine (before_nul self.old.rest.now) (before_nul self.new.rest.now)
             self.old.line self.new.line }
-        ensures moves { Moves self.old.rest.now self.new.rest.now self.old.line self.new.line }
+        ensures moves { Moves self.old self.new }
     {
         if !at_end(self.rest) {
             self.skip(1, 1);
@@ -262,14 +255,13 @@ impl<'a> Lexer<'a> {
 
     /// Reads a joined line with its newline, and returns its tokens or its fault.
     fn rule(&mut self, alloc: Global) -> Result<Tokens, Refuse<LexFault>>
-        requires fits { self.old.line + length self.old.rest.now < 2 ^ 32 }
         requires some { 0 < length (before_nul self.old.rest.now) }
         ensures given { GivesLine result (answer_at self.old.line
             (before_nul self.old.rest.now)) self.old.line
             (answer_at self.new.line (before_nul self.new.rest.now)) }
         ensures shorter { OnOk result
             (length (before_nul self.new.rest.now) < length (before_nul self.old.rest.now)) }
-        ensures moves { Moves self.old.rest.now self.new.rest.now self.old.line self.new.line }
+        ensures moves { Moves self.old self.new }
     {
         let first = self.line;
         let length = self.rest.len();
@@ -286,9 +278,8 @@ impl<'a> Lexer<'a> {
     /// Reads the joined lines up to the end, and returns their rules; stops at the first line that
     /// has a fault.
     pub fn rules(&mut self, alloc: Global) -> Result<RawRules, Refuse<LexFault>>
-        requires { self.old.line + length self.old.rest.now < 2 ^ 32 }
         ensures given { Gives result (answer_at self.old.line (before_nul self.old.rest.now)) }
-        ensures moves { Moves self.old.rest.now self.new.rest.now self.old.line self.new.line }
+        ensures moves { Moves self.old self.new }
     {
         let mut rules = RawRules::new(alloc);
         while !at_end(self.rest) {
@@ -301,7 +292,6 @@ impl<'a> Lexer<'a> {
 
     /// The physical line of the first NUL byte in the rest of the text, if there is one.
     pub fn nul_line(&self) -> Option<u32>
-        requires { self.now.line + length self.now.rest.now < 2 ^ 32 }
         ensures { result ≡ nul_line self.now.line self.now.rest.now }
     {
         let mut line = self.line;

@@ -1,5 +1,5 @@
 use Rattle.std.proofs.Common.{◌≡◌, false, get_or, arith, sym, ◌∙◌}
-use Rattle.conf_lex.specs.Lexing.{before_nul, is_bracket_end, UnitTaken}
+use Rattle.conf_lex.specs.Lexing.{before_nul, is_bracket_end}
 use Rattle.conf_lex.proofs.TextUnitFacts.{joined_unit, alone_unit}
 use Rattle.conf_lex.proofs.NulByteFacts.{unit_on, front_before}
 use Rattle.conf_lex.proofs.lexer.Lexer.unit.Goals as goal
