@@ -13,7 +13,7 @@ use Rattle.pam_library.specs.Calls.{Moved, births_added, events_of}
 use Rattle.pam_library.specs.Slots.{NoneIsOpen, PlainSlot, closed, opened, data_in, lists_of}
 use Rattle.cmd_run.specs.AnyWorld.{AllEndsAre, Proceeds, ProceedsBy}
 use Rattle.cmd_run.specs.Ends.{EndsAre}
-use Rattle.cmd_run.specs.Seen.{Seen, Went}
+use Rattle.cmd_run.specs.Seen.{SessionSeen, Went}
 use Rattle.pam_room.specs.Module.{Player, notes_of}
 use Rattle.pam_room.specs.State.{PlainProcess, PlainWorld}
 use Rattle.cmd_all.specs.ByCommand.{Setup}
@@ -107,7 +107,7 @@ module _ (P Q : ℕ → ℕ → Type 0) (also : (number status : ℕ) → P numb
 
 -- a library that was opened, and run from a world with the same process
 pub cleaned_at : (P Is : ℕ → ℕ → Type 0) → ((number status : ℕ) → P number status → Is number status)
-    → (root : List ℕ) (setup : Setup) (old : PlainWorld) (s t e : Seen)
+    → (root : List ℕ) (setup : Setup) (old : PlainWorld) (s t e : SessionSeen)
     → ((first last : PlainLedger) (lists next : Lists) (events : List Event) (p : Proceeds (notes_of t.players) first lists last next)
     → ModelsEvents (notes_of t.players) 17 first lists events → ModelsEvents (notes_of t.players) 17 last next (events ++ events_of first p.calls))
     → IsOpened root setup old s → t.players ≡ s.players → t.slots ≡ s.slots → t.world.process ≡ s.world.process → Went P t e → NoneIsOpen e.slots

@@ -14,7 +14,7 @@ use Rattle.cmd_login.specs.Login.{KnownCalls, Part, TriesLogin}
 use Rattle.cmd_login.specs.Reported.{LogsIn, possible_calls}
 use Rattle.cmd_login.specs.Told.{exact_calls}
 use Rattle.record_reader.specs.declared.ending.Stop.TheVariants.{NoMemory}
-use Rattle.cmd_run.specs.Seen.{Seen, setting_at}
+use Rattle.cmd_run.specs.Seen.{SessionSeen, setting_at}
 use Rattle.cmd_run.specs.State.{setting_of, state_of}
 use Rattle.cmd_run.specs.Time.{Moments}
 use Rattle.cmd_all.specs.declared.exit.Exit.TheVariants as exits
@@ -41,7 +41,7 @@ module _ (Does : Part Verdict) (known : List Player → KnownCalls) (root : List
         under logs;
   }
 
-  pub logged_in : (setup : Setup) (s : Seen) → IsOpened root setup world.old s
+  pub logged_in : (setup : Setup) (s : SessionSeen) → IsOpened root setup world.old s
       → LogsIn Does (known s.players) s.players result (state_of s.slots s.world) (state_of ends world.new) output.old output.new
       → LogsInBy Does (known setup.players) setup status root world output
   logged_in setup s opened logs = inl (
@@ -49,7 +49,7 @@ module _ (Does : Part Verdict) (known : List Player → KnownCalls) (root : List
       opened.players opened.slots (logged_at s.players s.slots s.world opened.world_is logs))
 
 -- a library that comes from one setup comes from another one, too, if both give the same
-pub opened_as : (root : List ℕ) (setup other : Setup) (old : PlainWorld) (s : Seen) → setup.players ≡ other.players → setup.slots ≡ other.slots
+pub opened_as : (root : List ℕ) (setup other : Setup) (old : PlainWorld) (s : SessionSeen) → setup.players ≡ other.players → setup.slots ≡ other.slots
     → (IsTrue other.tells → IsTrue setup.tells)
     → ((number : Code → ℕ → ℕ) → other.gives number → setup.gives number) → IsOpened root setup old s → IsOpened root other old s
 opened_as root setup other old s players slots tells gives opened = record {
@@ -74,7 +74,7 @@ ends_generate result status is number ended e = (result, is, e)
 
 -- a login, over a library of a setup that gives the same
 module _ (root service : List ℕ) (user : Option (List ℕ)) (status : ℕ) (setup : Setup) (world : Around) (output : Object SinkState) where
-  pub logs_in_so : (given : Setup) (s : Seen) (ends : List PlainSlot) (result : Result Verdict Stop) → IsOpened root given world.old s
+  pub logs_in_so : (given : Setup) (s : SessionSeen) (ends : List PlainSlot) (result : Result Verdict Stop) → IsOpened root given world.old s
       → given.players ≡ setup.players → given.slots ≡ setup.slots → (IsTrue setup.tells → IsTrue given.tells)
       → ((number : Code → ℕ → ℕ) → setup.gives number → given.gives number) → s.world_tells ≡ world.tells → status ≡ exit_status (login_exit result)
       → (moments : Moments) → moments ≡ setup.moments

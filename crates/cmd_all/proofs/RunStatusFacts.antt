@@ -20,7 +20,7 @@ use Rattle.cmd_run.specs.Made.{ReportsRun}
 use Rattle.cmd_run.specs.Run.{RunTold}
 use Rattle.cmd_run.specs.State.{Setting, RunState, state_of}
 use Rattle.cmd_run.specs.Whole.{RunsScript}
-use Rattle.cmd_run.specs.Seen.{Seen, setting_at}
+use Rattle.cmd_run.specs.Seen.{SessionSeen, setting_at}
 use Rattle.cmd_all.specs.declared.exit.Exit.TheVariants as exits
 use Rattle.cmd_all.specs.Exit.{exit_status, script_exit}
 use Rattle.cmd_all.specs.Setup.{Around, Moments, Object, Setup}
@@ -104,7 +104,7 @@ module _ {Kind : Type 0} (runs_so : RunTold Kind) (root : List ℕ) (world : Aro
     none_yet = none_yet;
   }
 
-  pub begun : (moments : Moments) (players : List Player) (slots : List PlainSlot) (given : Setup) (s : Seen) (now : PlainWorld) (number : Code → ℕ → ℕ)
+  pub begun : (moments : Moments) (players : List Player) (slots : List PlainSlot) (given : Setup) (s : SessionSeen) (now : PlainWorld) (number : Code → ℕ → ℕ)
       → given.players ≡ players → given.slots ≡ slots → IsOpened root given world.old s → IsReset s.world now
       → runs_so (setting_at moments s number) result (state_of s.slots now) (state_of ends world.new) input.old input.new output.old output.new
       → IsBegunSo runs_so (record { players = players; delay = number; moments = moments }) result (opening slots root world.old) world input output

@@ -5,14 +5,14 @@ use Rattle.data_cleanup.specs.Modelled.{ModelsEvents}
 use Rattle.pam_room.specs.Module.{notes_of}
 use Rattle.pam_room.specs.State.{PlainWorld}
 use Rattle.pam_library.specs.Slots.{handle_limit, lists_of}
-use Rattle.cmd_run.specs.Seen.{IsSoundIn, NoneIsOpenIn, Seen}
+use Rattle.cmd_run.specs.Seen.{IsSoundIn, NoneIsOpenIn, SessionSeen}
 use Rattle.cmd_all.specs.ByCommand.{Setup}
 use Rattle.cmd_all.specs.Login.{at_root}
 
 -- It has these modules, conversations and delay function, and no transaction is open. The world is
 -- as before but with this root, and no module data have been set.
-pub record IsOpened (root : List ℕ) (setup : Setup) (before : PlainWorld) (seen : Seen) : Type
-    0 where
+pub record IsOpened (root : List ℕ) (setup : Setup) (before : PlainWorld)
+    (seen : SessionSeen) : Type 0 where
   pub players : seen.players ≡ setup.players
   pub slots : seen.slots ≡ setup.slots
   pub tells : IsTrue setup.tells → IsTrue seen.tells

@@ -15,7 +15,7 @@ use Rattle.cmd_run.specs.pam_library.specs.declared.outcome.Answer.TheVariants a
 use Rattle.cmd_run.specs.pam_library.specs.Outcome.{PlainOutcome}
 use Rattle.cmd_run.specs.pam_library.specs.Step.{Stepped, stepped}
 use Rattle.cmd_run.specs.pam_library.specs.Slots.{slot_at}
-use Rattle.cmd_run.specs.Seen.{AllTell, NoneIsOpenIn, Seen, Went, setting_in, state}
+use Rattle.cmd_run.specs.Seen.{AllTell, NoneIsOpenIn, SessionSeen, Went, setting_in, state}
 use Rattle.cmd_run.specs.State.{RunState, Setting, state_of}
 use Rattle.cmd_run.specs.Step.{CallFails}
 use Rattle.cmd_generate.specs.declared.login.Login.{Login}
@@ -147,18 +147,18 @@ end_status result = Success
 abbrev pub PartTold : Type 1
 PartTold = Setting → RunState → RunState → Type 0
 
-abbrev pub IsTold : PartTold → Seen → Seen → Type 0
+abbrev pub IsTold : PartTold → SessionSeen → SessionSeen → Type 0
 IsTold Told old new = (delay : Code → ℕ → ℕ) → old.gives delay → AllTell old
     → Told (setting_in old delay) (state old) (state new)
 
 -- with real objects too: it leaves every other transaction as it is, and makes these ends
-pub record MakesCalls (Told : PartTold) (Is : ℕ → ℕ → Type 0) (old new : Seen) : Type 0 where
+pub record MakesCalls (Told : PartTold) (Is : ℕ → ℕ → Type 0) (old new : SessionSeen) : Type 0 where
   pub told : IsTold Told old new
   pub others : (number : ℕ) → (number ≡ 1 → ⊥) → slot_at new.slots number ≡ slot_at old.slots number
   pub went : Went Is old new
 
 -- with real objects too: no transaction is open after it, and it makes these ends
-pub record IsOver (Told : PartTold) (Is : ℕ → ℕ → Type 0) (old new : Seen) : Type 0 where
+pub record IsOver (Told : PartTold) (Is : ℕ → ℕ → Type 0) (old new : SessionSeen) : Type 0 where
   pub told : IsTold Told old new
   pub none_open : NoneIsOpenIn new
   pub went : Went Is old new

@@ -4,7 +4,7 @@ use Rattle.pam_base.specs.declared.code.Code.{Code}
 use Rattle.pam_outside.specs.Counts.{RisesIf}
 use Rattle.pam_outside.specs.Streams.{SinkState}
 use Rattle.cmd_run.specs.pam_room.specs.Module.{Player}
-use Rattle.cmd_run.specs.Seen.{IsSoundIn, Seen, setting_at, state}
+use Rattle.cmd_run.specs.Seen.{IsSoundIn, SessionSeen, setting_at, state}
 use Rattle.cmd_run.specs.State.{RunState}
 use Rattle.cmd_run.specs.Time.{Timing}
 use Rattle.cmd_run.proofs.RunPartFacts.{still_told, went_nowhere, went_on, went_so}
@@ -23,7 +23,7 @@ stops_alike T U NoMemory before now rises = rises
 stops_alike T U WriteFault before now rises = rises
 
 module _ {K : Type 0} (tells : K → Bool) (holds : K → SinkState) (faults : K → ℕ) (Is : ℕ → ℕ → Type 0) (time : Timing) where
-  pub goes_nowhere : {T : Type 0} (t : T) (a : Seen) (x : K) → IsSoundIn a → Goes {T = T} (Returns t) Is time (Ok t) a a (object_of tells holds faults x x)
+  pub goes_nowhere : {T : Type 0} (t : T) (a : SessionSeen) (x : K) → IsSoundIn a → Goes {T = T} (Returns t) Is time (Ok t) a a (object_of tells holds faults x x)
   goes_nowhere t a x sound = record {
     told = λ timed delay is all sink. writes_nothing t (exact_calls (setting_at time.moments a delay)) (state a) (holds x);
     reports = λ sink. writes_nothing t possible_calls (state a) (holds x);
@@ -34,7 +34,7 @@ module _ {K : Type 0} (tells : K → Bool) (holds : K → SinkState) (faults : K
   }
 
   -- a part that no call is made in
-  pub goes_beside : {T : Type 0} (Does : Part T) (result : Result T Stop) (a : Seen) (x y : K) → IsSoundIn a
+  pub goes_beside : {T : Type 0} (Does : Part T) (result : Result T Stop) (a : SessionSeen) (x y : K) → IsSoundIn a
       → ((known : KnownCalls) (s : RunState) → IsTrue (tells x) → Writes {T = T} Does known result s s (holds x) (holds y))
       → RisesIf (has_write_fault result) (faults x) (faults y) → tells y ≡ tells x
       → Goes {T = T} Does Is time result a a (object_of tells holds faults x y)
@@ -49,7 +49,7 @@ module _ {K : Type 0} (tells : K → Bool) (holds : K → SinkState) (faults : K
 
   -- the same with more ends
   pub goes_so : {T : Type 0} (Are : ℕ → ℕ → Type 0) → ((number status : ℕ) → Is number status → Are number status)
-      → (Does : Part T) (result : Result T Stop) (a b : Seen) (x y : K) → Goes {T = T} Does Is time result a b (object_of tells holds faults x y)
+      → (Does : Part T) (result : Result T Stop) (a b : SessionSeen) (x y : K) → Goes {T = T} Does Is time result a b (object_of tells holds faults x y)
       → Goes {T = T} Does Are time result a b (object_of tells holds faults x y)
   goes_so Are so Does result a b x y g = record {
     told = g.told;
@@ -61,7 +61,7 @@ module _ {K : Type 0} (tells : K → Bool) (holds : K → SinkState) (faults : K
   }
 
   module _ {T U : Type 0} (First : Part T) (Next : T → Part U) where
-    pub goes_stopped : (stop : Stop) (a b : Seen) (x y : K) → Goes {T = T} First Is time (Err stop) a b (object_of tells holds faults x y)
+    pub goes_stopped : (stop : Stop) (a b : SessionSeen) (x y : K) → Goes {T = T} First Is time (Err stop) a b (object_of tells holds faults x y)
         → Goes {T = U} (Then First Next) Is time (Err stop) a b (object_of tells holds faults x y)
     goes_stopped stop a b x y g = record {
       told = λ timed delay is all sink.
@@ -73,7 +73,7 @@ module _ {K : Type 0} (tells : K → Bool) (holds : K → SinkState) (faults : K
       sink_tells = g.sink_tells;
     }
 
-    module _ (done : T) (result : Result U Stop) (a b c : Seen) (x y z : K) (g : Goes {T = T} First Is time (Ok done) a b (object_of tells holds faults x y))
+    module _ (done : T) (result : Result U Stop) (a b c : SessionSeen) (x y z : K) (g : Goes {T = T} First Is time (Ok done) a b (object_of tells holds faults x y))
         (h : Goes {T = U} (Next done) Is time result b c (object_of tells holds faults y z)) where
       pub goes_then : Goes {T = U} (Then First Next) Is time result a c (object_of tells holds faults x z)
       goes_then = record {
@@ -93,6 +93,6 @@ module _ {K : Type 0} (tells : K → Bool) (holds : K → SinkState) (faults : K
       }
 
   -- the same part in other words
-  pub goes_as : {T : Type 0} (Does Other : Part T) → Does ≡ Other → (result : Result T Stop) (a b : Seen) (x y : K)
+  pub goes_as : {T : Type 0} (Does Other : Part T) → Does ≡ Other → (result : Result T Stop) (a b : SessionSeen) (x y : K)
       → Goes {T = T} Does Is time result a b (object_of tells holds faults x y) → Goes {T = T} Other Is time result a b (object_of tells holds faults x y)
   goes_as {T = T} Does Other same result a b x y g = subst (λ (P : Part T). Goes P Is time result a b (object_of tells holds faults x y)) same g

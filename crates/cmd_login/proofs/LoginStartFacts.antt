@@ -3,7 +3,7 @@ use Rattle.std.proofs.Common.{◌≡◌, ℕ, Bool, List, [], Option, Result, Er
 use Rattle.pam_base.specs.declared.call.AppCall.{AppCall}
 use Rattle.pam_base.specs.declared.call.AppCall.TheVariants.{Start}
 use Rattle.pam_outside.specs.Streams.{SinkState}
-use Rattle.cmd_run.specs.Seen.{IsSoundIn, Seen, setting_at, state}
+use Rattle.cmd_run.specs.Seen.{IsSoundIn, SessionSeen, setting_at, state}
 use Rattle.cmd_run.specs.State.{RunState}
 use Rattle.cmd_run.specs.Time.{Timing}
 use Rattle.cmd_run.specs.pam_library.specs.AnyWorld.{is_refused}
@@ -31,7 +31,7 @@ module _ (service : List ℕ) (user : Option (List ℕ)) (known : KnownCalls) wh
 
 module _ {K : Type 0} (tells : K → Bool) (holds : K → SinkState) (faults : K → ℕ) (Is : ℕ → ℕ → Type 0) (time : Timing) (service : List ℕ)
     (user : Option (List ℕ)) where
-  pub goes_unbegun : (a : Seen) (x : K) → IsSoundIn a
+  pub goes_unbegun : (a : SessionSeen) (x : K) → IsSoundIn a
       → Goes (TriesLogin service user) Is time (Err NoMemory) a a (object_of tells holds faults x x)
   goes_unbegun a x sound = record {
     told = λ timed delay is all sink. unbegun service user (exact_calls (setting_at time.moments a delay)) (state a) (holds x);
@@ -42,7 +42,7 @@ module _ {K : Type 0} (tells : K → Bool) (holds : K → SinkState) (faults : K
     sink_tells = refl;
   }
 
-  pub goes_started : (result : Result Verdict Stop) (a b : Seen) (x y : K)
+  pub goes_started : (result : Result Verdict Stop) (a b : SessionSeen) (x y : K)
       → Goes (FromStart service user) Is time result a b (object_of tells holds faults x y)
       → Goes (TriesLogin service user) Is time result a b (object_of tells holds faults x y)
   goes_started result a b x y g = record {

@@ -11,7 +11,7 @@ use Rattle.cmd_run.specs.pam_library.specs.Outcome.{PlainOutcome}
 use Rattle.cmd_run.specs.pam_library.specs.Slots.{PlainSlot, slot_at}
 use Rattle.cmd_run.specs.pam_library.specs.Traced.{TracesAt}
 use Rattle.cmd_run.specs.pam_library.specs.declared.outcome.Answer.{Answer}
-use Rattle.cmd_run.specs.Seen.{AllTell, Seen, Went, setting_at, state}
+use Rattle.cmd_run.specs.Seen.{AllTell, SessionSeen, Went, setting_at, state}
 use Rattle.cmd_run.specs.State.{RunState, setting_of}
 use Rattle.cmd_run.specs.Time.{Timing}
 use Rattle.record_reader.specs.Object.{Object}
@@ -54,7 +54,7 @@ pub record Writes {T : Type 0} (Does : Part T) (known : KnownCalls) (result : Re
 -- Exactly what it does if library, world, time and sink are modelled; what it writes if only the sink is; and with real
 -- objects too, which ends it made, and what stays as it was.
 pub record Goes {T : Type 0} (Does : Part T) (Is : ℕ → ℕ → Type 0) (time : Timing)
-    (result : Result T Stop) (old new : Seen) (output : Object SinkState) : Type 0 where
+    (result : Result T Stop) (old new : SessionSeen) (output : Object SinkState) : Type 0 where
   pub told : IsTrue time.tells → (delay : Code → ℕ → ℕ) → old.gives delay → AllTell old
       → IsTrue output.tells
       → Writes Does (exact_calls (setting_at time.moments old delay)) result (state old) (state new)

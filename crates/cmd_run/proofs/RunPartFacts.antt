@@ -17,11 +17,11 @@ use Rattle.record_reader.specs.declared.ending.Stop.{Stop}
 use Rattle.cmd_run.specs.Asked.{IsEndLine}
 use Rattle.cmd_run.specs.Ends.{EndsAre, IsEndStep}
 use Rattle.cmd_run.specs.Events.{LineMoves}
-use Rattle.cmd_run.specs.Seen.{AllTell, IsSoundIn, Seen, Went}
+use Rattle.cmd_run.specs.Seen.{AllTell, IsSoundIn, SessionSeen, Went}
 use Rattle.cmd_run.proofs.CallSequenceFacts.{call_ends, goes_on, nothing_done, one_call, proceeds_so}
 
 module _ (Is : ℕ → ℕ → Type 0) where
-  pub went_nowhere : (s : Seen) → IsSoundIn s → Went Is s s
+  pub went_nowhere : (s : SessionSeen) → IsSoundIn s → Went Is s s
   went_nowhere s sound = record {
     players = refl;
     tells = refl;
@@ -32,7 +32,7 @@ module _ (Is : ℕ → ℕ → Type 0) where
     sound = sound;
   }
 
-  pub went_on : (a b c : Seen) → Went Is a b → Went Is b c → Went Is a c
+  pub went_on : (a b c : SessionSeen) → Went Is a b → Went Is b c → Went Is a c
   went_on a b c x y = record {
     players = y.players ∙ x.players;
     tells = y.tells ∙ x.tells;
@@ -44,7 +44,7 @@ module _ (Is : ℕ → ℕ → Type 0) where
   }
 
 -- ends among these are among those
-pub went_so : (Is Are : ℕ → ℕ → Type 0) (so : (number status : ℕ) → Is number status → Are number status) (a b : Seen) → Went Is a b → Went Are a b
+pub went_so : (Is Are : ℕ → ℕ → Type 0) (so : (number status : ℕ) → Is number status → Are number status) (a b : SessionSeen) → Went Is a b → Went Are a b
 went_so Is Are so a b w = record {
   players = w.players;
   tells = w.tells;
@@ -56,11 +56,11 @@ went_so Is Are so a b w = record {
 }
 
 -- what was modelled still is
-pub still_told : (Is : ℕ → ℕ → Type 0) (a b : Seen) → Went Is a b → AllTell a → AllTell b
+pub still_told : (Is : ℕ → ℕ → Type 0) (a b : SessionSeen) → Went Is a b → AllTell a → AllTell b
 still_told Is a b w told = rw (w.tells, w.world_tells) told
 
 -- no call was made
-pub went_quietly : (Is : ℕ → ℕ → Type 0) (a b : Seen) → b.players ≡ a.players → b.tells ≡ a.tells → b.world_tells ≡ a.world_tells
+pub went_quietly : (Is : ℕ → ℕ → Type 0) (a b : SessionSeen) → b.players ≡ a.players → b.tells ≡ a.tells → b.world_tells ≡ a.world_tells
     → ((number : Code → ℕ → ℕ) → a.gives number → b.gives number)
     → ((number : Code → ℕ → ℕ) → b.gives number → a.gives number)
     → b.slots ≡ a.slots → b.world.process.ledger ≡ a.world.process.ledger → IsSoundIn a → Went Is a b
@@ -75,7 +75,7 @@ went_quietly Is a b players tells world_tells gives no_other slots ledger sound 
 }
 
 -- one call was made
-pub went_once : (Is : ℕ → ℕ → Type 0) (a b : Seen) → b.players ≡ a.players → b.tells ≡ a.tells → b.world_tells ≡ a.world_tells
+pub went_once : (Is : ℕ → ℕ → Type 0) (a b : SessionSeen) → b.players ≡ a.players → b.tells ≡ a.tells → b.world_tells ≡ a.world_tells
     → ((number : Code → ℕ → ℕ) → a.gives number → b.gives number)
     → ((number : Code → ℕ → ℕ) → b.gives number → a.gives number)
     → (ended : List Event) → Moves (notes_of a.players) 17 ended a.world.process.ledger (lists_of a.slots) b.world.process.ledger (lists_of b.slots)
@@ -103,7 +103,7 @@ line_moves note slots next line this before after same moves =
     subst (λ (l : Line). LineMoves note slots l before after next) (sym same) moves
 
 -- the call was made that a line asks for
-pub went_as_asked : (line : Line) (step : Step) → line ≡ lines.Step step → (a b : Seen) → b.players ≡ a.players
+pub went_as_asked : (line : Line) (step : Step) → line ≡ lines.Step step → (a b : SessionSeen) → b.players ≡ a.players
     → ((number : Code → ℕ → ℕ) → a.gives number → b.gives number)
     → ((number : Code → ℕ → ℕ) → b.gives number → a.gives number)
     → Keeps (ended_by step a) a b → Went (IsEndLine line) a b

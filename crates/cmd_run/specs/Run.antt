@@ -21,7 +21,7 @@ use Rattle.cmd_run.specs.Ends.{IsStatusOf}
 use Rattle.cmd_run.specs.Events.{TellsAll}
 use Rattle.cmd_run.specs.Reading.{ReadsAll, TakesBytes, WritesScript, WritesSome}
 use Rattle.cmd_run.specs.Reported.{CutBy, wrapped_closings}
-use Rattle.cmd_run.specs.Seen.{AllTell, NoneIsOpenIn, Seen, Went, setting_at, state}
+use Rattle.cmd_run.specs.Seen.{AllTell, NoneIsOpenIn, SessionSeen, Went, setting_at, state}
 use Rattle.cmd_run.specs.State.{RunState, Setting}
 use Rattle.cmd_run.specs.Time.{Timing}
 
@@ -33,7 +33,8 @@ module _ {Kind : Type 0} (looked : Looks) (asked : Asking Kind)
     (step : Setting → ItemStep RunState Kind) (fails : Setting → ItemFails RunState)
     (read_step : ItemStep (Unit {0}) Kind) where
   pub record ServesStream (time : Timing) (result : Result (Ending Kind) Stop) (taken : ℕ)
-      (old new : Seen) (input : Object SourceState) (output : Object SinkState) : Type 0 where
+      (old new : SessionSeen) (input : Object SourceState) (output : Object SinkState) : Type
+      0 where
     pub source_tells : input.tells_after ≡ input.tells
     pub sink_tells : output.tells_after ≡ output.tells
     pub told : IsTrue time.tells → (delay : Code → ℕ → ℕ) → old.gives delay → AllTell old
@@ -193,7 +194,7 @@ pub record EndsSo {Kind : Type 0} (looked : Looks) (asked : Asking Kind) (is_end
 
 module _ {Kind : Type 0} (runs : RunTold Kind) (reads_so : RunRead Kind)
     (completes : RunComplete Kind) (is_end : RunEnd) where
-  pub record Ran (time : Timing) (result : Result (Ending Kind) Stop) (old new : Seen)
+  pub record Ran (time : Timing) (result : Result (Ending Kind) Stop) (old new : SessionSeen)
       (input : Object SourceState) (output : Object SinkState) : Type 0 where
     -- If all objects are modelled: what was read and written, and what library and world are afterwards.
     pub told : IsTrue time.tells → (delay : Code → ℕ → ℕ) → old.gives delay → AllTell old

@@ -2,24 +2,25 @@
 -- project's own).
 use Rattle.std.specs.Prelude.{◌≡◌, ℕ}
 use Rattle.pam_base.specs.declared.code.Code.{Code}
-pub use Rattle.report_step.specs.pam_library.specs.Seen.{AllTell, IsSoundIn, NoneIsOpenIn, Seen}
+pub use Rattle.report_step.specs.pam_library.specs.Seen.{AllTell, IsSoundIn, NoneIsOpenIn}
+pub use Rattle.report_step.specs.pam_library.specs.Seen.{SessionSeen}
 use Rattle.cmd_run.specs.AnyWorld.{ProceedsFor}
 use Rattle.cmd_run.specs.State.{RunState, Setting, setting_of, state_of}
 use Rattle.cmd_run.specs.Time.{Moments}
 
-abbrev pub state : Seen → RunState
+abbrev pub state : SessionSeen → RunState
 state s = state_of s.slots s.world
 
-abbrev pub setting_in : Seen → (Code → ℕ → ℕ) → Setting
+abbrev pub setting_in : SessionSeen → (Code → ℕ → ℕ) → Setting
 setting_in s delay = setting_of s.players delay
 
 -- the same with a time of day
-abbrev pub setting_at : Moments → Seen → (Code → ℕ → ℕ) → Setting
+abbrev pub setting_at : Moments → SessionSeen → (Code → ℕ → ℕ) → Setting
 setting_at moments s delay = record { players = s.players; delay = delay; moments = moments }
 
 -- What every part of a run leaves unchanged, and what its calls did, with real objects too: their
 -- ends are among these.
-pub record Went (Is : ℕ → ℕ → Type 0) (old new : Seen) : Type 0 where
+pub record Went (Is : ℕ → ℕ → Type 0) (old new : SessionSeen) : Type 0 where
   pub players : new.players ≡ old.players
   pub tells : new.tells ≡ old.tells
   pub world_tells : new.world_tells ≡ old.world_tells

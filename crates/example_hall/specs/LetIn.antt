@@ -7,16 +7,16 @@ use Rattle.pam_base.specs.declared.code.Code.TheVariants.{Success}
 use Rattle.pam_library.specs.declared.outcome.Answer.TheVariants as answers
 use Rattle.pam_library.specs.declared.outcome.Outcome.{Outcome}
 use Rattle.pam_library.specs.Applied.{Answers}
-use Rattle.pam_library.specs.Seen.{Seen}
+use Rattle.pam_library.specs.Seen.{SessionSeen}
 use Rattle.pam_library.specs.Slots.{slot_at}
 
 -- every other transaction is as before
-abbrev pub OthersStay : ℕ → Seen → Seen → Type 0
+abbrev pub OthersStay : ℕ → SessionSeen → SessionSeen → Type 0
 OthersStay number old new =
     (other : ℕ) → (other ≡ number → ⊥) → slot_at new.slots other ≡ slot_at old.slots other
 
 -- A call returned SUCCESS, and what that says by the library's contract.
-pub record Succeeds (step : Step) (old new : Seen) : Type 0 where
+pub record Succeeds (step : Step) (old new : SessionSeen) : Type 0 where
   pub outcome : Outcome
   pub success : outcome.answer ≡ answers.Code Success
   pub answers : Answers step old new outcome

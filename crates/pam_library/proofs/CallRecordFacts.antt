@@ -17,7 +17,7 @@ use Rattle.pam_library.specs.SlotStep.{filed_in}
 use Rattle.pam_library.specs.AnyWorld.{AnswersBy, CountsRefusal, FailsAt, HidesNoFault, SpendsAt, StopsAt, end_at, refusal}
 use Rattle.pam_library.specs.Applied.{Answers, Keeps, Leaves, RunsOut}
 use Rattle.pam_library.specs.Outcome.{plain_outcome}
-use Rattle.pam_library.specs.Seen.{IsSoundIn, Seen, slot_of}
+use Rattle.pam_library.specs.Seen.{IsSoundIn, SessionSeen, slot_of}
 use Rattle.pam_library.specs.Traced.{TracesAt}
 use Rattle.pam_library.proofs.StackCallFacts.{answer_of, filed_of}
 use Rattle.pam_library.specs.InPlace.{SaysOnly}
@@ -26,7 +26,7 @@ abbrev pub NothingMoves : Type 0
 NothingMoves = (note : Notes) (limit : ℕ) (before after : PlainLedger) (lists next : Lists) → after ≡ before → ((h : ℕ) → next h ≡ lists h) → Moves note limit [] before lists after next
 
 -- nothing was done
-pub keeps_still : (ended : List Event) (s : Seen) → ended ≡ [] → NothingMoves → IsSoundIn s → Keeps ended s s
+pub keeps_still : (ended : List Event) (s : SessionSeen) → ended ≡ [] → NothingMoves → IsSoundIn s → Keeps ended s s
 keeps_still ended s none law sound = record {
   tells = refl;
   world_tells = refl;
@@ -48,7 +48,7 @@ leaves_all players step slots w none = record {
   caller = refl;
 }
 
-pub bad_answers : (step : Step) (s : Seen) (o : Outcome) → slot_of step s ≡ None → SaysOnly (filed_in s.world) answers.BadNumber o → Answers step s s o
+pub bad_answers : (step : Step) (s : SessionSeen) (o : Outcome) → slot_of step s ≡ None → SaysOnly (filed_in s.world) answers.BadNumber o → Answers step s s o
 bad_answers step s o none only = record {
   answer = subst (λ (slot : Option PlainSlot). AnswersBy (refusal slot step.call) step.call o.answer) (sym none) (answer_of o _ only);
   traces = subst (λ (slot : Option PlainSlot). TracesAt step.call slot slot (plain_outcome o)) (sym none) tt;
@@ -57,7 +57,7 @@ bad_answers step s o none only = record {
 }
 
 -- an outcome, or the step ran out of memory
-module _ (step : Step) (old new : Seen) where
+module _ (step : Step) (old new : SessionSeen) where
   pub answers_with : (result : Result Outcome NoMemory)
       → IfOk result (λ o. AnswersBy (refusal (slot_of step old) step.call) step.call o.answer)
       → IfOk result (λ o. TracesAt step.call (slot_of step old) (slot_of step new) (plain_outcome o)) → IfOk result (λ o. o.filed_from ≡ length old.world.process.ledger.filed)

@@ -9,7 +9,7 @@ use Rattle.pam_library.specs.Sound.{IsSoundFor}
 
 -- the modules, the slots and the world, whether the conversations are modelled, and the objects of the world, which
 -- numbers the delay function gives, and the file store's count of failed accesses
-pub record Seen : Type 1 where
+pub record SessionSeen : Type 1 where
   pub players : List Player
   pub slots : List PlainSlot
   pub world : PlainWorld
@@ -19,16 +19,16 @@ pub record Seen : Type 1 where
   pub faults : ℕ
 
 -- all objects are modelled
-abbrev pub AllTell : Seen → Type 0
+abbrev pub AllTell : SessionSeen → Type 0
 AllTell s = IsTrue (s.tells && s.world_tells)
 
 -- the data without a cleanup record are those of the open transactions
-abbrev pub IsSoundIn : Seen → Type 0
+abbrev pub IsSoundIn : SessionSeen → Type 0
 IsSoundIn s = IsSoundFor s.players s.slots s.world.process.ledger
 
-abbrev pub NoneIsOpenIn : Seen → Type 0
+abbrev pub NoneIsOpenIn : SessionSeen → Type 0
 NoneIsOpenIn s = NoneIsOpen s.slots
 
 -- the slot of a step
-abbrev pub slot_of : Step → Seen → Option PlainSlot
+abbrev pub slot_of : Step → SessionSeen → Option PlainSlot
 slot_of step s = slot_at s.slots step.number

@@ -24,7 +24,7 @@ pub struct Session {
 
 /// What contracts see of a library and its world.
 pub trait Told {
-    ghost use Rattle.pam_library.specs.Seen.{Seen};
+    ghost use Rattle.pam_library.specs.Seen.{SessionSeen};
 
     /// The transactions, their modules and conversations.
     type Library;
@@ -32,7 +32,7 @@ pub trait Told {
     /// What they share.
     type World;
 
-    ghost seen: { Self.Library → Self.World → Seen };
+    ghost seen: { Self.Library → Self.World → SessionSeen };
 }
 
 impl Told for Session {

@@ -7,15 +7,15 @@ use Rattle.cmd_run.specs.Events.{TellsTurn}
 use Rattle.report_step.specs.dispatch_core.specs.Lines.{names_of}
 use Rattle.cmd_run.specs.Made.{ReportsCalls}
 use Rattle.cmd_run.specs.Reading.{ReadsTurn, WritesSome}
-use Rattle.cmd_run.specs.Seen.{AllTell, Seen, Went, setting_at, state}
+use Rattle.cmd_run.specs.Seen.{AllTell, SessionSeen, Went, setting_at, state}
 use Rattle.cmd_run.specs.Time.{Timing}
 use Rattle.report_step.specs.pam_library.specs.contracts.session.SessionTold.TheImpl as session_told
 use Rattle.cmd_run.proofs.items.serve_items.Given as goal
 
 abbrev pub invariant-loop-ending : goal.invariant-loop-ending
 invariant-loop-ending g l =
-    let start : Seen = (session_told.ghosts g.dyn-4 g.dyn-5 g.dyn-6 g.dyn-7 g.dyn-2 g.dyn-3).seen l.fn.library l.fn.world in
-    let now : Seen = (session_told.ghosts g.dyn-4 g.dyn-5 g.dyn-6 g.dyn-7 g.dyn-2 g.dyn-3).seen l.library l.world in
+    let start : SessionSeen = (session_told.ghosts g.dyn-4 g.dyn-5 g.dyn-6 g.dyn-7 g.dyn-2 g.dyn-3).seen l.fn.library l.fn.world in
+    let now : SessionSeen = (session_told.ghosts g.dyn-4 g.dyn-5 g.dyn-6 g.dyn-7 g.dyn-2 g.dyn-3).seen l.library l.world in
     let timing : Timing = (time_told.ghosts g.dyn-1).timing l.fn.time in
     record {
       went : Went (IsEndAmong g.P.Protocol.looked g.P.Protocol.asked (g.S.Source.source_tells l.fn.source) 0
