@@ -4,14 +4,14 @@ use Rattle.std.specs.Prelude.{◌≡◌, ℕ, false, true, List, Option, None}
 use Rattle.pam_base.specs.declared.code.Code.{Code}
 use Rattle.pam_base.specs.declared.call.Func.{Func}
 use Rattle.pam_base.specs.declared.call.Func.TheVariants.{Authenticate}
-use Rattle.dispatch_core.specs.Pending.{is_other_pending, past_in}
+use Rattle.dispatch_core.specs.Calls.{Went}
+use Rattle.dispatch_core.specs.Pending.{is_other_pending}
 use Rattle.dispatch_core.specs.pam_room.specs.Module.{Player}
-use Rattle.dispatch_core.specs.pam_room.specs.State.{PlainWorld}
+use Rattle.dispatch_core.specs.pam_room.specs.State.{PlainWorld, State}
 use Rattle.pam_handle.specs.AnyWorld.{AreUnset, BeginsUnset}
-use Rattle.pam_handle.specs.Call.{Called, called, clears_tokens, items_before, request_forgotten, waits_after}
+use Rattle.pam_handle.specs.Call.{Called, called, clears_tokens, request_forgotten, waits_after}
 use Rattle.pam_handle.specs.Handle.{PlainHandle, in_room}
-use Rattle.pam_handle.specs.Pass.{Passed}
-use Rattle.pam_handle.specs.StackCalls.{is_refused_for_flags, passes_first, stack_call}
+use Rattle.pam_handle.specs.StackCalls.{is_refused_for_flags, passes_of, room_begun, stack_call}
 
 -- the transaction with these tokens
 abbrev pub with_tokens : Option (List ℕ) → Option (List ℕ) → PlainHandle → PlainHandle
@@ -35,13 +35,6 @@ EarlierTokensDontMatter =
     stack_call players number func flags (with_tokens token old h) w
     ≡ stack_call players number func flags h w
 
--- the transaction as it is when the pass of an authentication begins or is resumed
-abbrev pub begun : PlainHandle → PlainHandle
-begun h = in_room (record h.room {
-  transaction = record h.room.transaction
-      { items = items_before Authenticate h.pending h.room.transaction.items };
-}) h
-
 -- a call that waits from this transaction and world on, and then only forgets the requested delay
 abbrev pub waits_from : (Code → ℕ → ℕ) → Code → PlainHandle → PlainWorld → Called
 waits_from number code h w =
@@ -49,28 +42,25 @@ waits_from number code h w =
     called code (request_forgotten waited.handle) waited.world
 
 -- where the wait begins: both tokens are unset, and what follows is the wait
-pub record WaitsUnset (number : Code → ℕ → ℕ) (p : Passed) (c : Called) : Type 0 where
+pub record WaitsUnset (number : Code → ℕ → ℕ) (r : Went State) (c : Called) : Type 0 where
   pub before : PlainHandle
   pub unset : AreUnset before.room.transaction.items
-  pub rest : c ≡ waits_from number p.code before p.state.world
+  pub rest : c ≡ waits_from number r.code before r.state.world
 
--- if the pass of an authentication has ended, both tokens are unset when the wait begins
+-- if an authentication isn't incomplete after its pass, both tokens are unset when the wait begins
 abbrev pub NoTokenWhileItWaits : Type 0
 NoTokenWhileItWaits =
     (players : List Player) (number : Code → ℕ → ℕ) (flags : ℕ) (h : PlainHandle)
     (w : PlainWorld) → is_other_pending h.pending Authenticate ≡ false →
-    let p = passes_first players Authenticate flags (past_in h.pending) (begun h) w in
-    p.paused ≡ None →
-    WaitsUnset number p (stack_call players number Authenticate flags h w)
+    let r = passes_of players Authenticate flags h w in
+    r.held.pending ≡ None →
+    WaitsUnset number r (stack_call players number Authenticate flags h w)
 
 -- ---- with real objects too
 
 -- the transaction as it is when the first pass of a call begins or is resumed
 abbrev pub begun_for : Func → PlainHandle → PlainHandle
-begun_for func h = in_room (record h.room {
-  transaction = record h.room.transaction
-      { items = items_before func h.pending h.room.transaction.items };
-}) h
+begun_for func h = in_room (room_begun func h) h
 
 -- A call that begins: the transaction in which its first line is run.
 pub record BeginsWithoutTokens (func : Func) (h : PlainHandle) : Type 0 where
