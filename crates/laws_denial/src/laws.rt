@@ -23,4 +23,6 @@ pub fn other_modules_leave_user_and_files()
 pub fn locked_user_is_kept_out()
     ensures run { LockedIsKeptOut }
     ensures call { LockedIsNotAuthenticated }
-{}
+{
+    pam_handle::laws::ends_leave_it();
+}

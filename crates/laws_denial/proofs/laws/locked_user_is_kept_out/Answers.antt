@@ -6,4 +6,4 @@ pub returns-clause-run : goal.returns-clause-run
 returns-clause-run c = kept_out
 
 pub returns-clause-call : goal.returns-clause-call
-returns-clause-call c = not_authenticated
+returns-clause-call c = not_authenticated c.ends_leave_it.ensures
