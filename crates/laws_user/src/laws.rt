@@ -38,7 +38,9 @@ pub fn these_modules_keep_to_own_entries()
 pub fn users_dont_matter_to_calls()
     ensures same { OthersDontMatterToCalls }
     ensures others { CallsWriteOwn }
-{}
+{
+    pam_handle::laws::ends_leave_it();
+}
 
 /// So other users don't matter who log in or change their tokens meanwhile, in whatever processes,
 /// whether they succeed or fail: a user's call returns the same code, asks the same, and leaves the

@@ -6,4 +6,4 @@ pub returns-clause-same : goal.returns-clause-same
 returns-clause-same c = calls_alike
 
 pub returns-clause-others : goal.returns-clause-others
-returns-clause-others c = writes_own
+returns-clause-others c = writes_own c.ends_leave_it.ensures
