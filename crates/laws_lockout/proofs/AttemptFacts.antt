@@ -15,6 +15,7 @@ use Rattle.service_load.specs.Stacks.{Stacks}
 use Rattle.pam_room.specs.Call.{PlainCall}
 use Rattle.pam_room.specs.Module.{NamedData, Player, SeenRoom, Sight, sight_of}
 use Rattle.pam_room.specs.State.{PlainWorld, scene_in, state_of}
+use Rattle.pam_handle.specs.AfterPasses.{EndsLeaveIt}
 use Rattle.pam_library.specs.Plays.{AreAskedAt, AskedLine, LinesLead, StepAsks}
 use Rattle.pam_library.specs.StackOf.{stack_of}
 use Rattle.pam_library.specs.SideBySide.{Met}
@@ -94,7 +95,7 @@ module _ (one : (path : List ℕ) (call : PlainCall) (room : SeenRoom) (held : L
     (alone : (root folder user : List ℕ) → IsApart folder → is_no_file user ≡ false → (players : List Player) → AreKnown players
     → FaillockAloneWrites (tally_path root folder user) players)
     (lock : EnoughFailuresLock) (refuses : LockedIsRefused) (records : RefusedIsRecorded) (leaves : AllByRecursion LeavesUserAndFiles other_plays)
-    (denies : LockedIsDenied) (keeps_out : LockedIsNotAuthenticated) where
+    (denies : LockedIsDenied) (keeps_out : LockedIsNotAuthenticated) (ends : EndsLeaveIt) where
   module _ (players : List Player) (number_of : Code → ℕ → ℕ) (root user : List ℕ) (set : PlainSettings) (last : ℕ)
       (known : AreKnown players) (apart : IsApart set.folder) (named : is_no_file user ≡ false) where
     abbrev path : List ℕ
@@ -137,7 +138,7 @@ module _ (one : (path : List ℕ) (call : PlainCall) (room : SeenRoom) (held : L
         let now : ℕ = m.world.clock.moment in
         let r = are.0 in
         let there : failures_on_file (file_at path m.world.vault.files) ≡ Some failures = ap failures_on_file only.0 ∙ stood in
-        let more = one_more_there one asks refuses records leaves players number_of known set root user slots m r failures there in
+        let more = one_more_there ends one asks refuses records leaves players number_of known set root user slots m r failures there in
         let f : Failure = new_failure now more.items in
         let time : f.moment ≡ now = new_moment now more.items in
         let next : List Failure = counting set.interval (failures ++ f ∷ []) in
@@ -150,7 +151,7 @@ module _ (one : (path : List ℕ) (call : PlainCall) (room : SeenRoom) (held : L
         let since_now : now ≤ latest next =
         subst (λ (t : ℕ). t ≤ latest next) time (its_time set.interval last failures f late in_time near) in
         let rest : Came next attempts after =
-        came attempts s.slots (file_at path s.world.vault.files) after next are.1 (step_has players number_of Such slots m.world m.step has finds.0) finds.1
+        came attempts s.slots (file_at path s.world.vault.files) after next are.1 (step_has ends players number_of Such slots m.world m.step has finds.0) finds.1
         only.1 by_then.1 within.1 (ap failures_on_file more.after_is ∙ tally next fit) grown.late in
         let both = one_after_other set.interval last 1 (length (times_of attempts)) failures next rest.are grown rest.grows in
         record {
@@ -172,7 +173,7 @@ module _ (one : (path : List ℕ) (call : PlainCall) (room : SeenRoom) (held : L
         (moments players number_of slots m.world m.step a.0 a.1) by_then.0 s.world.vault.files m.world.vault.files failures
         (leads players number_of slots m.world m.step a.0 a.1) there late in
         let rest : Came here.are attempts after =
-        came attempts s.slots (file_at path s.world.vault.files) after here.are are.1 (step_has players number_of Such slots m.world m.step has finds.0) finds.1
+        came attempts s.slots (file_at path s.world.vault.files) after here.are are.1 (step_has ends players number_of Such slots m.world m.step has finds.0) finds.1
         only.1 by_then.1 within here.stood here.grows.late in
         let both = one_after_other set.interval last 0 (length (times_of attempts)) failures here.are rest.are here.grows rest.grows in
         record {
@@ -201,4 +202,4 @@ module _ (one : (path : List ℕ) (call : PlainCall) (room : SeenRoom) (held : L
       let enough = are_enough players number_of root user set last known apart named attempts failures after time w.clock.moment c many.enough among soon in
       let locked = lock [] after after c.are set sight user refl tt c.stood enough next.counted
       (ap (λ (r : List ℕ). file_at (path_of r (tally_name set.folder user)) w.vault.files) next.root_is ∙ next.found) next.fits in
-      denied players number_of denies keeps_out set h w user next.begins next.user_is locked later number next.slot_is
+      denied ends players number_of denies keeps_out set h w user next.begins next.user_is locked later number next.slot_is

@@ -12,19 +12,18 @@ use Rattle.conv_port.specs.Conv.{ConvState}
 use Rattle.env_list.specs.Environment.{is_refused as is_refused_text}
 use Rattle.item_store.specs.Access.{is_refused as is_refused_item}
 use Rattle.item_store.specs.declared.access.Access.TheVariants.{ApplicationSets, ApplicationGets}
-use Rattle.handler_chain.specs.Route.{KeptAnswers}
 use Rattle.service_load.specs.FirstFault.{Counts, Stop}
 use Rattle.service_load.specs.Load.{loaded}
 use Rattle.service_load.specs.Stacks.{Stacks}
 use Rattle.dispatch_core.specs.Lines.{names_of}
-use Rattle.dispatch_core.specs.Pending.{Pending, same_func}
+use Rattle.dispatch_core.specs.Pending.{is_other_pending}
 use Rattle.pam_room.specs.Module.{Player}
 use Rattle.pam_room.specs.State.{PlainWorld}
-use Rattle.pam_handle.specs.Call.{Called, begun_or_going_on, called, tokens_cleared}
+use Rattle.pam_handle.specs.AfterPasses.{EndsLeaveIt}
+use Rattle.pam_handle.specs.Call.{Called, called}
 use Rattle.pam_handle.specs.Handle.{PlainHandle}
 use Rattle.pam_handle.specs.Items.{all_told}
-use Rattle.pam_handle.specs.Pass.{Passed}
-use Rattle.pam_handle.specs.StackCalls.{account, authenticated, authentication, after_check, past_pass, change_goes_on, changed, check, closing, credentials, has_pass_flag, opening, passes_first, passes_second, stack_call, update}
+use Rattle.pam_handle.specs.StackCalls.{finished, passes_of, stack_call}
 use Rattle.pam_handle.specs.Start.{new_handle, stacks_under, started_by}
 use Rattle.pam_library.specs.SlotStep.{SlotStepped, closed_step, filed_in, is_refused_for_flags, open_step, opened_by, other_pending, slot_step, stack_step, unless_pending}
 use Rattle.pam_library.specs.Slots.{PlainSlot, closed, opened, slot_at, with_slot}
@@ -59,76 +58,23 @@ module _ (Such : Stacks → Type 0) where
   have_with slots zero slot all has = all
   have_with slots (suc i) slot all has = have_set slots i slot all has
 
-module _ (players : List Player) (number_of : Code → ℕ → ℕ) where
-  -- ---- the stack calls
+module _ (ends : EndsLeaveIt) (players : List Player) (number_of : Code → ℕ → ℕ) where
+  -- ---- a stack call
 
   abbrev Keeps : PlainHandle → Called → Type 0
   Keeps h c = c.handle.stacks ≡ h.stacks
 
-  begun_keeps : (pending : Option Pending) (func : Func) (h : PlainHandle) (a b : Called) (f : Pending → Called) → Keeps h a → Keeps h b
-      → ((p : Pending) → Keeps h (f p)) → Keeps h (begun_or_going_on pending func a b f)
-  begun_keeps None func h a b f k l m = l
-  begun_keeps (Some p) func h a b f k l m = elim (same_func p.func func) as (λ (x : Bool). Keeps h (if x then f p else a)) [ true ↦ m p | false ↦ k ]
-
-  authenticated_keeps : (paused : Option (List Code)) (code : Code) (h : PlainHandle) (w : PlainWorld) → Keeps h (authenticated number_of paused code h w)
-  authenticated_keeps (Some past) code h w = refl
-  authenticated_keeps None code h w = refl
-
-  changed_keeps : (paused : Option (List Code)) (code : Code) (h : PlainHandle) (w : PlainWorld) → Keeps h (changed paused code h w)
-  changed_keeps (Some past) code h w = refl
-  changed_keeps None code h w = refl
-
-  authentication_keeps : (flags : ℕ) (past : List Code) (h : PlainHandle) (w : PlainWorld) → Keeps h (authentication players number_of flags past h w)
-  authentication_keeps flags past h w =
-      let p : Passed = passes_first players funcs.Authenticate flags past h w in
-      authenticated_keeps p.paused p.code (past_pass funcs.Authenticate None p h) p.state.world
-
-  update_keeps : (flags : ℕ) (first : Option KeptAnswers) (past : List Code) (h : PlainHandle) (w : PlainWorld) → Keeps h (update players flags first past h w)
-  update_keeps flags first past h w =
-      let p : Passed = passes_second players flags first past h w in
-      changed_keeps p.paused p.code (past_pass funcs.ChAuthTok first p h) p.state.world
-
-  after_check_keeps : (flags : ℕ) (code : Code) (paused : Option (List Code)) (kept : Option KeptAnswers) (h : PlainHandle) (w : PlainWorld)
-      → Keeps h (after_check players flags code paused kept h w)
-  after_check_keeps flags codes.Success paused kept h w = update_keeps flags kept [] h w
-  after_check_keeps flags other paused kept h w = changed_keeps paused other h w
-
-  check_keeps : (flags : ℕ) (past : List Code) (h : PlainHandle) (w : PlainWorld) → Keeps h (check players flags past h w)
-  check_keeps flags past h w =
-      let p : Passed = passes_first players funcs.ChAuthTok flags past h w in
-      after_check_keeps flags p.code p.paused p.kept (past_pass funcs.ChAuthTok None p h) p.state.world
-
-  change_keeps : (flags : ℕ) (past : List Code) (first : Option KeptAnswers) (h : PlainHandle) (w : PlainWorld)
-      → Keeps h (change_goes_on players flags past first h w)
-  change_keeps flags past None h w = check_keeps flags past h w
-  change_keeps flags past (Some first) h w = update_keeps flags (Some first) past h w
+  either_keeps : (h : PlainHandle) (refused other : Bool) (a b c : Called) → Keeps h a → Keeps h b → Keeps h c
+      → Keeps h (if refused then a else if other then b else c)
+  either_keeps h true other a b c k l m = k
+  either_keeps h false true a b c k l m = l
+  either_keeps h false false a b c k l m = m
 
   call_keeps : (func : Func) (flags : ℕ) (h : PlainHandle) (w : PlainWorld) → Keeps h (stack_call players number_of func flags h w)
-  call_keeps funcs.Authenticate flags h w =
-      begun_keeps h.pending funcs.Authenticate h (called codes.Abort h w) (authentication players number_of flags [] (tokens_cleared h) w)
-      (λ p. authentication players number_of flags p.past h w) refl (authentication_keeps flags [] (tokens_cleared h) w)
-      (λ p. authentication_keeps flags p.past h w)
-  call_keeps funcs.SetCred flags h w =
-      begun_keeps h.pending funcs.SetCred h (called codes.Abort h w) (credentials players flags [] h w) (λ p. credentials players flags p.past h w) refl refl
-      (λ p. refl)
-  call_keeps funcs.AcctMgmt flags h w =
-      begun_keeps h.pending funcs.AcctMgmt h (called codes.Abort h w) (account players flags [] h w) (λ p. account players flags p.past h w) refl refl
-      (λ p. refl)
-  call_keeps funcs.OpenSession flags h w =
-      begun_keeps h.pending funcs.OpenSession h (called codes.Abort h w) (opening players flags [] h w) (λ p. opening players flags p.past h w) refl refl
-      (λ p. refl)
-  call_keeps funcs.CloseSession flags h w =
-      begun_keeps h.pending funcs.CloseSession h (called codes.Abort h w) (closing players flags [] h w) (λ p. closing players flags p.past h w) refl refl
-      (λ p. refl)
-  call_keeps funcs.ChAuthTok flags h w =
-      elim (has_pass_flag flags) as (λ (x : Bool). Keeps h (if x then called codes.SystemErr h w
-      else begun_or_going_on h.pending funcs.ChAuthTok (called codes.Abort h w) (check players flags [] (tokens_cleared h) w)
-      (λ p. change_goes_on players flags p.past p.first h w))) [
-        | true ↦ refl
-        | false ↦ begun_keeps h.pending funcs.ChAuthTok h (called codes.Abort h w) (check players flags [] (tokens_cleared h) w)
-            (λ p. change_goes_on players flags p.past p.first h w) refl (check_keeps flags [] (tokens_cleared h) w)
-            (λ p. change_keeps flags p.past p.first h w)
-      ]
+  call_keeps func flags h w =
+      let r = passes_of players func flags h w in
+      either_keeps h (is_refused_for_flags func flags) (is_other_pending h.pending func) (called codes.SystemErr h w) (called codes.Abort h w)
+      (finished number_of func r h) refl refl (ends number_of func r h).stacks
 
   -- ---- a call in a slot
 

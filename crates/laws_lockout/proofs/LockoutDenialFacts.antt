@@ -19,11 +19,11 @@ use Rattle.pam_room.specs.State.{PlainWorld, scene_in, state_of}
 use Rattle.dispatch_core.specs.Calls.{answers_held}
 use Rattle.dispatch_core.specs.Lines.{answers_by}
 use Rattle.dispatch_core.specs.Pending.{Pending}
-use Rattle.pam_handle.specs.Call.{Called, begun_or_going_on, called, tokens_cleared}
+use Rattle.pam_handle.specs.AfterPasses.{EndsLeaveIt}
+use Rattle.pam_handle.specs.Call.{tokens_cleared}
 use Rattle.pam_handle.specs.Handle.{PlainHandle}
 use Rattle.pam_handle.specs.Items.{all_told}
-use Rattle.pam_handle.specs.Pass.{Passed}
-use Rattle.pam_handle.specs.StackCalls.{authenticated, authentication, past_pass, passes_first, stack_call}
+use Rattle.pam_handle.specs.StackCalls.{passes_of, stack_call}
 use Rattle.pam_library.specs.declared.outcome.Answer.TheVariants as answers
 use Rattle.pam_library.specs.Plays.{AskedLine, LinesLead, StepAsks}
 use Rattle.pam_library.specs.SlotStep.{SlotStepped, filed_in, other_pending, told_by, unless_pending}
@@ -48,7 +48,7 @@ same_code a b e = cc
 
 -- ---- pam_authenticate(3) in a slot
 
-module _ (players : List Player) (number_of : Code → ℕ → ℕ) where
+module _ (ends : EndsLeaveIt) (players : List Player) (number_of : Code → ℕ → ℕ) where
   past_end : (pending : Option Pending) (slot : PlainSlot) (w : PlainWorld) (s : SlotStepped) → pending ≡ None
       → (unless_pending (other_pending pending Authenticate) slot w s).outcome.answer ≡ s.outcome.answer
   past_end None slot w s none = refl
@@ -71,26 +71,18 @@ module _ (players : List Player) (number_of : Code → ℕ → ℕ) where
 
   -- ---- the call itself
 
-  begins : (pending : Option Pending) (aborted begun : Called) (goes_on : Pending → Called) → pending ≡ None
-      → begun_or_going_on pending Authenticate aborted begun goes_on ≡ begun
-  begins None aborted begun goes_on none = refl
-  begins (Some p) aborted begun goes_on none = absurd cc
-
-  code_at_end : (paused : Option (List Code)) (code : Code) (h : PlainHandle) (w : PlainWorld) → (authenticated number_of paused code h w).code ≡ code
-  code_at_end (Some past) code h w = refl
-  code_at_end None code h w = refl
-
   -- the code of a call that begins is that of its pass
   code_is : (flags : ℕ) (h : PlainHandle) (w : PlainWorld) → h.pending ≡ None
       → (stack_call players number_of Authenticate flags h w).code
       ≡ code_of (pass_after kinds.Keep (answers_held h.authenticated) (answers_by players Authenticate flags) h.stacks.auth []
       (state_of (tokens_cleared h).room w))
   code_is flags h w none =
-      let cleared : PlainHandle = tokens_cleared h in
-      let p : Passed = passes_first players Authenticate flags [] cleared w in
-      ap (λ (c : Called). c.code) (begins h.pending (called codes.Abort h w) (authentication players number_of flags [] cleared w)
-      (λ q. authentication players number_of flags q.past h w) none)
-      ∙ code_at_end p.paused p.code (past_pass Authenticate None p cleared) p.state.world
+      let begins : PlainHandle = record h { pending = None } in
+      subst (λ (x : PlainHandle). (stack_call players number_of Authenticate flags x w).code
+      ≡ code_of (pass_after kinds.Keep (answers_held x.authenticated) (answers_by players Authenticate flags) x.stacks.auth []
+      (state_of (tokens_cleared x).room w)))
+      (sym (ap (λ (p : Option Pending). record h { pending = p }) none))
+      (ends number_of Authenticate (passes_of players Authenticate flags begins w) begins).code
 
   module _ (refuses : LockedIsDenied) (keeps_out : LockedIsNotAuthenticated) (set : PlainSettings) (h : PlainHandle) (w : PlainWorld) (user : List ℕ)
       (none : h.pending ≡ None) (is : h.room.transaction.items.user ≡ Some user) (locked : IsLocked set (sight_of (scene_in (state_of h.room w))) user) where
@@ -126,12 +118,12 @@ module _ (one : (path : List ℕ) (call : PlainCall) (room : SeenRoom) (held : L
     → LinesLead players w.vault.files asked (stepped players number_of slots w step).world.vault.files)
     (alone : (root folder user : List ℕ) → IsApart folder → is_no_file user ≡ false → (players : List Player) → AreKnown players
     → FaillockAloneWrites (tally_path root folder user) players)
-    (lock : EnoughFailuresLock) (refuses : LockedIsDenied) (keeps_out : LockedIsNotAuthenticated) where
+    (lock : EnoughFailuresLock) (refuses : LockedIsDenied) (keeps_out : LockedIsNotAuthenticated) (ends : EndsLeaveIt) where
   pub lock_out : WrongPasswordsLockOut
   lock_out players number_of slots steps root folder user interval before after known apart named configured only =
       let path = tally_path root folder user in
       let by = calls_lead path players (alone root folder user apart named players known) one writable number_of asks leads steps slots before after only in
-      let within = steps_within players interval number_of steps slots by.asked configured.at_first configured.starts by.asked_are in
+      let within = steps_within players interval ends number_of steps slots by.asked configured.at_first configured.starts by.asked_are in
       record {
         asked = by.asked;
         asked_are = by.asked_are;
@@ -151,5 +143,5 @@ module _ (one : (path : List ℕ) (call : PlainCall) (room : SeenRoom) (held : L
             stood enough next.counted
             (ap (λ (r : List ℕ). file_at (path_of r (tally_name set.folder user)) w.vault.files) next.root_is ∙ next.found)
             next.fits in
-            denied players number_of refuses keeps_out set h w user next.begins next.user_is locked later number next.slot_is;
+            denied ends players number_of refuses keeps_out set h w user next.begins next.user_is locked later number next.slot_is;
       }

@@ -8,7 +8,7 @@ use Rattle.pam_base.specs.declared.call.AppCall.{AppCall}
 use Rattle.pam_base.specs.declared.call.AppCall.TheVariants as calls
 use Rattle.pam_base.specs.declared.call.Func.TheVariants.{Authenticate}
 use Rattle.pam_base.specs.declared.call.Step.{Step}
-use Rattle.pam_outside.specs.Files.{File, file_at}
+use Rattle.pam_outside.specs.Files.{File, VaultState, file_at}
 use Rattle.pam_outside.specs.Paths.{path_of}
 use Rattle.pam_outside.specs.Time.{random_taken, rested}
 use Rattle.item_store.specs.Items.{ItemTexts}
@@ -22,11 +22,11 @@ use Rattle.pam_room.specs.State.{PlainRoom, PlainWorld, State, scene_in, state_o
 use Rattle.dispatch_core.specs.Calls.{answers_held}
 use Rattle.dispatch_core.specs.Lines.{answers_by, names_of}
 use Rattle.dispatch_core.specs.Pending.{Pending}
-use Rattle.pam_handle.specs.Call.{Called, begun_or_going_on, called, items_begun, random_taken_for, rested_by, tokens_cleared}
+use Rattle.pam_handle.specs.AfterPasses.{EndsLeaveIt}
+use Rattle.pam_handle.specs.Call.{items_begun, tokens_cleared}
 use Rattle.pam_handle.specs.Handle.{PlainHandle}
 use Rattle.pam_handle.specs.Items.{all_told}
-use Rattle.pam_handle.specs.Pass.{Passed}
-use Rattle.pam_handle.specs.StackCalls.{authenticated, authentication, past_pass, passes_first, stack_call}
+use Rattle.pam_handle.specs.StackCalls.{passes_of, stack_call}
 use Rattle.pam_library.specs.declared.outcome.Answer.TheVariants as answers
 use Rattle.pam_library.specs.Plays.{AskedLine, RunOn, RunsBy, RunsLines, StepAsks, player_numbered}
 use Rattle.pam_library.specs.StackOf.{stack_of}
@@ -68,32 +68,7 @@ known_at (q ∷ qs) known (suc n) p e = known_at qs known.1 n p e
 
 -- ---- the files after the call are those after its pass
 
-rested_files : (wait : Option ℕ) (w : PlainWorld) → (rested_by wait w).vault.files ≡ w.vault.files
-rested_files None w = refl
-rested_files (Some n) w = elim (n == 0) as (λ (x : Bool). (if x then w else record w { nap = rested w.nap n }).vault.files ≡ w.vault.files) [
-  | true ↦ refl
-  | false ↦ refl
-]
-
-drawn_files : (longest : ℕ) (w : PlainWorld) → (random_taken_for longest w).vault.files ≡ w.vault.files
-drawn_files longest w = elim (longest == 0) as (λ (x : Bool). (if x then w else record w { clock = random_taken w.clock }).vault.files ≡ w.vault.files) [
-  | true ↦ refl
-  | false ↦ refl
-]
-
-module _ (players : List Player) (number_of : Code → ℕ → ℕ) where
-  at_end : (paused : Option (List Code)) (code : Code) (h : PlainHandle) (w : PlainWorld)
-      → (authenticated number_of paused code h w).world.vault.files ≡ w.vault.files
-  at_end (Some past) code h w = refl
-  at_end None code h w =
-      rested_files (wait_of h.delay_on number_of code (asked_delay h.room.transaction.delay w.clock.word)) (random_taken_for h.room.transaction.delay w)
-      ∙ drawn_files h.room.transaction.delay w
-
-  begins : (pending : Option Pending) (aborted begun : Called) (goes_on : Pending → Called) → pending ≡ None
-      → begun_or_going_on pending Authenticate aborted begun goes_on ≡ begun
-  begins None aborted begun goes_on none = refl
-  begins (Some p) aborted begun goes_on none = absurd cc
-
+module _ (ends : EndsLeaveIt) (players : List Player) (number_of : Code → ℕ → ℕ) where
   abbrev files_past : ℕ → PlainHandle → PlainWorld → List File
   files_past flags h w =
       (pass_after kinds.Keep (answers_held h.authenticated) (answers_by players Authenticate flags) h.stacks.auth []
@@ -102,11 +77,10 @@ module _ (players : List Player) (number_of : Code → ℕ → ℕ) where
   call_files : (flags : ℕ) (h : PlainHandle) (w : PlainWorld) → h.pending ≡ None
       → (stack_call players number_of Authenticate flags h w).world.vault.files ≡ files_past flags h w
   call_files flags h w none =
-      let cleared : PlainHandle = tokens_cleared h in
-      let p : Passed = passes_first players Authenticate flags [] cleared w in
-      ap (λ (c : Called). c.world.vault.files) (begins h.pending (called codes_of.Abort h w) (authentication players number_of flags [] cleared w)
-      (λ q. authentication players number_of flags q.past h w) none)
-      ∙ at_end p.paused p.code (past_pass Authenticate None p cleared) p.state.world
+      let begins : PlainHandle = record h { pending = None } in
+      subst (λ (x : PlainHandle). (stack_call players number_of Authenticate flags x w).world.vault.files ≡ files_past flags x w)
+      (sym (ap (λ (p : Option Pending). record h { pending = p }) none))
+      (ap (λ (v : VaultState). v.files) (ends number_of Authenticate (passes_of players Authenticate flags begins w) begins).vault)
 
   past_end : (pending : Option Pending) (slot : PlainSlot) (w : PlainWorld) (s : SlotStepped) → pending ≡ None
       → (unless_pending (other_pending pending Authenticate) slot w s).world ≡ s.world
@@ -183,7 +157,7 @@ pub record OneMore (set : PlainSettings) (now : ℕ) (failures : List Failure) (
   pub source : NameSource items
   pub after_is : after ≡ Some (one_more set now items failures)
 
-module _ (one : (path : List ℕ) (call : PlainCall) (room : SeenRoom) (held : List NamedData) (sight : Sight)
+module _ (ends : EndsLeaveIt) (one : (path : List ℕ) (call : PlainCall) (room : SeenRoom) (held : List NamedData) (sight : Sight)
     → (deed : Deed) × Does path call sight (faillock_plays call room held sight) deed)
     (asks : (players : List Player) (number_of : Code → ℕ → ℕ) (slots : List PlainSlot) (w : PlainWorld) (step : Step)
     → (asked : List AskedLine) × StepAsks players number_of slots w step asked)
@@ -305,7 +279,7 @@ module _ (one : (path : List ℕ) (call : PlainCall) (room : SeenRoom) (held : L
       record {
         items = items;
         source = r.source;
-        after_is = ap (file_at path) (files_are players number_of slots m.world m.step r.flags r.h r.call_is r.slot_is r.begins ∙ ap files_at r.stack.stack_is)
+        after_is = ap (file_at path) (files_are ends players number_of slots m.world m.step r.flags r.h r.call_is r.slot_is r.begins ∙ ap files_at r.stack.stack_is)
             ∙ ap (λ (top : List ℕ). file_at (path_at top) (files_at usual)) (sym (at_second.root ∙ r.root_is))
             ∙ there
             ∙ ap (λ (now : ℕ). Some (one_more set now items failures)) at_second.moment;

@@ -11,8 +11,10 @@ use Rattle.pam_outside.specs.Files.{File}
 use Rattle.pam_room.specs.Module.{Player}
 use Rattle.pam_room.specs.State.{PlainWorld, State, state_of}
 use Rattle.pam_room.specs.declared.visits.Visit.{Visit}
+use Rattle.pam_handle.specs.AfterPasses.{EndsLeaveIt}
 use Rattle.pam_handle.specs.Items.{all_told}
-use Rattle.pam_handle.specs.Stopping.{first_stack, room_begun}
+use Rattle.pam_handle.specs.StackCalls.{room_begun}
+use Rattle.pam_handle.specs.Stopping.{first_stack}
 use Rattle.pam_library.specs.Plays.{AskedLine, IsLineOf, LineRun, RunOn, RunsBy, RunsNothing, IsRuleAt, asked_along, module_of_path, run_in}
 use Rattle.pam_library.specs.StackOf.{stack_of}
 use Rattle.pam_library.specs.SideBySide.{Met}
@@ -78,11 +80,11 @@ module _ (players : List Player) (interval : ℕ) where
   by_slot w (Some (closed conv)) call trail asked last has r = nothing_asked w trail asked last r
   by_slot w None call trail asked last has r = nothing_asked w trail asked last r
 
-  pub steps_within : (number_of : Code → ℕ → ℕ) (steps : List Met) (slots : List PlainSlot) (asked : List AskedLine) → AllHave Such slots
+  pub steps_within : EndsLeaveIt → (number_of : Code → ℕ → ℕ) (steps : List Met) (slots : List PlainSlot) (asked : List AskedLine) → AllHave Such slots
       → AllByRecursion (λ (m : Met). FindsSuch Such m.world m.step.call) steps → StepsAsk players number_of slots steps asked → AllByRecursion WithinIf asked
-  steps_within number_of [] slots asked all finds none_asked = subst (AllByRecursion WithinIf) (sym none_asked) tt
-  steps_within number_of (m ∷ steps) slots asked all finds a =
+  steps_within ends number_of [] slots asked all finds none_asked = subst (AllByRecursion WithinIf) (sym none_asked) tt
+  steps_within ends number_of (m ∷ steps) slots asked all finds a =
       let next = (stepped players number_of slots m.world m.step).slots in
       subst (AllByRecursion WithinIf) (sym a.2)
       (both_hold WithinIf a.0 a.1 (by_slot m.world (slot_at slots m.step.number) (stack_of m.step.call) _ a.0 _ (have_at Such slots m.step.number all) a.3)
-      (steps_within number_of steps next a.1 (step_has players number_of Such slots m.world m.step all finds.0) finds.1 a.4))
+      (steps_within ends number_of steps next a.1 (step_has ends players number_of Such slots m.world m.step all finds.0) finds.1 a.4))

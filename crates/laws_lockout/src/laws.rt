@@ -17,4 +17,5 @@ pub fn wrong_passwords_lock_out()
     laws_lock::laws::enough_failures_lock();
     laws_lock::laws::locked_user_is_denied();
     laws_denial::laws::locked_user_is_kept_out();
+    pam_handle::laws::ends_leave_it();
 }

@@ -25,4 +25,5 @@ pub fn refused_passwords_lock_out()
     laws_lock::laws::refused_password_is_recorded();
     laws_denial::laws::other_modules_leave_user_and_files();
     laws_denial::laws::locked_user_is_kept_out();
+    pam_handle::laws::ends_leave_it();
 }

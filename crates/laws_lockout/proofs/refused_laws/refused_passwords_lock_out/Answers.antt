@@ -6,4 +6,4 @@ returns c = refused_lock_out c.recorded_failures_are_kept.ensures.one c.recorded
     c.written_tallies_are_read.ensures.read c.written_tallies_are_read.ensures.new c.steps_change_files_by_plays.ensures.asks
     c.steps_change_files_by_plays.ensures.moments c.steps_change_files_by_plays.ensures.step c.other_modules_leave_tallies.ensures.alone
     c.enough_failures_lock.ensures c.locked_user_is_refused.ensures c.refused_password_is_recorded.ensures
-    c.other_modules_leave_user_and_files.ensures c.locked_user_is_denied.ensures c.locked_user_is_kept_out.ensures.call
+    c.other_modules_leave_user_and_files.ensures c.locked_user_is_denied.ensures c.locked_user_is_kept_out.ensures.call c.ends_leave_it.ensures
