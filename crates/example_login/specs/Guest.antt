@@ -5,7 +5,7 @@ use Rattle.std.specs.Str.{bytes_eq}
 use Rattle.pam_base.specs.declared.code.Code.{Code}
 use Rattle.pam_base.specs.declared.code.Code.TheVariants.{Success, UserUnknown}
 use Rattle.pam_base.specs.declared.call.Func.{Func}
-use Rattle.pam_base.specs.declared.call.Func.TheVariants.{Authenticate, SetCred, AcctMgmt, OpenSession, CloseSession, ChAuthTok}
+use Rattle.pam_base.specs.declared.call.Func.TheVariants.{Authenticate}
 use Rattle.pam_room.specs.Module.{Plays}
 use Rattle.mod_basic.specs.AtOnce.{plays_at_once}
 
@@ -15,11 +15,7 @@ is_guest (Some user) = bytes_eq user (codes "guest")
 
 abbrev pub guest_code : Func → Option (List ℕ) → Code
 guest_code Authenticate user = if is_guest user then Success else UserUnknown
-guest_code SetCred user = Success
-guest_code AcctMgmt user = Success
-guest_code OpenSession user = Success
-guest_code CloseSession user = Success
-guest_code ChAuthTok user = Success
+guest_code func user = Success
 
 abbrev pub guest_plays : Plays
 guest_plays = plays_at_once (λ call items caller. guest_code call.func items.user)

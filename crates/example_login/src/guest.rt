@@ -30,15 +30,10 @@ impl AtOnce for GuestRules {
 fn guest_code(func: Func, user: Option<&[u8]>) -> Code
     ensures { result ≡ guest_code func (option_copied user.entry) }
 {
-    match func {
-        Func::Authenticate if !is_guest(user) => Code::UserUnknown,
-        Func::Authenticate
-        | Func::SetCred
-        | Func::AcctMgmt
-        | Func::OpenSession
-        | Func::CloseSession
-        | Func::ChAuthTok => Code::Success,
+    if func == Func::Authenticate && !is_guest(user) {
+        return Code::UserUnknown;
     }
+    Code::Success
 }
 
 fn is_guest(user: Option<&[u8]>) -> bool
