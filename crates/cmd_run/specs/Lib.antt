@@ -16,6 +16,7 @@ pub mod State
 pub mod Step
 pub mod Asked
 pub mod Serve
+pub mod Served
 pub mod Read
 pub mod Script
 pub mod Report

@@ -1,12 +1,17 @@
 -- Transactions that are ended and reported, and where that stops (this project's own).
-use Rattle.std.specs.Prelude.{◌≡◌, ℕ, ◌+◌, ◌≤◌, Bool, true, false, List, [], ◌∷◌, ◌++◌, length, map, Result, Ok, Err, OnOk}
+use Rattle.std.specs.Prelude.{◌≡◌, ℕ, ◌+◌, ◌≤◌, ◌<◌, Bool, true, false, List, [], ◌∷◌, ◌++◌, length, map, Option, IfSome, IfNone, Result, Ok, Err, OnOk, IsTrue}
 use Rattle.pam_base.specs.declared.code.Code.{Code}
+use Rattle.pam_outside.specs.Counts.{RisesIf}
 use Rattle.pam_outside.specs.Streams.{SinkState}
 use Rattle.report_step.specs.pam_room.specs.Module.{Player}
 use Rattle.record_reader.specs.declared.ending.Stop.{Stop}
 use Rattle.record_reader.specs.declared.ending.Stop.TheVariants.{NoMemory, WriteFault}
+use Rattle.record_reader.specs.Object.{Object}
+use Rattle.record_reader.specs.Turns.{has_write_fault}
 use Rattle.cmd_run.specs.State.{RunState}
-use Rattle.cmd_run.specs.Closings.{Closing, closings, closings_text, last_state}
+use Rattle.cmd_run.specs.Closings.{Closing, EndsNext, all_closed, closings, closings_text, last_state, open_count}
+use Rattle.cmd_run.specs.Ends.{IsStatusOf}
+use Rattle.cmd_run.specs.Seen.{NoneIsOpenIn, SessionSeen, Went, state}
 
 -- a text is cut if a write failed, and isn't begun if an allocation for it failed
 abbrev pub CutBy : Stop → List ℕ → List ℕ → Type 0
@@ -59,3 +64,42 @@ module _ (wrapped : List ℕ → List ℕ) (players : List Player) (status : Cod
     pub to : ClosesTo result s t whole others part
     pub calls : new.calls ≤ old.calls + length (closings_text whole ++ part) + 1
     pub calls_ok : OnOk result (new.calls ≤ old.calls + length (closings_text whole ++ part))
+
+-- ---- what contracts see of it, with real objects too
+
+-- the open transaction with the lowest number is ended, if one is open
+pub record EndsLowest (status : Code) (result : Option ℕ) (old new : SessionSeen) : Type 0 where
+  pub some : IfSome result
+      (λ number. EndsNext old.players status number (state old) (state new))
+  pub none : IfNone result (NoneIsOpenIn old)
+  pub filed : length old.world.process.ledger.filed ≤ length new.world.process.ledger.filed
+  pub stays : IfNone result (state new ≡ state old)
+  pub went : Went (IsStatusOf status) old new
+
+-- all are ended, and nothing is written
+pub record EndsSilently (status : Code) (old new : SessionSeen) : Type 0 where
+  pub closed : state new ≡ all_closed old.players status (state old)
+  pub none_open : NoneIsOpenIn new
+  pub went : Went (IsStatusOf status) old new
+
+module _ (wrapped : List ℕ → List ℕ) (status : Code) where
+  -- the one with the lowest number is ended and reported; whether one was open
+  pub record EndsOne (result : Result Bool Stop) (old new : SessionSeen)
+      (output : Object SinkState) : Type 0 where
+    pub told : IsTrue output.tells → ClosesNext wrapped old.players status result (state old)
+        (state new) output.old output.new
+    pub fewer : result ≡ Ok true → open_count new.slots < open_count old.slots
+    pub none_open : result ≡ Ok false → NoneIsOpenIn new
+    pub went : Went (IsStatusOf status) old new
+    pub faults : RisesIf (has_write_fault result) output.faults_before output.faults_after
+    pub sink_tells : output.tells_after ≡ output.tells
+
+  -- all are ended and reported
+  pub record EndsOpen (result : Result (Unit {0}) Stop) (old new : SessionSeen)
+      (output : Object SinkState) : Type 0 where
+    pub told : IsTrue output.tells → Closes wrapped old.players status result (state old)
+        (state new) output.old output.new
+    pub none_open : OnOk result (NoneIsOpenIn new)
+    pub went : Went (IsStatusOf status) old new
+    pub faults : RisesIf (has_write_fault result) output.faults_before output.faults_after
+    pub sink_tells : output.tells_after ≡ output.tells

@@ -33,8 +33,7 @@ module _ {Kind : Type 0} (looked : Looks) (asked : Asking Kind)
     (step : Setting → ItemStep RunState Kind) (fails : Setting → ItemFails RunState)
     (read_step : ItemStep (Unit {0}) Kind) where
   pub record ServesStream (time : Timing) (result : Result (Ending Kind) Stop) (taken : ℕ)
-      (old new : SessionSeen) (input : Object SourceState) (output : Object SinkState) : Type
-      0 where
+      (old new : SessionSeen) (input : Object SourceState) (output : Object SinkState) : Type 0 where
     pub source_tells : input.tells_after ≡ input.tells
     pub sink_tells : output.tells_after ≡ output.tells
     pub told : IsTrue time.tells → (delay : Code → ℕ → ℕ) → old.gives delay → AllTell old
@@ -78,6 +77,18 @@ module _ {Kind : Type 0} (wrapped : List ℕ → List ℕ) (last_text : Ending K
     pub to : EndsTo ending n result s t whole others part
     pub calls : new.calls ≤ old.calls + length (closings_text whole ++ part) + 1
     pub calls_ok : OnOk result (new.calls ≤ old.calls + length (closings_text whole ++ part))
+
+-- what contracts see of it, with real objects too
+module _ {Kind : Type 0} (wrapped : List ℕ → List ℕ)
+    (last_text : Ending Kind → ℕ → Option (List ℕ)) where
+  pub record Finishes (ending : Ending Kind) (n : ℕ) (result : Result (Unit {0}) Stop)
+      (old new : SessionSeen) (output : Object SinkState) : Type 0 where
+    pub told : IsTrue output.tells → EndsWith wrapped last_text old.players ending n result
+        (state old) (state new) output.old output.new
+    pub none_open : OnOk result (NoneIsOpenIn new)
+    pub went : Went (IsStatusOf (ending_status ending)) old new
+    pub faults : RisesIf (has_write_fault result) output.faults_before output.faults_after
+    pub sink_tells : output.tells_after ≡ output.tells
 
 -- the calls that end the open transactions with this status
 abbrev pub ClosesBy : List Player → Code → RunState → RunState → Type 0

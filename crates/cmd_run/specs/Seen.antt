@@ -2,11 +2,15 @@
 -- project's own).
 use Rattle.std.specs.Prelude.{◌≡◌, ℕ}
 use Rattle.pam_base.specs.declared.code.Code.{Code}
-pub use Rattle.report_step.specs.pam_library.specs.Seen.{AllTell, IsSoundIn, NoneIsOpenIn}
-pub use Rattle.report_step.specs.pam_library.specs.Seen.{SessionSeen}
+pub use Rattle.report_step.specs.pam_library.specs.Seen.{AllTell, IsSoundIn, NoneIsOpenIn, SessionSeen}
 use Rattle.cmd_run.specs.AnyWorld.{ProceedsFor}
 use Rattle.cmd_run.specs.State.{RunState, Setting, setting_of, state_of}
 use Rattle.cmd_run.specs.Time.{Moments}
+
+-- no transaction is open, and each module data set has its cleanup record
+pub record IsIdle (s : SessionSeen) : Type 0 where
+  pub none_open : NoneIsOpenIn s
+  pub sound : IsSoundIn s
 
 abbrev pub state : SessionSeen → RunState
 state s = state_of s.slots s.world

@@ -1,5 +1,5 @@
 -- What one line of a script does (this project's own).
-use Rattle.std.specs.Prelude.{◌≡◌, ℕ, true, List, [], Result, Ok, Err}
+use Rattle.std.specs.Prelude.{◌≡◌, ℕ, Bool, true, List, [], Result, Ok, Err, IsTrue}
 use Rattle.pam_base.specs.declared.call.Step.{Step}
 use Rattle.pam_base.specs.declared.fault.ScriptKind.{ScriptKind}
 use Rattle.report_step.specs.dispatch_core.specs.Lines.{names_of}
@@ -24,6 +24,12 @@ with_word word w = record w { clock = record w.clock { word = word } }
 
 abbrev pub with_caller : ℕ → PlainWorld → PlainWorld
 with_caller caller w = record w { process = record w.process { caller = caller } }
+
+-- The clock was set: what is modelled before it, as the two flags say, is modelled after it.
+pub record SetsClock (set : PlainWorld → PlainWorld) (before after : Bool)
+    (old new : PlainWorld) : Type 0 where
+  pub tells : after ≡ before
+  pub told : IsTrue before → new ≡ set old
 
 module _ (setting : Setting) where
   -- a call, and its lines of the report

@@ -1,5 +1,5 @@
 -- The time of day that the owner of a run hands in (this project's own).
-use Rattle.std.specs.Prelude.{ℕ, Bool, true, Option, Some, None}
+use Rattle.std.specs.Prelude.{◌≡◌, ℕ, Bool, true, Option, Some, None, IsTrue}
 use Rattle.report_step.specs.pam_room.specs.State.{PlainWorld}
 
 -- the moment to which the clock is set before an item or a call, by how many came before it; None if it isn't set
@@ -26,3 +26,11 @@ kept_moment (Some now) moment = now
 -- the world after the clock was set; nothing else changes
 abbrev pub kept : Option ℕ → PlainWorld → PlainWorld
 kept now w = record w { clock = record w.clock { moment = kept_moment now w.clock.moment } }
+
+-- The clock was set before an item or a call that n others came before. Without a time of day nothing changes; what is
+-- modelled before it, as the two flags say, is modelled after it.
+pub record KeepsTime (time : Timing) (n : ℕ) (is_missing before after : Bool)
+    (old new : PlainWorld) : Type 0 where
+  pub tells : after ≡ before
+  pub told : IsTrue time.tells → IsTrue before → new ≡ kept (time.moments n) old
+  pub still : IsTrue is_missing → new ≡ old

@@ -1,12 +1,8 @@
-ghost use Rattle.std.specs.Prelude.{◌≡◌, ◌≤◌, IsTrue, OnOk};
-ghost use Rattle.pam_outside.specs.Counts.{RisesIf};
+ghost use Rattle.std.specs.Prelude.{◌≤◌, IsTrue};
 ghost use Rattle.record_reader.specs.Object.{object_of};
-ghost use Rattle.record_reader.specs.Turns.{has_write_fault};
-ghost use Rattle.cmd_run.specs.Ends.{IsStatusOf};
 ghost use Rattle.cmd_run.specs.Made.{ReportsRun};
-ghost use Rattle.cmd_run.specs.Run.{EndsWith, Ran};
-ghost use Rattle.cmd_run.specs.Seen.{IsSoundIn, NoneIsOpenIn, Went, state};
-ghost use Rattle.cmd_run.specs.Whole.{ending_status};
+ghost use Rattle.cmd_run.specs.Run.{Finishes, Ran};
+ghost use Rattle.cmd_run.specs.Seen.{IsSoundIn};
 
 use crate::closing::{close_open, close_silently};
 use crate::items::serve_items;
@@ -84,18 +80,10 @@ fn finish<P: Protocol, K: Sink>(
 ) -> Result<(), Stop>
     requires few { taken ≤ 65536 }
     requires sound { IsSoundIn (⟦<Session as Told>⟧.seen library.old world.old) }
-    ensures sink_tells { K.sink_tells sink.new ≡ K.sink_tells sink.old }
-    ensures told { let seen = ⟦<Session as Told>⟧.seen in IsTrue (K.sink_tells sink.old) →
-        EndsWith P.wrapped P.last_text (seen library.old world.old).players ending taken result
-        (state (seen library.old world.old)) (state (seen library.new world.new))
-        (K.sink_holds sink.old) (K.sink_holds sink.new) }
-    ensures none_open { OnOk result (NoneIsOpenIn
-        (⟦<Session as Told>⟧.seen library.new world.new)) }
-    ensures went { let seen = ⟦<Session as Told>⟧.seen in Went
-        (IsStatusOf (ending_status ending)) (seen library.old world.old)
-        (seen library.new world.new) }
-    ensures faults { RisesIf (has_write_fault result) (K.sink_faults sink.old)
-        (K.sink_faults sink.new) }
+    ensures { let seen = ⟦<Session as Told>⟧.seen in
+        Finishes P.wrapped P.last_text ending taken result (seen library.old world.old)
+        (seen library.new world.new)
+        (object_of K.sink_tells K.sink_holds K.sink_faults sink.old sink.new) }
 {
     match close_open::<P, K>(alloc, library, ending_status(ending), sink, world) {
         Err(stop) => Err(stop),

@@ -1,23 +1,16 @@
-ghost use Rattle.std.specs.Prelude.{◌≡◌, ◌≤◌, ◌<◌, ℕ, IsTrue, None, Ok, OnOk, length};
+ghost use Rattle.std.specs.Prelude.{◌≡◌, ◌≤◌, IsTrue, length};
 ghost use Rattle.script_lang.specs.Fit.{IsFit};
-ghost use Rattle.script_lang.specs.declared.line.Line.{Line as PlainLine};
-ghost use Rattle.pam_base.specs.declared.code.Code.{Code};
 ghost use Rattle.pam_outside.specs.Counts.{RisesIf};
 ghost use Rattle.report_step.specs.dispatch_core.specs.Lines.{names_of};
-ghost use Rattle.report_step.specs.pam_room.specs.Module.{notes_of};
 ghost use Rattle.report_step.specs.pam_library.specs.Outcome.{plain_outcome};
 ghost use Rattle.report_step.specs.pam_library.specs.Plain.{gear_in};
 ghost use Rattle.report_step.specs.Cleaned.{AreOwned};
 ghost use Rattle.report_step.specs.Step.{step_text};
-ghost use Rattle.record_reader.specs.Turns.{ServesItem, has_write_fault};
-ghost use Rattle.cmd_run.specs.Asked.{IsEnd, IsEndLine};
-ghost use Rattle.cmd_run.specs.Events.{LineMoves, MovesBy};
-ghost use Rattle.cmd_run.specs.Reading.{ReadsItem, WritesSome};
-ghost use Rattle.cmd_run.specs.Made.{ReportsCalls};
+ghost use Rattle.record_reader.specs.Object.{object_of};
+ghost use Rattle.record_reader.specs.Turns.{has_write_fault};
 ghost use Rattle.cmd_run.specs.Report.{WritesReport};
-ghost use Rattle.cmd_run.specs.Seen.{AllTell, IsSoundIn, Went, setting_at, state};
-ghost use Rattle.cmd_run.specs.Serve.{AppliesLine};
-ghost use Rattle.cmd_run.specs.Time.{Moments};
+ghost use Rattle.cmd_run.specs.Seen.{IsSoundIn};
+ghost use Rattle.cmd_run.specs.Served.{Applies, Serves};
 
 use crate::protocol::Protocol;
 use crate::report::write_report;
@@ -46,32 +39,11 @@ pub(crate) fn serve<P: Protocol, K: Sink>(
     world: &mut World,
 ) -> Result<Option<P::Kind>, Stop>
     requires { IsSoundIn (⟦<Session as Told>⟧.seen library.old world.old) }
-    ensures sink_tells { K.sink_tells sink.new ≡ K.sink_tells sink.old }
-    ensures told { let seen = ⟦<Session as Told>⟧.seen in
-        let timing = ⟦<Option<Box<dyn TimeOfDay>> as TimeTold>⟧.timing time.now in
-        IsTrue timing.tells → (delay : Code → ℕ → ℕ) → (seen library.old world.old).gives delay →
-        AllTell (seen library.old world.old) → IsTrue (K.sink_tells sink.old) →
-        (let setting = setting_at timing.moments (seen library.old world.old) delay in
-        ServesItem (P.step setting) (P.fails setting) result taken item.now
-        (state (seen library.old world.old)) (state (seen library.new world.new))
-        (K.sink_holds sink.old) (K.sink_holds sink.new)) }
-    ensures went { let seen = ⟦<Session as Told>⟧.seen in Went (IsEnd (P.asked taken item.now))
-        (seen library.old world.old) (seen library.new world.new) }
-    ensures moves { let seen = ⟦<Session as Told>⟧.seen in result ≡ Ok None →
-        MovesBy (notes_of (seen library.old world.old).players) (seen library.old world.old).slots
-        (P.asked taken item.now) world.old.process.ledger world.new.process.ledger
-        (seen library.new world.new).slots }
-    ensures few { result ≡ Ok None → taken < 65536 }
-    ensures accepted { result ≡ Ok None → (line : PlainLine) × (P.asked taken item.now ≡ Ok line) }
-    ensures reads { ReadsItem P.read_step result taken item.now }
-    ensures writes { IsTrue (K.sink_tells sink.old) →
-        WritesSome result (K.sink_holds sink.old) (K.sink_holds sink.new) }
-    ensures made { let seen = ⟦<Session as Told>⟧.seen in IsTrue (K.sink_tells sink.old) →
-        ReportsCalls P.wrapped (names_of (seen library.old world.old).players) result
-        (seen library.old world.old).slots (seen library.new world.new).slots
-        (K.sink_holds sink.old) (K.sink_holds sink.new) }
-    ensures faults { RisesIf (has_write_fault result) (K.sink_faults sink.old)
-        (K.sink_faults sink.new) }
+    ensures { let seen = ⟦<Session as Told>⟧.seen in
+        let timing = ⟦<Option<Box<dyn TimeOfDay>> as TimeTold>⟧.timing in
+        Serves P.asked P.wrapped P.step P.fails P.read_step (timing time.now) result taken item.now
+        (seen library.old world.old) (seen library.new world.new)
+        (object_of K.sink_tells K.sink_holds K.sink_faults sink.old sink.new) }
 {
     P::does();
     match P::read(alloc, taken, item) {
@@ -97,27 +69,9 @@ fn apply_line<P: Protocol, K: Sink>(
 ) -> Result<(), Stop>
     requires fit { IsFit line }
     requires sound { IsSoundIn (⟦<Session as Told>⟧.seen library.old world.old) }
-    ensures sink_tells { K.sink_tells sink.new ≡ K.sink_tells sink.old }
-    ensures told { let seen = ⟦<Session as Told>⟧.seen in (moments : Moments) →
-        (delay : Code → ℕ → ℕ) → (seen library.old world.old).gives delay →
-        AllTell (seen library.old world.old) → IsTrue (K.sink_tells sink.old) →
-        AppliesLine P.wrapped (setting_at moments (seen library.old world.old) delay) line result
-        (state (seen library.old world.old)) (state (seen library.new world.new))
-        (K.sink_holds sink.old) (K.sink_holds sink.new) }
-    ensures went { let seen = ⟦<Session as Told>⟧.seen in Went (IsEndLine line)
-        (seen library.old world.old) (seen library.new world.new) }
-    ensures moves { let seen = ⟦<Session as Told>⟧.seen in OnOk result
-        (LineMoves (notes_of (seen library.old world.old).players)
-        (seen library.old world.old).slots line world.old.process.ledger
-        world.new.process.ledger (seen library.new world.new).slots) }
-    ensures writes { IsTrue (K.sink_tells sink.old) →
-        WritesSome result (K.sink_holds sink.old) (K.sink_holds sink.new) }
-    ensures made { let seen = ⟦<Session as Told>⟧.seen in IsTrue (K.sink_tells sink.old) →
-        ReportsCalls P.wrapped (names_of (seen library.old world.old).players) result
-        (seen library.old world.old).slots (seen library.new world.new).slots
-        (K.sink_holds sink.old) (K.sink_holds sink.new) }
-    ensures faults { RisesIf (has_write_fault result) (K.sink_faults sink.old)
-        (K.sink_faults sink.new) }
+    ensures { let seen = ⟦<Session as Told>⟧.seen in
+        Applies P.wrapped line result (seen library.old world.old) (seen library.new world.new)
+        (object_of K.sink_tells K.sink_holds K.sink_faults sink.old sink.new) }
 {
     data_cleanup::due_laws::nothing_moves();
     match line {

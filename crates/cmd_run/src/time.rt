@@ -1,5 +1,5 @@
 ghost use Rattle.std.specs.Prelude.{◌≡◌, ◌≤◌, ℕ, Bool, IsTrue, is_none};
-ghost use Rattle.cmd_run.specs.Time.{kept};
+ghost use Rattle.cmd_run.specs.Time.{KeepsTime};
 
 use pam_outside::{MAX_MOMENT, set_moment};
 use report_step::pam_room::{World, WorldTold};
@@ -37,13 +37,10 @@ impl TimeTold for Option<Box<dyn TimeOfDay>> {
 /// Sets the world's clock to the time of day, before an item or a call that `before` others came before. Without a time
 /// of day it changes nothing. It changes nothing of the world but the clock.
 pub fn keep_time(time: &Option<Box<dyn TimeOfDay>>, before: u32, world: &mut World)
-    ensures tells { let told = ⟦<World as WorldTold>⟧ in told.tells world.new ≡ told.tells world.old }
-    ensures told { let told = ⟦<World as WorldTold>⟧ in
-        let timing = ⟦<Option<Box<dyn TimeOfDay>> as TimeTold>⟧.timing time.now in
-        IsTrue timing.tells → IsTrue (told.tells world.old) →
-        told.plain world.new ≡ kept (timing.moments before) (told.plain world.old) }
-    ensures still { let plain = ⟦<World as WorldTold>⟧.plain in
-        IsTrue (is_none time.now) → plain world.new ≡ plain world.old }
+    ensures sets { let told = ⟦<World as WorldTold>⟧ in
+        KeepsTime (⟦<Option<Box<dyn TimeOfDay>> as TimeTold>⟧.timing time.now) before
+        (is_none time.now) (told.tells world.old) (told.tells world.new) (told.plain world.old)
+        (told.plain world.new) }
     ensures vault { world.new.vault ≡ world.old.vault }
     ensures nap { world.new.nap ≡ world.old.nap }
     ensures process { world.new.process ≡ world.old.process }

@@ -1,5 +1,5 @@
-ghost use Rattle.std.specs.Prelude.{◌≡◌, ◌≤◌, IsTrue};
-ghost use Rattle.cmd_run.specs.Step.{at_moment, with_word, with_caller};
+ghost use Rattle.std.specs.Prelude.{◌≡◌, ◌≤◌};
+ghost use Rattle.cmd_run.specs.Step.{SetsClock, at_moment, with_caller, with_word};
 
 use pam_outside::{MAX_MOMENT, set_moment, set_word};
 use report_step::pam_room::{World, WorldTold};
@@ -7,9 +7,9 @@ use report_step::pam_room::{World, WorldTold};
 /// Sets the time of the world's clock, if that clock can be set.
 pub(crate) fn set_world_moment(world: &mut World, moment: u64)
     requires { moment ≤ MAX_MOMENT }
-    ensures tells { let told = ⟦<World as WorldTold>⟧ in told.tells world.new ≡ told.tells world.old }
-    ensures told { let told = ⟦<World as WorldTold>⟧ in IsTrue (told.tells world.old) →
-        told.plain world.new ≡ at_moment moment (told.plain world.old) }
+    ensures sets { let told = ⟦<World as WorldTold>⟧ in
+        SetsClock (at_moment moment) (told.tells world.old) (told.tells world.new)
+        (told.plain world.old) (told.plain world.new) }
     ensures process { world.new.process ≡ world.old.process }
 {
     set_moment(&mut world.clock, moment);
@@ -17,9 +17,9 @@ pub(crate) fn set_world_moment(world: &mut World, moment: u64)
 
 /// Sets the random word of the world's clock, if that clock can be set.
 pub(crate) fn set_world_word(world: &mut World, word: u64)
-    ensures tells { let told = ⟦<World as WorldTold>⟧ in told.tells world.new ≡ told.tells world.old }
-    ensures told { let told = ⟦<World as WorldTold>⟧ in IsTrue (told.tells world.old) →
-        told.plain world.new ≡ with_word word (told.plain world.old) }
+    ensures sets { let told = ⟦<World as WorldTold>⟧ in
+        SetsClock (with_word word) (told.tells world.old) (told.tells world.new)
+        (told.plain world.old) (told.plain world.new) }
     ensures process { world.new.process ≡ world.old.process }
 {
     set_word(&mut world.clock, word);

@@ -11,11 +11,11 @@ pub returns : goal.returns
 returns g c = record {
   goes = record {
     told = λ timed delay is all sink.
-        made_at_time _ _ _ _ _ _ _ (c.keep_time.ensures.told timed (and_right _ _ all)) _ _ _
-        (c.make_now.ensures.told _ delay is (rw c.keep_time.ensures.tells all) sink);
+        made_at_time _ _ _ _ _ _ _ (c.keep_time.ensures.sets.told timed (and_right _ _ all)) _ _ _
+        (c.make_now.ensures.told _ delay is (rw c.keep_time.ensures.sets.tells all) sink);
     reports = λ sink. writes_as _ _ _ _ _ _ _ (λ answer made. made) (λ fails. fails) _ _ _ (c.make_now.ensures.reports _ sink);
     others = c.make_now.ensures.others;
-    went = went_on _ _ _ _ (went_quietly _ _ _ refl refl c.keep_time.ensures.tells (λ number gives. gives) (λ number gives. gives) refl
+    went = went_on _ _ _ _ (went_quietly _ _ _ refl refl c.keep_time.ensures.sets.tells (λ number gives. gives) (λ number gives. gives) refl
         (ap (λ (p : Process). p.ledger) c.keep_time.ensures.process) c.requires.sound) c.make_now.ensures.went;
     faults = c.make_now.ensures.faults;
     sink_tells = c.make_now.ensures.sink_tells;

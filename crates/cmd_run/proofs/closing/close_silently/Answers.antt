@@ -1,4 +1,6 @@
-use Rattle.std.proofs.Common.{refl, sym, ◌∙◌}
+use Rattle.std.proofs.Common.{refl, subst, sym, ◌∙◌}
+use Rattle.report_step.specs.pam_library.specs.Slots.{NoneIsOpen}
+use Rattle.cmd_run.specs.State.{RunState}
 use Rattle.cmd_run.proofs.RunPartFacts.{went_nowhere, went_on}
 use Rattle.cmd_run.proofs.Lowest.{none_left, one_then}
 use Rattle.cmd_run.proofs.closing.close_silently.Goals as goal
@@ -14,9 +16,9 @@ loop-number-preserved g c =
       left = was.left ∙ one_then _ _ _ _ _ (rw was.went.players at c.in-Some.ensures.some);
     }
 
-pub returns-clause-closed : goal.returns-clause-closed
-returns-clause-closed g c =
-    rw c.in_default.ensures.stays (sym (c.loop-number.invariant.left ∙ none_left _ _ _ _ c.in_default.ensures.none))
-
-pub returns-clause-went : goal.returns-clause-went
-returns-clause-went g c = went_on _ _ _ _ c.loop-number.invariant.went c.end_next.ensures.went
+pub returns : goal.returns
+returns g c = record {
+  closed = rw c.in_default.ensures.stays (sym (c.loop-number.invariant.left ∙ none_left _ _ _ _ c.in_default.ensures.none));
+  none_open = subst (λ (s : RunState). NoneIsOpen s.slots) (sym c.in_default.ensures.stays) c.in_default.ensures.none;
+  went = went_on _ _ _ _ c.loop-number.invariant.went c.end_next.ensures.went;
+}

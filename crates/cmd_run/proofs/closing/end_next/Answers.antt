@@ -1,20 +1,16 @@
-use Rattle.std.proofs.Common.{refl}
+use Rattle.std.proofs.Common.{refl, rules}
 use Rattle.cmd_run.proofs.Lowest.{some_ends, none_stays, receipts_by}
 use Rattle.cmd_run.proofs.RunPartFacts.{went_once}
 use Rattle.cmd_run.proofs.CallSequenceFacts.{closing_ends}
 use Rattle.cmd_run.proofs.closing.end_next.Goals as goal
 
-pub returns-clause-some : goal.returns-clause-some
-returns-clause-some g c = some_ends _ _ _ _ _ _ _ (rw c.code_number.ensures at c.close_one.ensures.closes)
-
-pub returns-clause-stays : goal.returns-clause-stays
-returns-clause-stays g c = none_stays _ c.args.status _ _ _ _ _ (rw c.code_number.ensures at c.close_one.ensures.closes)
-
-pub returns-clause-filed : goal.returns-clause-filed
-returns-clause-filed g c = receipts_by _ c.args.status _ _ _ _ _ (rw c.code_number.ensures at c.close_one.ensures.closes)
-
-pub returns-clause-went : goal.returns-clause-went
-returns-clause-went g c =
-    went_once _ _ _ (rw c.close_one.ensures.gear refl) c.close_one.ensures.keeps.tells c.close_one.ensures.keeps.world_tells
-    (λ number gives. rw c.close_one.ensures.gear gives) (λ number gives. rw c.close_one.ensures.gear at gives)
-    _ c.close_one.ensures.keeps.moves (closing_ends c.args.status _ _ c.code_number.ensures) c.close_one.ensures.keeps.sound
+pub returns : goal.returns
+returns g c = record {
+  some = some_ends _ _ _ _ _ _ _ (rw c.code_number.ensures at c.close_one.ensures.closes);
+  none = search rules;
+  filed = receipts_by _ c.args.status _ _ _ _ _ (rw c.code_number.ensures at c.close_one.ensures.closes);
+  stays = none_stays _ c.args.status _ _ _ _ _ (rw c.code_number.ensures at c.close_one.ensures.closes);
+  went = went_once _ _ _ (rw c.close_one.ensures.gear refl) c.close_one.ensures.keeps.tells c.close_one.ensures.keeps.world_tells
+      (λ number gives. rw c.close_one.ensures.gear gives) (λ number gives. rw c.close_one.ensures.gear at gives)
+      _ c.close_one.ensures.keeps.moves (closing_ends c.args.status _ _ c.code_number.ensures) c.close_one.ensures.keeps.sound;
+}
