@@ -1,18 +1,16 @@
-ghost use Rattle.std.specs.Prelude.{◌≡◌, ℕ, Ok, Some, IfOk, IsTrue, string_bytes};
+ghost use Rattle.std.specs.Prelude.{◌≡◌, Ok, Some, IfOk, IsTrue, string_bytes};
 ghost use Rattle.std.specs.Option.{option_copied};
 ghost use Rattle.pam_base.specs.ServiceName.{is_service_name};
 ghost use Rattle.pam_base.specs.declared.code.Code.{Code};
 ghost use Rattle.pam_outside.specs.Counts.{RisesIf};
 ghost use Rattle.cmd_run.specs.pam_library.specs.AnyWorld.{is_refused};
-ghost use Rattle.cmd_run.specs.pam_library.specs.Slots.{slot_at};
 ghost use Rattle.record_reader.specs.Object.{object_of};
 ghost use Rattle.record_reader.specs.Turns.{has_write_fault};
-ghost use Rattle.cmd_run.specs.Seen.{AllTell, IsSoundIn, NoneIsOpenIn, Went, setting_at, setting_in, state};
+ghost use Rattle.cmd_run.specs.Seen.{IsIdle, IsSoundIn};
 ghost use Rattle.cmd_run.specs.State.{RunState};
 ghost use Rattle.cmd_login.specs.Ends.{IsDenial, IsEndOfLogin, IsEndWith, closing_code};
 ghost use Rattle.cmd_login.specs.Login.{AfterStart, Denies, FinalVerdict, TriesLogin, denied_line, end_call, end_code, verdict_by};
-ghost use Rattle.cmd_login.specs.Reported.{Goes, LogsIn, Writes, possible_calls};
-ghost use Rattle.cmd_login.specs.Told.{exact_calls, state_made};
+ghost use Rattle.cmd_login.specs.Reported.{EndsSilently, Goes, LoggedIn, Writes, possible_calls};
 
 use crate::calls::{FIRST_PLACE, LAST_PLACE, LOGIN_CALLS};
 use crate::course::go_through;
@@ -65,41 +63,12 @@ pub fn login<K: Sink>(
     world: &mut World,
 ) -> Result<Verdict, Stop>
     requires service { IsTrue (is_service_name service.now) }
-    requires none_open { NoneIsOpenIn (⟦<Session as Told>⟧.seen library.old world.old) }
-    requires sound { IsSoundIn (⟦<Session as Told>⟧.seen library.old world.old) }
-
-    // If all objects are modelled, and the time of day if there is one: each call is exactly the library's, at the time of
-    // day of its place. The calls, what is written of them, and the verdict are those of `TriesLogin`; after an Err the
-    // first of them, and of the last line perhaps a prefix.
-    ensures told { let seen = ⟦<Session as Told>⟧.seen in
-        let time = ⟦<Option<Box<dyn TimeOfDay>> as TimeTold>⟧.timing time.now in
-        IsTrue time.tells → (delay : Code → ℕ → ℕ) → (seen library.old world.old).gives delay →
-        AllTell (seen library.old world.old) → IsTrue (K.sink_tells out.old) →
-        LogsIn (TriesLogin service.now (option_copied user.entry))
-        (exact_calls (setting_at time.moments (seen library.old world.old) delay))
-        (seen library.old world.old).players result (state (seen library.old world.old))
-        (state (seen library.new world.new)) (K.sink_holds out.old) (K.sink_holds out.new) }
-
-    // If only the sink is modelled: the same, where each call is one that the library can make on the slot as the calls
-    // before it left it, with a result that it can have there.
-    ensures reports { let seen = ⟦<Session as Told>⟧.seen in IsTrue (K.sink_tells out.old) →
-        LogsIn (TriesLogin service.now (option_copied user.entry)) possible_calls
-        (seen library.old world.old).players result (state (seen library.old world.old))
-        (state (seen library.new world.new)) (K.sink_holds out.old) (K.sink_holds out.new) }
-
-    // With real objects too: SUCCESS denies nobody; no transaction is open; and the cleanup log and the module data
-    // are what calls of the library, with these statuses of pam_end, made of them.
-    ensures denies { (code : Code) → result ≡ Ok (Verdict.Denied code) → IsDenial code }
-    ensures none_open { NoneIsOpenIn (⟦<Session as Told>⟧.seen library.new world.new) }
-    ensures went { let seen = ⟦<Session as Told>⟧.seen in Went (IsEndOfLogin result)
-        (seen library.old world.old) (seen library.new world.new) }
-
-    // The causes, with real objects too.
-    ensures faults { RisesIf (has_write_fault result) (K.sink_faults out.old)
-        (K.sink_faults out.new) }
-
-    // What is modelled before the login is modelled after it.
-    ensures sink_tells { K.sink_tells out.new ≡ K.sink_tells out.old }
+    requires idle { IsIdle (⟦<Session as Told>⟧.seen library.old world.old) }
+    ensures { let seen = ⟦<Session as Told>⟧.seen in
+        LoggedIn (TriesLogin service.now (option_copied user.entry))
+        (⟦<Option<Box<dyn TimeOfDay>> as TimeTold>⟧.timing time.now) result
+        (seen library.old world.old) (seen library.new world.new)
+        (object_of K.sink_tells K.sink_holds K.sink_faults out.old out.new) }
 {
     let result = try_login(alloc, library, service, user, time, out, world);
     end_silently(alloc, library, closing_code(result), world);
@@ -267,15 +236,8 @@ fn closing_code(outcome: Result<Verdict, Stop>) -> Code
 // Ends the first transaction, if it is open, and writes nothing. It allocates nothing.
 fn end_silently(alloc: Global, library: &mut Library, code: Code, world: &mut World)
     requires { IsSoundIn (⟦<Session as Told>⟧.seen library.old world.old) }
-    ensures ended { let seen = ⟦<Session as Told>⟧.seen in (delay : Code → ℕ → ℕ) →
-        state (seen library.new world.new)
-        ≡ state_made (setting_in (seen library.old world.old) delay) (end_call code)
-        (state (seen library.old world.old)) }
-    ensures others { let seen = ⟦<Session as Told>⟧.seen in (number : ℕ) → (number ≡ 1 → ⊥) →
-        slot_at (seen library.new world.new).slots number
-        ≡ slot_at (seen library.old world.old).slots number }
-    ensures went { let seen = ⟦<Session as Told>⟧.seen in Went (IsEndWith code)
-        (seen library.old world.old) (seen library.new world.new) }
+    ensures { let seen = ⟦<Session as Told>⟧.seen in
+        EndsSilently code (seen library.old world.old) (seen library.new world.new) }
 {
     let step = Step {
         number: 1,

@@ -4,22 +4,19 @@ use Rattle.cmd_login.proofs.CallSequenceFacts.{closing_end_as}
 use Rattle.cmd_login.proofs.TransactionEndFacts.{closed_if_ended, login_ends, none_left}
 use Rattle.cmd_login.proofs.attempt.login.Goals as goal
 
-pub returns-clause-told : goal.returns-clause-told
-returns-clause-told g c = λ timed delay is told sink.
-    login_ends _ _ _ _ _ _ _ _ _ _ (c.try_login-result.ensures.goes.told timed delay is told sink) c.try_login-result.ensures.goes.went.players
-    c.closing_code.result c.closing_code.ensures c.end_silently.ensures.ended
-
-pub returns-clause-reports : goal.returns-clause-reports
-returns-clause-reports g c = λ sink.
-    login_ends _ _ _ _ _ _ _ _ _ _ (c.try_login-result.ensures.goes.reports sink) c.try_login-result.ensures.goes.went.players
-    c.closing_code.result c.closing_code.ensures c.end_silently.ensures.ended
-
-pub returns-clause-none_open : goal.returns-clause-none_open
-returns-clause-none_open g c =
-    none_left _ _ c.requires.none_open (λ number other. c.end_silently.ensures.others number other ∙ c.try_login-result.ensures.goes.others number other)
-    (closed_if_ended _ _ _ _ _ _ (c.end_silently.ensures.ended (λ code asked. 0)))
-
-pub returns-clause-went : goal.returns-clause-went
-returns-clause-went g c =
-    went_on _ _ _ _ c.try_login-result.ensures.goes.went
-    (went_so _ _ (closing_end_as c.try_login-result.result c.closing_code.result c.closing_code.ensures) _ _ c.end_silently.ensures.went)
+pub returns : goal.returns
+returns g c = record {
+  told = λ timed delay is told sink.
+      login_ends _ _ _ _ _ _ _ _ _ _ (c.try_login-result.ensures.goes.told timed delay is told sink) c.try_login-result.ensures.goes.went.players
+      c.closing_code.result c.closing_code.ensures c.end_silently.ensures.ended;
+  reports = λ sink.
+      login_ends _ _ _ _ _ _ _ _ _ _ (c.try_login-result.ensures.goes.reports sink) c.try_login-result.ensures.goes.went.players
+      c.closing_code.result c.closing_code.ensures c.end_silently.ensures.ended;
+  denies = c.try_login-result.ensures.denies;
+  none_open = none_left _ _ c.requires.idle.none_open (λ number other. c.end_silently.ensures.others number other ∙ c.try_login-result.ensures.goes.others number other)
+      (closed_if_ended _ _ _ _ _ _ (c.end_silently.ensures.ended (λ code asked. 0)));
+  went = went_on _ _ _ _ c.try_login-result.ensures.goes.went
+      (went_so _ _ (closing_end_as c.try_login-result.result c.closing_code.result c.closing_code.ensures) _ _ c.end_silently.ensures.went);
+  faults = c.try_login-result.ensures.goes.faults;
+  sink_tells = c.try_login-result.ensures.goes.sink_tells;
+}
