@@ -1,19 +1,25 @@
 -- The command `generate` (this project's own).
-use Rattle.std.specs.Prelude.{◌≡◌, ◌≢◌, ◌⊎◌, ℕ, ◌+◌, ◌≤◌, List, [], ◌++◌, length, codes, decimal, Option, Some, None, Result, Ok, Err, OnOk, IfOk}
+use Rattle.std.specs.Prelude.{◌≡◌, ◌≢◌, ◌⊎◌, ℕ, ◌+◌, ◌≤◌, List, [], ◌++◌, length, codes, decimal, Option, Some, None, Result, Ok, Err, OnOk, IfOk, IsTrue}
 use Rattle.pam_base.specs.Code.{number_of, name_of}
+use Rattle.pam_base.specs.declared.code.Code.{Code}
 use Rattle.pam_base.specs.declared.code.Code.TheVariants.{Success, BufErr}
 use Rattle.pam_base.specs.declared.fault.NoMemory as faults
 use Rattle.pam_base.specs.declared.fault.Refuse.{Refuse}
 use Rattle.pam_base.specs.declared.fault.Refuse.TheVariants.{Named}
 use Rattle.pam_base.specs.declared.fault.Refuse.TheVariants as refusals
+use Rattle.pam_outside.specs.Counts.{RisesIf}
 use Rattle.pam_outside.specs.Files.{VaultState}
 use Rattle.pam_outside.specs.Streams.{SinkState}
 use Rattle.random_config.specs.Files.{count_of, random_files}
+use Rattle.cmd_run.specs.record_reader.specs.Object.{Object}
+use Rattle.cmd_run.specs.record_reader.specs.Turns.{has_write_fault}
 use Rattle.cmd_run.specs.record_reader.specs.declared.ending.Stop.{Stop}
 use Rattle.cmd_run.specs.record_reader.specs.declared.ending.Stop.TheVariants.{NoMemory}
 use Rattle.cmd_run.specs.pam_room.specs.State.{PlainWorld}
 use Rattle.service_load.specs.declared.load_fault.LoadFault.{LoadFault}
 use Rattle.cmd_run.specs.report_step.specs.Fault.{refused_text}
+use Rattle.cmd_run.specs.Reading.{WritesScript}
+use Rattle.cmd_run.specs.Seen.{AllTell, NoneIsOpenIn, SessionSeen, Went, setting_in, state}
 use Rattle.cmd_run.specs.State.{RunState, Setting, state_of}
 use Rattle.cmd_generate.specs.declared.generating.Finding.{Finding}
 use Rattle.cmd_generate.specs.declared.generating.Generated.{Generated}
@@ -131,3 +137,20 @@ IsEndOfFinding (Err none) = IsEndWithoutMemory
 abbrev pub IsEndOfGenerate : Result Generated Stop → ℕ → ℕ → Type 0
 IsEndOfGenerate (Err NoMemory) = IsEndWithoutMemory
 IsEndOfGenerate result = IsEndWith (number_of Success)
+
+-- ---- what contracts see of it
+
+pub record IsGenerated (seed lines : ℕ) (result : Result Generated Stop) (old new : SessionSeen)
+    (output : Object SinkState) : Type 0 where
+  -- If all objects are modelled: what was written, and the library and world afterwards.
+  pub told : (delay : Code → ℕ → ℕ) → old.gives delay → AllTell old → IsTrue output.tells
+      → Generates result (generation (setting_in old delay) seed lines (state old)) (state new)
+      output.old output.new
+  -- If only the sink is modelled: how often it was written.
+  pub writes : IsTrue output.tells → WritesScript output.old output.new
+  -- With real objects too: no transaction is open, and with which status it was ended.
+  pub none_open : NoneIsOpenIn new
+  pub went : Went (IsEndOfGenerate result) old new
+  pub faults : RisesIf (has_write_fault result) output.faults_before output.faults_after
+  -- What is modelled before it is modelled after it.
+  pub sink_tells : output.tells_after ≡ output.tells

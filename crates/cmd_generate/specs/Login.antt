@@ -1,5 +1,5 @@
 -- One authentication by the generated service (this project's own).
-use Rattle.std.specs.Prelude.{◌≡◌, ◌⊎◌, ℕ, codes, length, Option, Some, None, Result, Ok, Err}
+use Rattle.std.specs.Prelude.{◌≡◌, ◌⊎◌, ℕ, false, codes, length, Option, Some, None, Result, Ok, Err}
 use Rattle.pam_base.specs.Code.{number_of}
 use Rattle.pam_base.specs.declared.code.Code.{Code}
 use Rattle.pam_base.specs.declared.code.Code.TheVariants.{Success, SystemErr, BufErr}
@@ -14,7 +14,7 @@ use Rattle.cmd_run.specs.pam_library.specs.declared.outcome.Answer.{Answer}
 use Rattle.cmd_run.specs.pam_library.specs.declared.outcome.Answer.TheVariants as answers
 use Rattle.cmd_run.specs.pam_library.specs.Outcome.{PlainOutcome}
 use Rattle.cmd_run.specs.pam_library.specs.Step.{Stepped, stepped}
-use Rattle.cmd_run.specs.pam_library.specs.Slots.{slot_at}
+use Rattle.cmd_run.specs.pam_library.specs.Slots.{is_open_at, slot_at}
 use Rattle.cmd_run.specs.Seen.{AllTell, NoneIsOpenIn, SessionSeen, Went, setting_in, state}
 use Rattle.cmd_run.specs.State.{RunState, Setting, state_of}
 use Rattle.cmd_run.specs.Step.{CallFails}
@@ -162,3 +162,10 @@ pub record IsOver (Told : PartTold) (Is : ℕ → ℕ → Type 0) (old new : Ses
   pub told : IsTold Told old new
   pub none_open : NoneIsOpenIn new
   pub went : Went Is old new
+
+-- with real objects too: the transaction is ended with this status, if it is open, and no other one is
+pub record EndsWith (status : ℕ) (old new : SessionSeen) : Type 0 where
+  pub ends : (delay : Code → ℕ → ℕ) → state new ≡ ended (setting_in old delay) status (state old)
+  pub others : (number : ℕ) → (number ≡ 1 → ⊥) → slot_at new.slots number ≡ slot_at old.slots number
+  pub closed : is_open_at (slot_at new.slots 1) ≡ false
+  pub went : Went (IsEndWith status) old new

@@ -1,11 +1,8 @@
-ghost use Rattle.std.specs.Prelude.{◌≡◌, ◌≤◌, ℕ, IfOk, IsTrue};
+ghost use Rattle.std.specs.Prelude.{◌≡◌, ◌≤◌, IfOk};
 ghost use Rattle.pam_base.specs.Code.{number_of};
-ghost use Rattle.pam_base.specs.declared.code.Code.{Code as TheCode};
-ghost use Rattle.pam_outside.specs.Counts.{RisesIf};
-ghost use Rattle.cmd_run.specs.record_reader.specs.Turns.{has_write_fault};
-ghost use Rattle.cmd_run.specs.Reading.{WritesScript};
-ghost use Rattle.cmd_run.specs.Seen.{AllTell, IsSoundIn, NoneIsOpenIn, Went, setting_in, state};
-ghost use Rattle.cmd_generate.specs.Generated.{AttemptStops, FindsOrStops, Generates, IsEndOfFinding, IsEndOfGenerate, IsFound, attempted, generated_text, generation};
+ghost use Rattle.cmd_run.specs.record_reader.specs.Object.{object_of};
+ghost use Rattle.cmd_run.specs.Seen.{IsIdle};
+ghost use Rattle.cmd_generate.specs.Generated.{AttemptStops, FindsOrStops, IsEndOfFinding, IsFound, IsGenerated, attempted, generated_text, generation};
 ghost use Rattle.cmd_generate.specs.Login.{ComesTo, IsEndWith, IsOver, end_status};
 
 use crate::login::{Login, log_in};
@@ -54,30 +51,10 @@ pub fn generate<K: Sink>(
     world: &mut World,
 ) -> Result<Generated, Stop>
     requires few { lines ≤ MAX_RANDOM_LINES }
-    requires none_open { NoneIsOpenIn (⟦<Session as Told>⟧.seen library.old world.old) }
-    requires sound { IsSoundIn (⟦<Session as Told>⟧.seen library.old world.old) }
-
-    // If all objects are modelled: what was written, and the library and world afterwards.
-    ensures told { let seen = ⟦<Session as Told>⟧.seen in (delay : TheCode → ℕ → ℕ) →
-        (seen library.old world.old).gives delay → AllTell (seen library.old world.old) →
-        IsTrue (K.sink_tells out.old) →
-        Generates result (generation (setting_in (seen library.old world.old) delay) seed lines
-        (state (seen library.old world.old))) (state (seen library.new world.new))
-        (K.sink_holds out.old) (K.sink_holds out.new) }
-
-    // If only the sink is modelled: how often it was written.
-    ensures writes { IsTrue (K.sink_tells out.old) →
-        WritesScript (K.sink_holds out.old) (K.sink_holds out.new) }
-
-    // With real objects too: no transaction is open, and with which status it was ended.
-    ensures none_open { NoneIsOpenIn (⟦<Session as Told>⟧.seen library.new world.new) }
-    ensures went { let seen = ⟦<Session as Told>⟧.seen in Went (IsEndOfGenerate result)
-        (seen library.old world.old) (seen library.new world.new) }
-    ensures faults { RisesIf (has_write_fault result) (K.sink_faults out.old)
-        (K.sink_faults out.new) }
-
-    // What is modelled before it is modelled after it.
-    ensures sink_tells { K.sink_tells out.new ≡ K.sink_tells out.old }
+    requires idle { IsIdle (⟦<Session as Told>⟧.seen library.old world.old) }
+    ensures { let seen = ⟦<Session as Told>⟧.seen in
+        IsGenerated seed lines result (seen library.old world.old) (seen library.new world.new)
+        (object_of K.sink_tells K.sink_holds K.sink_faults out.old out.new) }
 {
     match find(alloc, library, seed, lines, world) {
         Err(NoMemory) => Err(Stop::NoMemory),
@@ -96,8 +73,7 @@ fn find(
     world: &mut World,
 ) -> Result<Finding, NoMemory>
     requires few { lines ≤ MAX_RANDOM_LINES }
-    requires none_open { NoneIsOpenIn (⟦<Session as Told>⟧.seen library.old world.old) }
-    requires sound { IsSoundIn (⟦<Session as Told>⟧.seen library.old world.old) }
+    requires idle { IsIdle (⟦<Session as Told>⟧.seen library.old world.old) }
     ensures { let seen = ⟦<Session as Told>⟧.seen in
         IsOver (λ setting before. FindsOrStops result (generation setting seed lines before))
         (IsEndOfFinding result) (seen library.old world.old) (seen library.new world.new) }
@@ -115,8 +91,7 @@ fn attempt(
     world: &mut World,
 ) -> Result<Login, Refuse<LoadFault>>
     requires few { lines ≤ MAX_RANDOM_LINES }
-    requires none_open { NoneIsOpenIn (⟦<Session as Told>⟧.seen library.old world.old) }
-    requires sound { IsSoundIn (⟦<Session as Told>⟧.seen library.old world.old) }
+    requires idle { IsIdle (⟦<Session as Told>⟧.seen library.old world.old) }
     ensures { let seen = ⟦<Session as Told>⟧.seen in
         IsOver (λ setting before. ComesTo result (attempted setting seed lines before)
         (AttemptStops setting seed lines before)) (IsEndWith (number_of (end_status result)))

@@ -1,9 +1,7 @@
-ghost use Rattle.std.specs.Prelude.{◌≡◌, ℕ, false, IfOk};
-ghost use Rattle.pam_base.specs.declared.code.Code.{Code as TheCode};
+ghost use Rattle.std.specs.Prelude.{◌≡◌, IfOk};
 ghost use Rattle.pam_base.specs.Code.{number_of};
-ghost use Rattle.cmd_run.specs.pam_library.specs.Slots.{is_open_at, slot_at};
-ghost use Rattle.cmd_run.specs.Seen.{IsSoundIn, NoneIsOpenIn, Went, setting_in, state};
-ghost use Rattle.cmd_generate.specs.Login.{Authenticates, ComesTo, IsEndWith, IsOver, LoginStops, MakesCalls, NoEnd, Starts, Tries, authenticate_call, code_in, end_status, ended, logged_in, refusal_in, start_call, step_of};
+ghost use Rattle.cmd_run.specs.Seen.{IsIdle, IsSoundIn};
+ghost use Rattle.cmd_generate.specs.Login.{Authenticates, ComesTo, EndsWith, IsEndWith, IsOver, LoginStops, MakesCalls, NoEnd, Starts, Tries, authenticate_call, code_in, end_status, logged_in, refusal_in, start_call, step_of};
 
 use cmd_run::pam_library::{Answer, Library, Outcome, Session, Told};
 use cmd_run::pam_room::World;
@@ -28,8 +26,7 @@ pub(crate) fn log_in(
     library: &mut Library,
     world: &mut World,
 ) -> Result<Login, Refuse<LoadFault>>
-    requires none_open { NoneIsOpenIn (⟦<Session as Told>⟧.seen library.old world.old) }
-    requires sound { IsSoundIn (⟦<Session as Told>⟧.seen library.old world.old) }
+    requires { IsIdle (⟦<Session as Told>⟧.seen library.old world.old) }
     ensures { let seen = ⟦<Session as Told>⟧.seen in
         IsOver (λ setting before. ComesTo result (logged_in setting before)
         (LoginStops setting before)) (IsEndWith (number_of (end_status result)))
@@ -149,16 +146,8 @@ fn code_in(answer: &Answer) -> Code
 // Ends the transaction if it is open. It allocates nothing.
 fn end(alloc: Global, library: &mut Library, world: &mut World, status: u32)
     requires sound { IsSoundIn (⟦<Session as Told>⟧.seen library.old world.old) }
-    ensures ended { let seen = ⟦<Session as Told>⟧.seen in (delay : TheCode → ℕ → ℕ) →
-        state (seen library.new world.new) ≡ ended (setting_in (seen library.old world.old) delay)
-        status (state (seen library.old world.old)) }
-    ensures others { let seen = ⟦<Session as Told>⟧.seen in (number : ℕ) → (number ≡ 1 → ⊥) →
-        slot_at (seen library.new world.new).slots number
-        ≡ slot_at (seen library.old world.old).slots number }
-    ensures closed { is_open_at (slot_at (⟦<Session as Told>⟧.seen library.new world.new).slots 1)
-        ≡ false }
-    ensures went { let seen = ⟦<Session as Told>⟧.seen in Went (IsEndWith status)
-        (seen library.old world.old) (seen library.new world.new) }
+    ensures { let seen = ⟦<Session as Told>⟧.seen in
+        EndsWith status (seen library.old world.old) (seen library.new world.new) }
 {
     let step = Step {
         number: NUMBER,

@@ -14,9 +14,9 @@ returns-in_err-set_process g c = record {
       (λ b. (goal.Clock-dyn g (b.vtable, b.value)).clock_holds b.value) (λ b. (goal.Nap-dyn g (b.vtable, b.value)).nap_holds b.value) c.args.world.now in
       login_unbegun _ _ _ c.from_residual.result c.from_residual.ensures.1
       (not_begun _ c.args.seed c.args.lines (state_of _ old) _ (rw c.in_err-set_process.ensures.err refl));
-  none_open = c.requires.none_open;
+  none_open = c.requires.idle.none_open;
   went = went_quietly _ _ _ refl refl c.set_process.ensures.tells (λ number gives. gives) (λ number gives. gives) refl
-      c.set_process.ensures.ledger c.requires.sound;
+      c.set_process.ensures.ledger c.requires.idle.sound;
 }
 
 pub returns-in_err-files : goal.returns-in_err-files
@@ -26,9 +26,9 @@ returns-in_err-files g c = record {
       (λ b. (goal.Clock-dyn g (b.vtable, b.value)).clock_holds b.value) (λ b. (goal.Nap-dyn g (b.vtable, b.value)).nap_holds b.value) c.args.world.now in
       login_unbegun _ _ _ c.from_residual-in_err-files.result c.from_residual-in_err-files.ensures.1
       (not_generated _ c.args.seed c.args.lines (state_of _ old) _ c.in_ok-set_process.ensures.ok);
-  none_open = c.requires.none_open;
+  none_open = c.requires.idle.none_open;
   went = went_quietly _ _ _ refl refl c.set_process.ensures.tells (λ number gives. gives) (λ number gives. gives) refl
-      c.set_process.ensures.ledger c.requires.sound;
+      c.set_process.ensures.ledger c.requires.idle.sound;
 }
 
 pub returns-in-Err : goal.returns-in-Err
@@ -39,9 +39,9 @@ returns-in-Err g c = record {
       not_placed _ c.args.seed c.args.lines (state_of _ old) _ _ _ _ c.in_ok-files.ensures c.in_ok-set_process.ensures.ok c.place_in_world.ensures.rest
       c.in-Err.refuse
       (rw c.deref.ensures.value at (c.in-Err.ensures.told (vault_of _ _ _ _ (both_tell _ _ _ _ refl c.set_process.ensures.tells told))));
-  none_open = c.requires.none_open;
+  none_open = c.requires.idle.none_open;
   went = went_quietly _ _ _ refl refl (c.place_in_world.ensures.tells ∙ c.set_process.ensures.tells) (λ number gives. gives)
-      (λ number gives. gives) refl (rw (c.place_in_world.ensures.process, c.set_process.ensures.ledger) refl) c.requires.sound;
+      (λ number gives. gives) refl (rw (c.place_in_world.ensures.process, c.set_process.ensures.ledger) refl) c.requires.idle.sound;
 }
 
 pub returns : goal.returns
@@ -55,6 +55,6 @@ returns g c = record {
       (c.log_in.ensures.told delay is (both_tell _ _ _ _ refl (c.place_in_world.ensures.tells ∙ c.set_process.ensures.tells) told));
   none_open = c.log_in.ensures.none_open;
   went = went_on _ _ _ _ (went_quietly _ _ _ refl refl (c.place_in_world.ensures.tells ∙ c.set_process.ensures.tells) (λ number gives. gives) (λ number gives. gives)
-      refl (rw (c.place_in_world.ensures.process, c.set_process.ensures.ledger) refl) c.requires.sound)
+      refl (rw (c.place_in_world.ensures.process, c.set_process.ensures.ledger) refl) c.requires.idle.sound)
       c.log_in.ensures.went;
 }

@@ -7,7 +7,7 @@ pub returns : goal.returns
 returns g c = record {
   told = λ delay is told.
       came _ c.attempt-login.result _ _ _ (first_closed _ c.requires.none_open) (c.attempt-login.ensures.told delay is told)
-      (rw (c.attempt-login.ensures.went.players, c.code_number.ensures, c.end_status-status.ensures) at (c.end.ensures.ended delay));
+      (rw (c.attempt-login.ensures.went.players, c.code_number.ensures, c.end_status-status.ensures) at (c.end.ensures.ends delay));
   none_open = none_open _ _ c.requires.none_open (λ number other. c.end.ensures.others number other
       ∙ c.attempt-login.ensures.others number other) c.end.ensures.closed;
   went = went_on _ _ _ _ (went_so _ _ (λ number status none. absurd none) _ _ c.attempt-login.ensures.went)
