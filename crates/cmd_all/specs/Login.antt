@@ -20,9 +20,6 @@ IsLoginStatus n = (result : Result Verdict Stop) × (n ≡ exit_status (login_ex
 abbrev pub at_root : List ℕ → PlainWorld → PlainWorld
 at_root root w = record w { process = record w.process { root = root } }
 
-pub record IsAtRoot (root : List ℕ) (old new : PlainWorld) : Type 0 where
-  pub world_is : new ≡ at_root root old
-
 -- before the first call: sixteen closed slots, the terminal's conversation in the first
 abbrev pub entry : List PlainSlot → List ℕ → PlainWorld → RunState
 entry slots root w = state_of slots (at_root root w)

@@ -37,7 +37,7 @@ pub(crate) fn generate_lines<K: Sink>(
         (notes_of (⟦<Desk as DeskTold>⟧.given desk).players) world.new.process.ledger }
 {
     cmd_run::laws::proceeding_adds_events();
-    match library_of(alloc, desk, &world.process.ledger) {
+    match library_of(alloc, desk, world) {
         Err(NoMemory) => Exit::NoMemory,
         Ok(library) => {
             let mut library = library;

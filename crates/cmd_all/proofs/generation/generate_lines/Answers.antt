@@ -22,7 +22,7 @@ returns-in-Ok-clause-generate g c = record {
   generated = λ number given sink both.
       generated _ _ _ _ _ _ _ number _ _ c.generate-generated.result _ c.in-Ok.ensures.players c.in-Ok.ensures.slots
       (ap exit_status c.generate_exit.ensures)
-      (c.generate-generated.ensures.told number (c.in-Ok.ensures.delay number given)
+      (c.generate-generated.ensures.told number (c.in-Ok.ensures.gives number given)
       (both_true _ _ (c.in-Ok.ensures.tells (both_right _ _ both)) (both_left _ _ both)) sink);
   generate_writes = λ sink. c.generate-generated.ensures.writes sink;
   generate_statuses = (c.generate-generated.result, ap exit_status c.generate_exit.ensures);
@@ -31,6 +31,6 @@ returns-in-Ok-clause-generate g c = record {
 pub returns-in-Ok-clause-cleaned_up : goal.returns-in-Ok-clause-cleaned_up
 returns-in-Ok-clause-cleaned_up g c =
     rw c.in-Ok.ensures.players at
-    (cleaned_up _ _ _ _ _ _ _ (c.proceeding_adds_events.ensures _) c.in-Ok.ensures.first refl
+    (cleaned_up _ _ _ _ _ _ _ (c.proceeding_adds_events.ensures _) c.in-Ok.ensures.none_yet refl
     (proceeds_too _ _ (ends_generate c.generate-generated.result _ (ap exit_status c.generate_exit.ensures)) _ _ _ _ _
     c.generate-generated.ensures.went.proceeds) c.generate-generated.ensures.none_open)
