@@ -2,12 +2,19 @@ ghost use Rattle.session_audit.specs.Sound.{ArePrintable};
 ghost use Rattle.laws_audit.specs.Calls.{LibraryCallsGo};
 ghost use Rattle.laws_audit.specs.Loaded.{AreLoaded, LoadedArePrintable, SetFilesAreOfBytes};
 ghost use Rattle.laws_audit.specs.Run.{RunsFitIf, ScriptsFitIf};
+ghost use Rattle.laws_audit.specs.StackCalls.{AreMadeAsSeen, AreSeenAsMade};
 ghost use Rattle.laws_audit.specs.Step.{StepsFit};
 
 /// A law, stated by its contract: each of the six stack calls of a library does what the call of a
 /// checker of reports does, if its lines return what the modules return.
 pub fn library_calls_go()
     ensures { LibraryCallsGo }
+{}
+
+/// A law, stated by its contract: the call that runs a function with flags is seen as these (`stack_of`), and no other call.
+pub fn stack_calls_are_named()
+    ensures seen { AreSeenAsMade }
+    ensures made { AreMadeAsSeen }
 {}
 
 /// A law, stated by its contract: what a step of a library is reported as fits what is known of its
