@@ -1,7 +1,9 @@
-ghost use Rattle.std.specs.Prelude.{◌≡◌, ◌≢◌, ◌≤◌, ◌↔◌, [], Some, false, true, length, IfOk, Err};
+ghost use Rattle.std.specs.Prelude.{◌≡◌, ◌≢◌, ◌≤◌, ◌<◌, ◌↔◌, [], Some, false, true, length, IfOk, Err};
 ghost use Rattle.std.specs.Str.{IsUtf8};
+ghost use Rattle.pam_outside.specs.declared.vault.TheConstants.{MAX_FILE};
 ghost use Rattle.pam_outside.specs.Counts.{next_count};
-ghost use Rattle.pam_outside.specs.Files.{no_locks};
+ghost use Rattle.pam_outside.specs.Paths.{path_of};
+ghost use Rattle.system_objects.specs.Folder.{files_below};
 
 use crate::beside::Replacement;
 use crate::held_file::{HeldFile, open_file, put_held};
@@ -42,17 +44,17 @@ pub struct FolderVault {
 
 impl Model for FolderVault {
     ghost use Rattle.std.specs.declared.rt.LibcRuntime.{LibcRuntime};
-    ghost use Rattle.system_objects.specs.Adapter.{Adapter};
+    ghost use Rattle.system_objects.specs.Folder.{Folder};
 
-    ghost Value = { Adapter LibcRuntime };
+    ghost Value = { Folder LibcRuntime };
 
-    ghost view = { λ v. record { inner = v.rt; faults = v.faults } };
+    ghost view = { λ v. record { rt = v.rt; root = v.root; faults = v.faults } };
 }
 
 impl FolderVault {
     /// The files of the whole system, found as the system finds them. It hasn't failed yet.
     pub fn new(rt: HostRuntime) -> Self
-        ensures { result ≡ record { inner = rt; faults = 0 } }
+        ensures { result ≡ record { rt = rt; root = []; faults = 0 } }
     {
         FolderVault {
             rt,
@@ -67,7 +69,8 @@ impl FolderVault {
     /// The files below a root directory, whose path their paths begin with; all files if it is `/`. It hasn't failed
     /// yet. Nothing is opened.
     pub fn below(rt: HostRuntime, root: &[u8]) -> Result<Self, NoMemory>
-        ensures { IfOk result (λ vault. vault ≡ record { inner = rt; faults = 0 }) }
+        ensures { IfOk result (λ vault. vault
+            ≡ record { rt = rt; root = path_of root.now []; faults = 0 }) }
     {
         let alloc = rt.alloc();
         Ok(FolderVault {
@@ -84,8 +87,8 @@ impl FolderVault {
 impl Vault for FolderVault {
     ghost vault_tells = { λ v. false };
 
-    // never modelled
-    ghost vault_holds = { λ v. record { files = []; locks = no_locks; calls = 0; fails = [] } };
+    // never modelled: it names the root
+    ghost vault_holds = { λ v. files_below v.root };
 
     ghost vault_faults = { λ v. v.faults };
 
@@ -138,6 +141,7 @@ impl Vault for FolderVault {
             self.new ≡ record self.old { faults = next_count self.old.faults } }
         ensures stays { result ≢ Err ReplaceFault.Failed → self.new ≡ self.old }
         ensures not_text { ¬ (IsUtf8 path.now) → result ≡ Err ReplaceFault.Failed }
+        ensures too_long { MAX_FILE < length bytes.now → result ≡ Err ReplaceFault.Failed }
     {
         let result = self.put_whole(alloc, path, bytes);
         if let Err(ReplaceFault::Failed) = result {
@@ -204,6 +208,7 @@ impl FolderVault {
 
     fn put_whole(&mut self, alloc: Global, path: &[u8], bytes: &[u8]) -> Result<(), ReplaceFault>
         ensures not_text { ¬ (IsUtf8 path.now) → result ≡ Err ReplaceFault.Failed }
+        ensures too_long { MAX_FILE < length bytes.now → result ≡ Err ReplaceFault.Failed }
         ensures stays { self.new ≡ self.old }
     {
         let name = str::from_utf8(path).map_err(|_| ReplaceFault::Failed)?;

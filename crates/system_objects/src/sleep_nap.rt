@@ -1,4 +1,4 @@
-ghost use Rattle.std.specs.Prelude.{false};
+ghost use Rattle.std.specs.Prelude.{◌≡◌, false};
 
 use pam_outside::Nap;
 use std::rt::Clock as SystemClock;
@@ -12,7 +12,10 @@ pub struct SleepNap<R: SystemClock + Drop> {
 }
 
 impl<R: SystemClock + Drop> SleepNap<R> {
-    pub fn new(rt: R) -> Self {
+    /// It sleeps by this clock.
+    pub fn new(rt: R) -> Self
+        ensures { result ≡ record { rt = rt } }
+    {
         SleepNap { rt }
     }
 }
