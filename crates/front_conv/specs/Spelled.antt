@@ -1,5 +1,5 @@
 -- What a conversation holds with a modelled front end, which sends nothing but replies (this project's own).
-use Rattle.std.specs.Prelude.{◌≢◌, ℕ, Bool, true, false, ◌&&◌, if◌then◌else◌, is_some, map, Option, Some, None, Result, Ok, Err, List, [], ◌∷◌, ◌++◌, IsTrue}
+use Rattle.std.specs.Prelude.{◌≢◌, ℕ, Bool, true, false, ◌&&◌, if◌then◌else◌, is_some, map, Option, Some, None, Result, Ok, Err, List, [], ◌∷◌, ◌++◌, codes, IsTrue}
 use Rattle.conv_port.specs.declared.conv.ConvFault.{ConvFault}
 use Rattle.conv_port.specs.declared.message.Reply.{Reply}
 use Rattle.conv_port.specs.declared.offer.Offer.TheVariants.{Answer}
@@ -28,8 +28,13 @@ only_from part [] = true
 only_from part (b ∷ bs) = if is_open (part ++ b ∷ []) then only_from (part ++ b ∷ []) bs
     else is_some (reply_in (step_of (part ++ b ∷ []))) && only_from [] bs
 
+-- The replies of a front end whose bytes aren't known: a text in their place, by which contracts tell such a
+-- conversation from others. It isn't modelled, so nothing follows from the text.
+abbrev pub unknown_texts : List (List ℕ)
+unknown_texts = codes "the replies of the front end" ∷ []
+
 abbrev pub texts_in : Option (List ℕ) → List (List ℕ)
-texts_in None = []
+texts_in None = unknown_texts
 texts_in (Some bytes) = texts_from [] bytes
 
 abbrev pub only_in : Option (List ℕ) → Bool
