@@ -2,7 +2,7 @@ use cmd_all::TimeOfDay;
 use pam_room::conv_port::Conv;
 
 /// How many transactions may be open at a time, each with a conversation.
-pub const TRANSACTIONS: usize = 16;
+pub(crate) const TRANSACTIONS: usize = 16;
 
 /// A conversation for each transaction, one that is never used, and the time of day.
 #[derive(Drop)]

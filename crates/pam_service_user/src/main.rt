@@ -9,35 +9,31 @@
 
 mod asked;
 
-ghost use Rattle.std.specs.Prelude.{◌≡◌, [], false, true, IfOk, codes, length};
+ghost use Rattle.std.specs.Prelude.{◌≡◌, [], false, IfOk, codes};
 ghost use Rattle.cmd_login.specs.cmd_run.specs.pam_handle.specs.Plain.{in_box};
-ghost use Rattle.cmd_all.specs.ByCommand.{object_of};
 ghost use Rattle.cmd_all.specs.Command.{command_of};
 ghost use Rattle.who_calls.specs.Request.{real_user};
 ghost use Rattle.who_calls.specs.Status.{ids_in};
 ghost use Rattle.frame_service.specs.Service.{IsOfFrames, StatusOf};
-ghost use Rattle.frame_service.specs.Serving.{ServesFrames};
+ghost use Rattle.frame_service.specs.Streams.{ServesStreams};
 ghost use Rattle.pam_service_user.specs.Own.{own_command, own_name};
 ghost use Rattle.own_files.specs.Own.{files_for};
 
 use crate::asked::{UserInvocation, asked_of};
 use cmd_all::{Outside, OutsideTold, TimeOfDay};
 use command_line::{NO_STREAMS, exit_status, reserve_streams};
-use frame_service::{
-    Conversations, ConversationsTold, TRANSACTIONS, serve_frames, system_text, words_of,
-};
-use front_conv::{FrontConv, Streams};
+use frame_service::{serve_streams, system_text, words_of};
+use front_conv::Streams;
 use own_files::OwnFiles;
 use pam_base::Text;
-use pam_outside::{Clock, MAX_FILE, Nap, NapSum, Sink, Source, Vault};
-use pam_room::conv_port::{Conv, TermConv, WireConv};
+use pam_outside::{Clock, MAX_FILE, Nap, NapSum, Vault};
 use pam_room::{Process, World};
 use shipped_modules::SystemTime;
 use std::alloc::Global;
-use std::io;
+use std::io::{self, Read, Stdin, Stdout};
 use std::process::ExitCode;
 use std::snapshot::Snapshot;
-use system_objects::{FolderVault, ReaderSource, RealClock, WriterSink};
+use system_objects::{FolderVault, RealClock};
 
 /// The file that has a process's own user and group IDs.
 const STATUS: &str = "/proc/self/status";
@@ -52,8 +48,8 @@ fn main(rt: HostRuntime) -> ExitCode {
     ExitCode::from(exit_status(run(rt)))
 }
 
-// Reads what the system says about the process and its user, makes the streams, the conversation with the front end for
-// transaction 1, and the world, with the user's own files alone, and serves the user.
+// Reads what the system says about the process and its user, makes the world, with the user's own files alone, and
+// serves the user over standard input and output.
 fn run(rt: HostRuntime) -> io::Result<u8> {
     let alloc = rt.alloc();
     let _streams = match reserve_streams(&rt) {
@@ -69,19 +65,10 @@ fn run(rt: HostRuntime) -> io::Result<u8> {
         caller,
         user,
     } = asked_of(alloc, &words, &status, passwd)?;
-    let mut script = ReaderSource::new(rt.reader());
-    let mut out = WriterSink::new(io::writer(&rt));
-    let term: Box<dyn Conv> = Box::new(alloc, TermConv::new(rt.stdin(), rt.stderr()))?;
-    let mut convs: Vec<Box<dyn Conv>> = Vec::new(alloc);
-    for _ in 0..TRANSACTIONS {
-        let conv: Box<dyn Conv> = Box::new(alloc, WireConv::new(alloc))?;
-        convs.push(conv)?;
-    }
     let front = Streams {
         reader: rt.stdin(),
         writer: rt.stdout(),
     };
-    convs[0] = Box::new(alloc, FrontConv::new(alloc, front))?;
     let vault: Box<dyn Vault> = Box::new(alloc, files_of(rt, user))?;
     let clock: Box<dyn Clock> = Box::new(alloc, RealClock::new(rt))?;
     let nap: Box<dyn Nap> = Box::new(alloc, NapSum::new())?;
@@ -92,21 +79,8 @@ fn run(rt: HostRuntime) -> io::Result<u8> {
         process: Process::new(alloc, Text::new(alloc), caller),
     };
     let time: Box<dyn TimeOfDay> = Box::new(alloc, SystemTime::new(rt))?;
-    let talks = Conversations {
-        convs,
-        term,
-        time: Some(time),
-    };
     serve_user(
-        alloc,
-        &words,
-        &status,
-        &accounts,
-        &command,
-        talks,
-        &mut script,
-        &mut out,
-        &mut world,
+        alloc, &words, &status, &accounts, &command, front, time, &mut world,
     )
 }
 
@@ -120,15 +94,14 @@ fn files_of(rt: HostRuntime, user: Text) -> OwnFiles<FolderVault>
 // Serves the calls of a front end for the real user that this text of /proc/self/status gives, over the clock of the
 // system, and its files as `OwnFiles` shows them to the user who has that ID in /etc/passwd: any other store, and the
 // same for another user, is refused.
-fn serve_user<S: Source, K: Sink>(
+fn serve_user(
     alloc: Global,
     words: &[String],
     said: &Text,
     accounts: &Snapshot<Text>,
     command: &[String],
-    talks: Conversations,
-    script: &mut S,
-    out: &mut K,
+    front: Streams<Stdin, Stdout>,
+    time: Box<dyn TimeOfDay>,
     world: &mut World,
 ) -> io::Result<u8>
     requires command { command_of command.now ≡ own_command words.now }
@@ -137,17 +110,13 @@ fn serve_user<S: Source, K: Sink>(
     requires own { vault_holds (in_box world.old.vault)
         ≡ files_for (own_name (ids_in said.now (codes "Uid:")) accounts.now.value) }
     requires clock { clock_tells (in_box world.old.clock) ≡ false }
-    requires time { ⟦<Conversations as ConversationsTold>⟧.has_time talks ≡ true }
     requires frames { IsOfFrames (command_of command.now) }
-    requires sixteen { length talks.convs.items ≡ 16 }
     requires no_births { world.old.process.ledger.births ≡ [] }
     requires no_receipts { world.old.process.ledger.filed ≡ [] }
     ensures status { IfOk result (λ status. StatusOf (own_command words.now) status) }
-    ensures served { IfOk result (λ status. ServesFrames (own_command words.now) status
-        (⟦<Conversations as ConversationsTold>⟧.setup talks)
-        (⟦<Outside as OutsideTold>⟧.around world.old world.new)
-        (object_of S.source_tells S.source_holds S.source_faults script.old script.new)
-        (object_of K.sink_tells K.sink_holds K.sink_faults out.old out.new)) }
+    ensures served { IfOk result (λ status. ServesStreams (own_command words.now) status
+        front.reader (⟦<Stdin as Read>⟧.remaining front.reader) front.writer
+        (time_gives time) (⟦<Outside as OutsideTold>⟧.around world.old world.new)) }
 {
-    serve_frames(alloc, command, talks, script, out, world)
+    serve_streams(alloc, command, front, time, world)
 }
