@@ -59,9 +59,9 @@ class Terminal:
     def type(self, text):
         os.write(self.fd, text.encode())
 
-    def finish(self):
+    def finish(self, patience=PATIENCE):
         """All that is left, and the exit status; a negative number names a signal."""
-        until = time.monotonic() + PATIENCE
+        until = time.monotonic() + patience
         while self.read(until):
             pass
         return os.waitstatus_to_exitcode(os.waitpid(self.pid, 0)[1])
