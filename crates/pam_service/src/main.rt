@@ -23,12 +23,12 @@ use cmd_all::{Outside, OutsideTold, TimeOfDay};
 use command_line::{NO_STREAMS, exit_status, reserve_streams};
 use frame_service::{serve_streams, system_text, words_of};
 use front_conv::Streams;
-use pam_base::{NoMemory, Text};
+use pam_base::Text;
 use pam_outside::{Clock, Nap, NapSum, Vault};
 use pam_room::{Process, World};
 use shipped_modules::SystemTime;
 use std::alloc::Global;
-use std::io::{self, ErrorKind, Read, Stdin, Stdout};
+use std::io::{self, Read, Stdin, Stdout};
 use std::process::ExitCode;
 use system_objects::{FolderVault, RealClock};
 
@@ -57,7 +57,7 @@ fn run(rt: HostRuntime) -> io::Result<u8> {
         reader: rt.stdin(),
         writer: rt.stdout(),
     };
-    let vault: Box<dyn Vault> = Box::new(alloc, folder(rt, asked.root.bytes())?)?;
+    let vault: Box<dyn Vault> = Box::new(alloc, FolderVault::below(rt, asked.root.bytes())?)?;
     let clock: Box<dyn Clock> = Box::new(alloc, RealClock::new(rt))?;
     let nap: Box<dyn Nap> = Box::new(alloc, NapSum::new())?;
     let mut world = World {
@@ -68,16 +68,6 @@ fn run(rt: HostRuntime) -> io::Result<u8> {
     };
     let time: Box<dyn TimeOfDay> = Box::new(alloc, SystemTime::new(rt))?;
     serve_caller(alloc, &words, &status, &asked, front, time, &mut world)
-}
-
-// The files under a root.
-fn folder(rt: HostRuntime, root: &[u8]) -> io::Result<FolderVault>
-    ensures { IfOk result (λ vault. vault.root ≡ path_of root.now []) }
-{
-    match FolderVault::below(rt, root) {
-        Ok(vault) => Ok(vault),
-        Err(NoMemory) => Err(ErrorKind::OutOfMemory.into()),
-    }
 }
 
 // Serves the calls of a front end for the caller that these arguments and this text of

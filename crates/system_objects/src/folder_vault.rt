@@ -67,15 +67,19 @@ impl FolderVault {
     }
 
     /// The files below a root directory, whose path their paths begin with; all files if it is `/`. It hasn't failed
-    /// yet. Nothing is opened.
-    pub fn below(rt: HostRuntime, root: &[u8]) -> Result<Self, NoMemory>
+    /// yet. Nothing is opened. The error is OutOfMemory.
+    pub fn below(rt: HostRuntime, root: &[u8]) -> io::Result<Self>
         ensures { IfOk result (λ vault. vault
             ≡ record { rt = rt; root = path_of root.now []; faults = 0 }) }
     {
         let alloc = rt.alloc();
+        let root = match path_of(alloc, root, b"") {
+            Ok(path) => path,
+            Err(NoMemory) => return Err(ErrorKind::OutOfMemory.into()),
+        };
         Ok(FolderVault {
             rt,
-            root: path_of(alloc, root, b"")?,
+            root,
             faults: 0,
             piece: [0; CHUNK],
             held: Vec::new(alloc),
