@@ -1,4 +1,4 @@
-ghost use Rattle.std.specs.Prelude.{false, [], ◌≤◌, length};
+ghost use Rattle.std.specs.Prelude.{◌≡◌, false, [], ◌≤◌, length};
 ghost use Rattle.pam_base.specs.Counts.{next_count};
 
 use conv_port::{Conv, ConvFault, Messages, Replies, Reply};
@@ -13,7 +13,9 @@ pub struct Card {
 }
 
 impl Card {
-    pub fn new() -> Self {
+    pub fn new() -> Self
+        ensures { result ≡ record { faults = 0 } }
+    {
         Card { faults: 0 }
     }
 }

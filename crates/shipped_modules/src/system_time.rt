@@ -1,4 +1,4 @@
-ghost use Rattle.std.specs.Prelude.{false};
+ghost use Rattle.std.specs.Prelude.{◌≡◌, false};
 
 use cmd_all::TimeOfDay;
 use std::rt::Clock as SystemClock;
@@ -12,7 +12,9 @@ pub struct SystemTime<R: SystemClock + Drop> {
 
 impl<R: SystemClock + Drop> SystemTime<R> {
     /// That of a runtime that `main` gets.
-    pub fn new(rt: R) -> Self {
+    pub fn new(rt: R) -> Self
+        ensures { result ≡ record { rt = rt } }
+    {
         SystemTime { rt }
     }
 }

@@ -2,7 +2,7 @@ use Rattle.std.proofs.Common.{◌≡◌, refl}
 use denote.Param.Object.{read_made}
 use Rattle.pam_room.specs.Module.{Player}
 use Rattle.shipped_modules.specs.Shipped.{shipped_players}
-use Rattle.frame_service.proofs.Boxes.{cons}
+use Rattle.shipped_modules.proofs.Boxes.{cons}
 use Rattle.frame_service.proofs.DelayFunctionFacts.{served_as}
 use Rattle.frame_service.proofs.serve.serve_frames.OwnLists.{own-6, at-6-1, at-6-2, at-6-3, at-6-4, at-6-5, at-6-6, at-6-7, at-6-8, at-6-9}
 use Rattle.frame_service.proofs.serve.serve_frames.OwnLists.{at-6-10, at-6-11, at-6-12, at-6-13, at-6-14, at-6-15}
