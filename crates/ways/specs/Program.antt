@@ -19,6 +19,11 @@ pub record PlainTarget : Type 0 where
   pub root : List ℕ
   pub service : List ℕ
 
+-- the directory that files are under, which is the first argument
+abbrev pub root_of : List (String Global) → List ℕ
+root_of [] = codes "/"
+root_of (root ∷ words) = string_bytes root
+
 -- ROOT SERVICE
 abbrev pub asked_of : List (String Global) → Option PlainTarget
 asked_of (root ∷ service ∷ []) =
