@@ -1,4 +1,5 @@
-ghost use Rattle.std.specs.Prelude.{◌≡◌, ◌≢◌, ◌≤◌, ◌<◌, ◌↔◌, [], Some, false, true, length, IfOk, Err};
+ghost use Rattle.std.specs.Prelude.{◌≡◌, ◌≢◌, ◌≤◌, ◌<◌, ◌↔◌, [], Some, false, true};
+ghost use Rattle.std.specs.Prelude.{is_some, length, IfOk, Err};
 ghost use Rattle.std.specs.Str.{IsUtf8};
 ghost use Rattle.pam_outside.specs.declared.vault.TheConstants.{MAX_FILE};
 ghost use Rattle.pam_outside.specs.Counts.{next_count};
@@ -43,18 +44,24 @@ pub struct FolderVault {
 }
 
 impl Model for FolderVault {
+    ghost use Rattle.std.specs.Prelude.{is_some};
     ghost use Rattle.std.specs.declared.rt.LibcRuntime.{LibcRuntime};
     ghost use Rattle.system_objects.specs.Folder.{Folder};
 
     ghost Value = { Folder LibcRuntime };
 
-    ghost view = { λ v. record { rt = v.rt; root = v.root; faults = v.faults } };
+    ghost view = { λ v. record {
+      rt = v.rt;
+      root = v.root;
+      faults = v.faults;
+      locked = is_some v.lock;
+    } };
 }
 
 impl FolderVault {
     /// The files of the whole system, found as the system finds them. It hasn't failed yet.
     pub fn new(rt: HostRuntime) -> Self
-        ensures { result ≡ record { rt = rt; root = []; faults = 0 } }
+        ensures { result ≡ record { rt = rt; root = []; faults = 0; locked = false } }
     {
         FolderVault {
             rt,
@@ -70,7 +77,7 @@ impl FolderVault {
     /// yet. Nothing is opened. The error is OutOfMemory.
     pub fn below(rt: HostRuntime, root: &[u8]) -> io::Result<Self>
         ensures { IfOk result (λ vault. vault
-            ≡ record { rt = rt; root = path_of root.now []; faults = 0 }) }
+            ≡ record { rt = rt; root = path_of root.now []; faults = 0; locked = false }) }
     {
         let alloc = rt.alloc();
         let root = match path_of(alloc, root, b"") {
@@ -161,8 +168,12 @@ impl Vault for FolderVault {
         ensures held { IfOk result (λ held. held ≡ true) }
         ensures faults { self.old.faults ≤ self.new.faults }
         ensures fault { result ≡ Err ReplaceFault.Failed →
-            self.new ≡ record self.old { faults = next_count self.old.faults } }
-        ensures stays { result ≢ Err ReplaceFault.Failed → self.new ≡ self.old }
+            self.new ≡ record self.old {
+              faults = next_count self.old.faults;
+              locked = self.new.locked;
+            } }
+        ensures stays { result ≢ Err ReplaceFault.Failed →
+            self.new ≡ record self.old { locked = self.new.locked } }
         ensures not_text { ¬ (IsUtf8 path.now) → result ≡ Err ReplaceFault.Failed }
     {
         let result = self.take_lock(alloc, path, kind);
@@ -174,9 +185,9 @@ impl Vault for FolderVault {
 
     /// Closes the file that is locked. A record lock that isn't let go here ends with the next `hold`, and with the store.
     fn let_go(&mut self, _held: FileLock)
-        ensures stays { self.new ≡ self.old }
+        ensures { self.new ≡ record self.old { locked = false } }
     {
-        self.lock = None;
+        drop(self.lock.take());
     }
 }
 
@@ -243,7 +254,7 @@ impl FolderVault {
     ) -> Result<FileLock, ReplaceFault>
         ensures held { IfOk result (λ held. held ≡ true) }
         ensures not_text { ¬ (IsUtf8 path.now) → result ≡ Err ReplaceFault.Failed }
-        ensures stays { self.new ≡ self.old }
+        ensures stays { self.new ≡ record self.old { locked = self.new.locked } }
     {
         let name = str::from_utf8(path).map_err(|_| ReplaceFault::Failed)?;
         self.lock_named(alloc, name, kind)
@@ -256,7 +267,7 @@ impl FolderVault {
         kind: LockKind,
     ) -> Result<FileLock, ReplaceFault>
         ensures held { IfOk result (λ held. held ≡ true) }
-        ensures stays { self.new ≡ self.old }
+        ensures stays { self.new ≡ record self.old { locked = self.new.locked } }
     {
         self.lock = None;
         let root = self.root.bytes();
@@ -284,7 +295,9 @@ fn note_read(
     alloc: Global,
     path: &[u8],
     found: Option<&Metadata>,
-) -> Result<(), VaultFault> {
+) -> Result<(), VaultFault>
+    ensures { is_some lock.new ≡ is_some lock.old }
+{
     match lock {
         Some(lock) => Ok(lock.note_read(alloc, path, found)?),
         None => Ok(()),
