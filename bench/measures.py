@@ -35,8 +35,9 @@ NINE = (
 ).split()
 CALLS = ("Authenticate", "SetCred", "AcctMgmt", "OpenSession", "CloseSession", "ChAuthTok")
 WAY = (
-    "main run run_words run_modules run_world pamsess run_under run_stream serve_items serve_next serve apply_line "
-    "apply step call_open call passes pass dispatch walk next_answer serve_line serve_by play"
+    "main run run_words run_in_time run_over_files run_talks run_desk pamsess run_under run_stream serve_items "
+    "serve_next serve apply_line apply step call_open call passes pass dispatch walk next_answer serve_line "
+    "serve_by play"
 ).split()
 IMPORT = re.compile(r"\s*(use |ghost use |pub use |--|//)")
 CODE = re.compile(r"\s*(pub(\([a-z]+\))? )?((const|unsafe|async) )*fn (\w+)")
