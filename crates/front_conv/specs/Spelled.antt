@@ -1,5 +1,6 @@
 -- What a conversation holds with a modelled front end, which sends nothing but replies (this project's own).
-use Rattle.std.specs.Prelude.{◌≢◌, ℕ, Bool, true, false, ◌&&◌, if◌then◌else◌, is_some, map, Option, Some, None, Result, Ok, Err, List, [], ◌∷◌, ◌++◌, codes, IsTrue}
+use Rattle.std.specs.Prelude.{◌≢◌, ℕ, Bool, true, false, ◌&&◌, if◌then◌else◌, is_some, map, Option}
+use Rattle.std.specs.Prelude.{Some, None, Result, Ok, Err, List, [], ◌∷◌, ◌++◌, codes, IsTrue}
 use Rattle.conv_port.specs.declared.conv.ConvFault.{ConvFault}
 use Rattle.conv_port.specs.declared.message.Reply.{Reply}
 use Rattle.conv_port.specs.declared.offer.Offer.TheVariants.{Answer}

@@ -26,33 +26,33 @@ run_desk-requires-clause-players g c =
       c.in_Continue-shipped_modules-shipped_modules-2.ensures.items,
       c.shipped_modules-new.ensures.items,
     )
-    (cons _ _ _ _ (read_made own-6 _ at-6-1 refl Player (λ j w. record { name = j.1.label w; plays = j.1.plays w; note = j.1.note w; breaks = j.1.breaks w }) _
-    _ _ c.shipped_modules-into_dyn_box.ensures.1)
-    (cons _ _ _ _ (read_made own-6 _ at-6-2 refl Player (λ j w. record { name = j.1.label w; plays = j.1.plays w; note = j.1.note w; breaks = j.1.breaks w }) _
-    _ _ c.shipped_modules-into_dyn_box-2.ensures.1)
-    (cons _ _ _ _ (read_made own-6 _ at-6-3 refl Player (λ j w. record { name = j.1.label w; plays = j.1.plays w; note = j.1.note w; breaks = j.1.breaks w }) _
-    _ _ c.shipped_modules-into_dyn_box-3.ensures.1)
-    (cons _ _ _ _ (read_made own-6 _ at-6-4 refl Player (λ j w. record { name = j.1.label w; plays = j.1.plays w; note = j.1.note w; breaks = j.1.breaks w }) _
-    _ _ c.shipped_modules-into_dyn_box-4.ensures.1)
-    (cons _ _ _ _ (read_made own-6 _ at-6-5 refl Player (λ j w. record { name = j.1.label w; plays = j.1.plays w; note = j.1.note w; breaks = j.1.breaks w }) _
-    _ _ c.shipped_modules-into_dyn_box-5.ensures.1)
-    (cons _ _ _ _ (read_made own-6 _ at-6-6 refl Player (λ j w. record { name = j.1.label w; plays = j.1.plays w; note = j.1.note w; breaks = j.1.breaks w }) _
-    _ _ c.shipped_modules-into_dyn_box-6.ensures.1)
-    (cons _ _ _ _ (read_made own-6 _ at-6-7 refl Player (λ j w. record { name = j.1.label w; plays = j.1.plays w; note = j.1.note w; breaks = j.1.breaks w }) _
-    _ _ c.shipped_modules-into_dyn_box-7.ensures.1)
-    (cons _ _ _ _ (read_made own-6 _ at-6-8 refl Player (λ j w. record { name = j.1.label w; plays = j.1.plays w; note = j.1.note w; breaks = j.1.breaks w }) _
-    _ _ c.shipped_modules-into_dyn_box-8.ensures.1)
-    (cons _ _ _ _ (read_made own-6 _ at-6-9 refl Player (λ j w. record { name = j.1.label w; plays = j.1.plays w; note = j.1.note w; breaks = j.1.breaks w }) _
-    _ _ c.shipped_modules-into_dyn_box-9.ensures.1)
-    (cons _ _ _ _ (read_made own-6 _ at-6-10 refl Player (λ j w. record { name = j.1.label w; plays = j.1.plays w; note = j.1.note w; breaks = j.1.breaks w }) _
-    _ _ c.shipped_modules-into_dyn_box-10.ensures.1)
-    (cons _ _ _ _ (read_made own-6 _ at-6-11 refl Player (λ j w. record { name = j.1.label w; plays = j.1.plays w; note = j.1.note w; breaks = j.1.breaks w }) _
-    _ _ c.shipped_modules-into_dyn_box-11.ensures.1)
-    (cons _ _ _ _ (read_made own-6 _ at-6-12 refl Player (λ j w. record { name = j.1.label w; plays = j.1.plays w; note = j.1.note w; breaks = j.1.breaks w }) _
-    _ _ c.shipped_modules-into_dyn_box-12.ensures.1)
-    (cons _ _ _ _ (read_made own-6 _ at-6-13 refl Player (λ j w. record { name = j.1.label w; plays = j.1.plays w; note = j.1.note w; breaks = j.1.breaks w }) _
-    _ _ c.shipped_modules-into_dyn_box-13.ensures.1)
-    (cons _ _ _ _ (read_made own-6 _ at-6-14 refl Player (λ j w. record { name = j.1.label w; plays = j.1.plays w; note = j.1.note w; breaks = j.1.breaks w }) _
-    _ _ c.shipped_modules-into_dyn_box-14.ensures.1)
-    (cons _ _ _ _ (read_made own-6 _ at-6-15 refl Player (λ j w. record { name = j.1.label w; plays = j.1.plays w; note = j.1.note w; breaks = j.1.breaks w }) _
-    _ _ c.shipped_modules-into_dyn_box-15.ensures.1) refl)))))))))))))))
+    (cons _ _ _ _ (read_made own-6 _ at-6-1 refl Player (λ j w. record { name = j.1.label w; plays = j.1.plays w; note = j.1.note w; breaks = j.1.breaks w })
+    _ _ _ c.shipped_modules-into_dyn_box.ensures.1)
+    (cons _ _ _ _ (read_made own-6 _ at-6-2 refl Player (λ j w. record { name = j.1.label w; plays = j.1.plays w; note = j.1.note w; breaks = j.1.breaks w })
+    _ _ _ c.shipped_modules-into_dyn_box-2.ensures.1)
+    (cons _ _ _ _ (read_made own-6 _ at-6-3 refl Player (λ j w. record { name = j.1.label w; plays = j.1.plays w; note = j.1.note w; breaks = j.1.breaks w })
+    _ _ _ c.shipped_modules-into_dyn_box-3.ensures.1)
+    (cons _ _ _ _ (read_made own-6 _ at-6-4 refl Player (λ j w. record { name = j.1.label w; plays = j.1.plays w; note = j.1.note w; breaks = j.1.breaks w })
+    _ _ _ c.shipped_modules-into_dyn_box-4.ensures.1)
+    (cons _ _ _ _ (read_made own-6 _ at-6-5 refl Player (λ j w. record { name = j.1.label w; plays = j.1.plays w; note = j.1.note w; breaks = j.1.breaks w })
+    _ _ _ c.shipped_modules-into_dyn_box-5.ensures.1)
+    (cons _ _ _ _ (read_made own-6 _ at-6-6 refl Player (λ j w. record { name = j.1.label w; plays = j.1.plays w; note = j.1.note w; breaks = j.1.breaks w })
+    _ _ _ c.shipped_modules-into_dyn_box-6.ensures.1)
+    (cons _ _ _ _ (read_made own-6 _ at-6-7 refl Player (λ j w. record { name = j.1.label w; plays = j.1.plays w; note = j.1.note w; breaks = j.1.breaks w })
+    _ _ _ c.shipped_modules-into_dyn_box-7.ensures.1)
+    (cons _ _ _ _ (read_made own-6 _ at-6-8 refl Player (λ j w. record { name = j.1.label w; plays = j.1.plays w; note = j.1.note w; breaks = j.1.breaks w })
+    _ _ _ c.shipped_modules-into_dyn_box-8.ensures.1)
+    (cons _ _ _ _ (read_made own-6 _ at-6-9 refl Player (λ j w. record { name = j.1.label w; plays = j.1.plays w; note = j.1.note w; breaks = j.1.breaks w })
+    _ _ _ c.shipped_modules-into_dyn_box-9.ensures.1)
+    (cons _ _ _ _ (read_made own-6 _ at-6-10 refl Player (λ j w. record { name = j.1.label w; plays = j.1.plays w; note = j.1.note w; breaks = j.1.breaks w })
+    _ _ _ c.shipped_modules-into_dyn_box-10.ensures.1)
+    (cons _ _ _ _ (read_made own-6 _ at-6-11 refl Player (λ j w. record { name = j.1.label w; plays = j.1.plays w; note = j.1.note w; breaks = j.1.breaks w })
+    _ _ _ c.shipped_modules-into_dyn_box-11.ensures.1)
+    (cons _ _ _ _ (read_made own-6 _ at-6-12 refl Player (λ j w. record { name = j.1.label w; plays = j.1.plays w; note = j.1.note w; breaks = j.1.breaks w })
+    _ _ _ c.shipped_modules-into_dyn_box-12.ensures.1)
+    (cons _ _ _ _ (read_made own-6 _ at-6-13 refl Player (λ j w. record { name = j.1.label w; plays = j.1.plays w; note = j.1.note w; breaks = j.1.breaks w })
+    _ _ _ c.shipped_modules-into_dyn_box-13.ensures.1)
+    (cons _ _ _ _ (read_made own-6 _ at-6-14 refl Player (λ j w. record { name = j.1.label w; plays = j.1.plays w; note = j.1.note w; breaks = j.1.breaks w })
+    _ _ _ c.shipped_modules-into_dyn_box-14.ensures.1)
+    (cons _ _ _ _ (read_made own-6 _ at-6-15 refl Player (λ j w. record { name = j.1.label w; plays = j.1.plays w; note = j.1.note w; breaks = j.1.breaks w })
+    _ _ _ c.shipped_modules-into_dyn_box-15.ensures.1) refl)))))))))))))))

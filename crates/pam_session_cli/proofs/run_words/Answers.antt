@@ -7,7 +7,8 @@ use Rattle.pam_session_cli.proofs.run_words.OwnLists.{own-1, at-1-1, own-2, at-2
 use Rattle.pam_session_cli.proofs.run_words.Goals as goal
 
 -- the system's time, of which nothing is known
-real_time : (kind : Time) (clock nap : Bool) → Real ≡ kind → clock ≡ is_fixed Real → nap ≡ is_fixed Real → IsTime kind clock nap (not (is_fixed Real))
+real_time : (kind : Time) (clock nap : Bool) → Real ≡ kind → clock ≡ is_fixed Real → nap ≡ is_fixed Real
+    → IsTime kind clock nap (not (is_fixed Real))
 real_time kind clock nap is fixed summed = record {
   fixed = fixed ∙ ap is_fixed is;
   summed = summed ∙ ap is_fixed is;
